@@ -1,0 +1,1 @@
+// Erased parts and default descriptors: see specs/. Its code is yet to come.

@@ -1,0 +1,1 @@
+// Examples of the definitions, computed by the checker: see proofs/. No code.

@@ -1,0 +1,4 @@
+pub mod Choices
+pub mod Results
+pub mod Digits
+pub mod Texts

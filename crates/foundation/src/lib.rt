@@ -1,0 +1,1 @@
+// Definitions and laws that every other crate shares: see specs/ and proofs/. No code.

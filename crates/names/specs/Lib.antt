@@ -1,0 +1,3 @@
+pub mod Characters
+pub mod Records
+pub mod Names

@@ -1,0 +1,6 @@
+pub mod Fields
+pub mod Declarations
+pub mod Reading
+pub mod Types
+pub mod Members
+pub mod Rows

@@ -1,0 +1,1 @@
+// Types, parameters, constructors, functions and properties: see specs/. Its code is yet to come.

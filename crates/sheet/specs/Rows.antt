@@ -1,0 +1,84 @@
+-- The sheet's records as rows of cells, and their bytes (document 01, "The sheet").
+-- Assumes nothing.
+use mathlib.Core.Bool.{Bool, true, false}
+use mathlib.Core.List.{List, [], _∷_, _++_, map}
+use mathlib.Core.Option.{Option, none, some}
+use Prim.Native.Nat.{ℕ, _+_, _-_, _^_}
+use lib.ListN.{length, getElem?}
+use Rattle.foundation.specs.Choices.{concat}
+use Rattle.foundation.specs.Digits.{little}
+
+-- A cell is a number of a width in bytes, or a ref to a text, here the text itself in UTF-8.
+pub data Cell : Type 0 where
+  num : ℕ → ℕ → Cell
+  ref : Option (List ℕ) → Cell
+
+-- A record: one byte of kind, then a body.
+pub record Row : Type 0 where
+  pub kind : ℕ
+  pub body : List Cell
+
+abbrev pub row : ℕ → List Cell → Row
+row k cs = record { kind = k; body = cs }
+
+-- 0/1
+abbrev pub bit : Bool → Cell
+bit false = num 1 0
+bit true = num 1 1
+
+-- What the table of document 01 puts into a cell.
+pub data Form : Type 0 where
+  wide : ℕ → Form  -- a number of that width
+  text : Form  -- a ref
+
+-- document 01's table, kinds 0 to 7
+abbrev pub recordTable : List (List Form)
+recordTable =
+    []  -- no record has kind 0
+    -- 1 head: metadata kind, class name, flags, counts of constructors, functions, properties
+    ∷ (wide 1 ∷ text ∷ wide 8 ∷ wide 2 ∷ wide 2 ∷ wide 2 ∷ [])
+    -- 2 constructor: flags, signature name, descriptor, parameter count
+    ∷ (wide 8 ∷ text ∷ text ∷ wide 2 ∷ [])
+    -- 3 function: name, flags, signature name, descriptor, receiver, parameter count
+    ∷ (text ∷ wide 8 ∷ text ∷ text ∷ wide 1 ∷ wide 2 ∷ [])
+    -- 4 property: name, flags, receiver, getter default, setter default; field, getter, setter as name and descriptor
+    ∷ (text ∷ wide 8 ∷ wide 1 ∷ wide 1 ∷ wide 1 ∷ text ∷ text ∷ text ∷ text ∷ text ∷ text ∷ [])
+    -- 5 parameter: name, default
+    ∷ (text ∷ wide 1 ∷ [])
+    -- 6 type: role, nullable, name, argument count
+    ∷ (wide 1 ∷ wide 1 ∷ text ∷ wide 2 ∷ [])
+    -- 7 default descriptor
+    ∷ (text ∷ [])
+    ∷ []
+
+-- a ref's bytes: offset and length in the text area, or FFFFFFFF hex
+abbrev pub refBytes : ℕ → Option (List ℕ) → List ℕ
+refBytes o none = little 4 (2 ^ 32 - 1)
+refBytes o (some t) = little 2 o ++ little 2 (length t)
+
+-- a cell's bytes, o bytes of text standing before it
+abbrev pub cellBytes : ℕ → Cell → List ℕ
+cellBytes o (num w n) = little w n
+cellBytes o (ref t) = refBytes o t
+
+abbrev pub cellText : Cell → List ℕ
+cellText (num w n) = []
+cellText (ref none) = []
+cellText (ref (some t)) = t
+
+-- texts are appended in the order of their refs
+unfoldable pub bodyText : List Cell → List ℕ
+bodyText [] = []
+bodyText (c ∷ cs) = cellText c ++ bodyText cs
+
+unfoldable pub bodyBytes : ℕ → List Cell → List ℕ
+bodyBytes o [] = []
+bodyBytes o (c ∷ cs) = cellBytes o c ++ bodyBytes (o + length (cellText c)) cs
+
+unfoldable pub texts : List Row → List ℕ
+texts [] = []
+texts (r ∷ rs) = bodyText (r .body) ++ texts rs
+
+unfoldable pub sheetFrom : ℕ → List Row → List ℕ
+sheetFrom o [] = []
+sheetFrom o (r ∷ rs) = r .kind ∷ (bodyBytes o (r .body) ++ sheetFrom (o + length (bodyText (r .body))) rs)

@@ -1,0 +1,1 @@
+// Varints, fields and messages: see specs/. Its code is yet to come.
