@@ -1,0 +1,4 @@
+pub mod ChoiceLaws
+pub mod ResultLaws
+pub mod DigitLaws
+pub mod OverlayLaws
