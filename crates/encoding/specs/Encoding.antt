@@ -9,14 +9,22 @@ use Rattle.foundation.specs.Choices.{if_then_else_, ifSome}
 use Rattle.foundation.specs.Results.{Res, ok, refused, emptyPayload, notAByte}
 use Rattle.foundation.specs.Digits.{number, digits}
 
+-- how many units d1 may have, and d2
+abbrev pub unitLimit : ℕ
+unitLimit = 32768
+
 -- the first unit of the form whose other units are the bytes
 abbrev pub byteStringMarker : ℕ
 byteStringMarker = 0
 
+-- what a unit of the old form carries
+abbrev pub lowSeven : ℕ → ℕ
+lowSeven u = u % 128
+
 -- The old form: the low 7 bits of each unit strung together, lowest first; n units give 7n/8 bytes, left-over bits are dropped.
 -- Departure: Kotlin's BitEncoding shifts each unit by one first; the reader, like the Rust, doesn't.
 unfoldable pub unpacked : List ℕ → List ℕ
-unpacked us = digits 256 (7 * length us / 8) (number 128 (map (λ u. u % 128) us))
+unpacked us = digits 256 (7 * length us / 8) (number 128 (map lowSeven us))
 
 -- the first, in order, of the units above 255
 unfoldable pub firstAbove255 : List ℕ → Option ℕ

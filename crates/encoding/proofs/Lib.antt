@@ -1,0 +1,3 @@
+pub mod EncodingLaws
+pub mod UnpackLaws
+pub mod OutcomeLaws
