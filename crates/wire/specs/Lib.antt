@@ -1,2 +1,6 @@
 pub mod Wire
 pub mod Messages
+pub mod Told
+pub mod Asked
+pub mod Repeated
+pub mod Notes

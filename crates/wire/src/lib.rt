@@ -1,1 +1,329 @@
-// Varints, fields and messages: see specs/. Its code is yet to come.
+// The wire format: varints, fields and messages in a slice `s` whose first byte has the offset `base` among the decoded bytes.
+// A place in it is `at`. The definitions: specs/Wire.antt, specs/Messages.antt; how the answers tell them: specs/Told.antt.
+ghost use mathlib.Core.Path.{_≡_};
+ghost use mathlib.Core.List.{List};
+ghost use Prim.Native.Nat.{ℕ, _+_, _^_, _≤_, _<_};
+ghost use lib.ListN.{length, take, drop};
+ghost use Rattle.foundation.specs.Results.{Res, Part, Got, got, mapGot};
+ghost use Rattle.foundation.specs.Digits.{number};
+ghost use Rattle.wire.specs.Wire.{groupsFrom, readVarint, readFixed, readDelimited, readValue, readField, varint, body};
+ghost use Rattle.wire.specs.Told.{restOf, varintTold, joinedTo, DelimitedTold, ValueTold, FieldTold};
+
+pub mod message; // message.rt: messages, cut and asked for their fields
+pub mod repeated; // repeated.rt: repeated numbers, single and packed
+pub mod notes; // notes.rt: the first occurrences of many fields by one walk
+
+// Why a part is refused, with the offset among the decoded bytes that is told.
+pub enum WireError {
+    VarintCutShort { place: usize },
+    OversizedVarint { place: usize },
+    PastItsMessage { place: usize },
+    FieldTooLarge { place: usize },
+    WireType { kind: u8, place: usize },
+}
+
+pub enum Varint {
+    Read { value: u64, next: usize },
+    Refused { error: WireError },
+}
+
+fn wide(byte: u8) -> u64
+    ensures { λ r. ⌜ r ≡ byte ⌝ }
+{
+    byte as u64
+}
+
+// A varint's tenth byte, at `at`: only its lowest bit counts. The byte after it, if it goes on, makes the varint oversized.
+fn tenth_at(s: &[u8], base: u32, place: usize, at: usize, value: u64) -> Varint
+    requires { ⌜ (value < 2 ^ 63) × (at ≤ length (now s)) ⌝ }
+    ensures { λ r. ⌜ joinedTo value (2 ^ 63) (groupsFrom place 1 (base + at) (drop at (now (s .entry)))) ≡ varintTold base (now (s .entry)) r ⌝ }
+{
+    if s.len() <= at {
+        return Varint::Refused {
+            error: WireError::VarintCutShort { place },
+        };
+    }
+    let byte = wide(s[at]);
+    let next = at + 1;
+    if byte < 128 {
+        let bit = byte % 2;
+        return Varint::Read {
+            value: value + bit * 9223372036854775808,
+            next,
+        };
+    }
+    if s.len() <= next {
+        return Varint::Refused {
+            error: WireError::VarintCutShort { place },
+        };
+    }
+    Varint::Refused {
+        error: WireError::OversizedVarint { place },
+    }
+}
+
+// `value` is what the bytes before `i` give, `scale` what the next group counts, `left` how many bytes are allowed after its byte.
+fn long_varint_at(s: &[u8], base: u32, at: usize) -> Varint
+    requires { ⌜ at ≤ length (now s) ⌝ }
+    ensures { λ r. ⌜ readVarint (restOf base (now (s .entry)) at) ≡ varintTold base (now (s .entry)) r ⌝ }
+{
+    let place = base as usize + at;
+    let mut value: u64 = 0;
+    let mut scale: u64 = 1;
+    let mut left: usize = 9;
+    let mut i = at;
+    while 0 < left {
+        if s.len() <= i {
+            return Varint::Refused {
+                error: WireError::VarintCutShort { place },
+            };
+        }
+        let byte = wide(s[i]);
+        let group = byte % 128;
+        value += group * scale;
+        i += 1;
+        if byte < 128 {
+            return Varint::Read { value, next: i };
+        }
+        scale *= 128;
+        left -= 1;
+    }
+    tenth_at(s, base, place, i, value)
+}
+
+// The varint at a place. Most have one byte.
+pub fn varint_at(s: &[u8], base: u32, at: usize) -> Varint
+    ensures { λ r. ⌜ (at ≤ length (now (s .entry)) → readVarint (restOf base (now (s .entry)) at) ≡ varintTold base (now (s .entry)) r) ⌝ }
+{
+    if s.len() <= at {
+        return Varint::Refused {
+            error: WireError::VarintCutShort {
+                place: base as usize + s.len(),
+            },
+        };
+    }
+    let byte = wide(s[at]);
+    if byte < 128 {
+        return Varint::Read {
+            value: byte,
+            next: at + 1,
+        };
+    }
+    long_varint_at(s, base, at)
+}
+
+// A number of `width` bytes, the lowest first.
+fn fixed_number(s: &[u8], at: usize, width: usize) -> u64
+    requires { ⌜ (width ≤ 8) × (at + width ≤ length (now s)) ⌝ }
+    ensures { λ r. ⌜ r ≡ number 256 (take width (drop at (now (s .entry)))) ⌝ }
+{
+    let mut value: u64 = 0;
+    let mut left = width;
+    while 0 < left {
+        left -= 1;
+        value = value * 256 + wide(s[at + left]);
+    }
+    value
+}
+
+pub enum WireValue {
+    Varint { value: u64 },
+    Fixed { width: usize, number: u64 },
+    // The bytes of a length-delimited value: `&s[start..end]`.
+    Body { start: usize, end: usize },
+}
+
+enum ValueStep {
+    Value { value: WireValue, next: usize },
+    Refused { error: WireError },
+}
+
+fn fixed_at(s: &[u8], base: u32, at: usize, width: usize) -> ValueStep
+    requires { ⌜ (width ≤ 8) × (at ≤ length (now s)) ⌝ }
+    ensures { λ r. ⌜ ValueTold base (now (s .entry)) (readFixed width (restOf base (now (s .entry)) at)) r ⌝ }
+{
+    if s.len() - at < width {
+        return ValueStep::Refused {
+            error: WireError::PastItsMessage {
+                place: base as usize + at,
+            },
+        };
+    }
+    let number = fixed_number(s, at, width);
+    ValueStep::Value {
+        value: WireValue::Fixed { width, number },
+        next: at + width,
+    }
+}
+
+pub enum Delimited {
+    Body { start: usize, end: usize },
+    Refused { error: WireError },
+}
+
+impl Varint {
+    // Why it is refused, of one that is.
+    pub fn error(self) -> WireError
+        ensures { λ r. ⌜ ((e : WireError) → self ≡ Varint.Refused e → r ≡ e) ⌝ }
+    {
+        match self {
+            Varint::Read { value: _, next } => WireError::VarintCutShort { place: next },
+            Varint::Refused { error } => error,
+        }
+    }
+}
+
+// A length as a varint and that many bytes.
+pub fn delimited_at(s: &[u8], base: u32, at: usize) -> Delimited
+    ensures { λ r. ⌜ (at ≤ length (now (s .entry)) → DelimitedTold base (now (s .entry)) (readDelimited (restOf base (now (s .entry)) at)) r) ⌝ }
+{
+    if s.len() <= at {
+        return Delimited::Refused {
+            error: WireError::VarintCutShort {
+                place: base as usize + s.len(),
+            },
+        };
+    }
+    let size = varint_at(s, base, at);
+    let Varint::Read { value, next } = size else {
+        return Delimited::Refused {
+            error: size.error(),
+        };
+    };
+    let left = (s.len() - next) as u64;
+    if left < value {
+        return Delimited::Refused {
+            error: WireError::PastItsMessage {
+                place: base as usize + at,
+            },
+        };
+    }
+    Delimited::Body {
+        start: next,
+        end: next + value as usize,
+    }
+}
+
+fn varint_value(read: Varint) -> ValueStep
+    ensures { λ r. ⌜ ((base : ℕ) (s : List ℕ) (p : Res (Got ℕ)) → p ≡ varintTold base s read → ValueTold base s (mapGot varint p) r) ⌝ }
+{
+    match read {
+        Varint::Read { value, next } => ValueStep::Value {
+            value: WireValue::Varint { value },
+            next,
+        },
+        Varint::Refused { error } => ValueStep::Refused { error },
+    }
+}
+
+fn body_value(read: Delimited) -> ValueStep
+    ensures { λ r. ⌜ ((base : ℕ) (s : List ℕ) (p : Res (Got Part)) → DelimitedTold base s p read → ValueTold base s (mapGot body p) r) ⌝ }
+{
+    match read {
+        Delimited::Body { start, end } => ValueStep::Value {
+            value: WireValue::Body { start, end },
+            next: end,
+        },
+        Delimited::Refused { error } => ValueStep::Refused { error },
+    }
+}
+
+// The value after a tag at the offset `place`, by its wire type.
+fn value_at(s: &[u8], base: u32, place: usize, kind: u8, at: usize) -> ValueStep
+    requires { ⌜ at ≤ length (now s) ⌝ }
+    ensures { λ r. ⌜ ValueTold base (now (s .entry)) (readValue place kind (restOf base (now (s .entry)) at)) r ⌝ }
+{
+    match kind {
+        0 => varint_value(varint_at(s, base, at)),
+        1 => fixed_at(s, base, at, 8),
+        2 => body_value(delimited_at(s, base, at)),
+        5 => fixed_at(s, base, at, 4),
+        _ => ValueStep::Refused {
+            error: WireError::WireType { kind, place },
+        },
+    }
+}
+
+pub enum FieldStep {
+    Field {
+        number: u32,
+        value: WireValue,
+        next: usize,
+    },
+    Refused {
+        error: WireError,
+    },
+}
+
+impl ValueStep {
+    fn error(self) -> WireError
+        ensures { λ r. ⌜ ((e : WireError) → self ≡ ValueStep.Refused e → r ≡ e) ⌝ }
+    {
+        match self {
+            ValueStep::Value { value: _, next } => WireError::VarintCutShort { place: next },
+            ValueStep::Refused { error } => error,
+        }
+    }
+}
+
+impl FieldStep {
+    pub fn error(self) -> WireError
+        ensures { λ r. ⌜ ((e : WireError) → self ≡ FieldStep.Refused e → r ≡ e) ⌝ }
+    {
+        match self {
+            FieldStep::Field {
+                number: _,
+                value: _,
+                next,
+            } => WireError::VarintCutShort { place: next },
+            FieldStep::Refused { error } => error,
+        }
+    }
+}
+
+// The field at a place whose tag ends at `next`. Its number is tested before its wire type.
+fn tagged_at(s: &[u8], base: u32, at: usize, tag: u64, next: usize) -> FieldStep
+    requires { ⌜ (at ≤ length (now s)) × (next ≤ length (now s)) ⌝ }
+    ensures { λ r. ⌜ (readVarint (restOf base (now (s .entry)) at) ≡ got tag (restOf base (now (s .entry)) next) → FieldTold base (now (s .entry)) (readField (restOf base (now (s .entry)) at)) r) ⌝ }
+{
+    let place = base as usize + at;
+    let number = tag / 8;
+    if 4294967295 < number {
+        return FieldStep::Refused {
+            error: WireError::FieldTooLarge { place },
+        };
+    }
+    let step = value_at(s, base, place, (tag % 8) as u8, next);
+    let ValueStep::Value { value, next: after } = step else {
+        return FieldStep::Refused {
+            error: step.error(),
+        };
+    };
+    FieldStep::Field {
+        number: number as u32,
+        value,
+        next: after,
+    }
+}
+
+// The field at a place. Most tags have one byte.
+pub fn field_at(s: &[u8], base: u32, at: usize) -> FieldStep
+    ensures { λ r. ⌜ (at ≤ length (now (s .entry)) → FieldTold base (now (s .entry)) (readField (restOf base (now (s .entry)) at)) r) ⌝ }
+{
+    if s.len() <= at {
+        return FieldStep::Refused {
+            error: WireError::VarintCutShort {
+                place: base as usize + s.len(),
+            },
+        };
+    }
+    let byte = wide(s[at]);
+    if byte < 128 {
+        return tagged_at(s, base, at, byte, at + 1);
+    }
+    let tag = long_varint_at(s, base, at);
+    let Varint::Read { value, next } = tag else {
+        return FieldStep::Refused { error: tag.error() };
+    };
+    tagged_at(s, base, at, value, next)
+}

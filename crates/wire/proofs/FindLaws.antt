@@ -1,0 +1,125 @@
+-- The first occurrence of a field, by a walk: what the code's answer to the field at a place says of it.
+-- Assumes nothing.
+use mathlib.Core.Path.{_≡_, refl, ap, sym, _∙_, subst}
+use mathlib.Core.Bool.{false, not}
+use mathlib.Core.List.{List, _∷_}
+use mathlib.Core.Option.{Option, none, some}
+use Prim.Native.Nat.{ℕ, _^_, _≤_, _<_}
+use native.Mathlib.Omega.{arith}
+use borrow.Author.Tests.{lt-ltb, le-ltb}
+use lib.Dec.{eqb}
+use lib.ListN.{length}
+use Rattle.foundation.specs.Choices.{ifSome}
+use Rattle.foundation.specs.Results.{ok, _from_}
+use Rattle.wire.specs.Wire.{Value, readField, Message, cut}
+use Rattle.wire.specs.Messages.{values, firstOf, value, asVarint, asBody, varintOf, as32, index, flag, bytesOf}
+use Rattle.wire.specs.Told.{restOf, valueOf, Inside, FieldTold}
+use Rattle.wire.specs.Asked.{foundTold, FoundInside, FoundTold, numberOf, numberTold, pieceOf, pieceTold, PieceInside, BytesTold}
+use Rattle.wire.specs.declared.WireError.{WireError}
+use Rattle.wire.specs.declared.WireValue.{WireValue}
+use Rattle.wire.specs.declared.WireValue.the-variants as wire
+use Rattle.wire.specs.declared.FieldStep.{FieldStep}
+use Rattle.wire.specs.declared.FieldStep.the-variants as step
+use Rattle.wire.specs.declared.message.Found.{Found}
+use Rattle.wire.specs.declared.message.Found.the-variants as found
+use Rattle.wire.specs.declared.message.Number.{Number}
+use Rattle.wire.specs.declared.message.Number.the-variants as number
+use Rattle.wire.specs.declared.message.Piece.{Piece}
+use Rattle.wire.proofs.WalkLaws.{field-is, Leads, leads-start, leads-next, leads-never, leads-end, values-found, values-passed}
+
+-- from a place on the occurrences of field k are those of the whole message
+abbrev pub Occur : ℕ → ℕ → List ℕ → ℕ → Type 0
+Occur k base s at = Leads (λ m rest. values k m ≡ values k rest) (_from_ base s) (restOf base s at)
+
+module _ (k base : ℕ) (s : List ℕ) where
+  Same : Message → Message → Type 0
+  Same m rest = values k m ≡ values k rest
+
+  pub find-start : Occur k base s 0
+  unfolding Same
+  find-start = leads-start Same base s λ m. refl
+
+  module _ (at : ℕ) (o : Occur k base s at) where
+    pub find-end : length s ≤ at → FoundTold base s k found.Nothing
+    unfolding Same values
+    find-end h = record { is = λ m w. ap firstOf (leads-end Same (_from_ base s) base s at o h m w); inside = tt }
+
+    module _ {r : FieldStep} (e : FieldTold base s (readField (restOf base s at)) r) (h : at < length s) where
+      pub find-never : {error : WireError} → r ≡ step.Refused error → FoundTold base s k found.Nothing
+      unfolding Same
+      find-never g = record { is = λ m w. leads-never (_from_ base s) base s at e h Same o g m w; inside = tt }
+
+      pub find-found : {n : ℕ} {v : WireValue} {next : ℕ} → r ≡ step.Field n v next → n ≡ k → FoundTold base s k (found.Value v)
+      unfolding Same
+      find-found {n} {v} {next} g q =
+          let Here : Message → Message → Type 0 = λ m rest. values k m ≡ valueOf base s v ∷ values k rest in
+          let l = leads-next (_from_ base s) base s at e h Same Here o next g λ m rest c. c ∙ values-found k (valueOf base s v) rest q in
+          record { is = λ m w. ap firstOf (l m w .2); inside = field-is base s at e g .1 }
+
+      pub find-passed : {n : ℕ} {v : WireValue} (next : ℕ) → r ≡ step.Field n v next → (n ≡ k → ⊥) → Occur k base s next
+      unfolding Same
+      find-passed {n} {v} next g q =
+          leads-next (_from_ base s) base s at e h Same Same o next g λ m rest c. c ∙ values-passed k (valueOf base s v) rest q
+
+-- what is made of the first occurrence, as `varintOf` and `bytesOf` are
+module _ {A : Type 0} (f : Value → Option A) (k base : ℕ) (s : List ℕ) {r : Found} (t : FoundTold base s k r) where
+  pub asked-nothing : r ≡ found.Nothing → (m : Message) → cut (_from_ base s) ≡ ok m → ifSome (value k m) none f ≡ none
+  asked-nothing g m w = ap (λ (o : Option Value). ifSome o none f) (t .is m w ∙ ap (foundTold base s) g)
+
+  pub asked-found : {v : WireValue} {x : Option A} → r ≡ found.Value v → f (valueOf base s v) ≡ x
+      → (m : Message) → cut (_from_ base s) ≡ ok m → ifSome (value k m) none f ≡ x
+  asked-found g e m w = ap (λ (o : Option Value). ifSome o none f) (t .is m w ∙ ap (foundTold base s) g) ∙ e
+
+pub found-inside : (k base : ℕ) (s : List ℕ) {r : Found} → FoundTold base s k r → {v : WireValue} → r ≡ found.Value v → Inside s v
+found-inside k base s t g = subst (FoundInside s) g (t .inside)
+
+-- a value as a number and as bytes
+pub as-number : (base : ℕ) (s : List ℕ) (v : WireValue) → asVarint (valueOf base s v) ≡ numberTold (numberOf v)
+as-number base s (wire.Varint n) = refl
+as-number base s (wire.Fixed w n) = refl
+as-number base s (wire.Body a e) = refl
+
+pub as-piece : (base : ℕ) (s : List ℕ) (v : WireValue) → asBody (valueOf base s v) ≡ pieceTold base s (pieceOf v)
+as-piece base s (wire.Varint n) = refl
+as-piece base s (wire.Fixed w n) = refl
+as-piece base s (wire.Body a e) = refl
+
+pub piece-inside : (s : List ℕ) (v : WireValue) → Inside s v → PieceInside s (pieceOf v)
+piece-inside s (wire.Varint n) h = tt
+piece-inside s (wire.Fixed w n) h = tt
+piece-inside s (wire.Body a e) h = h
+
+module _ (k base : ℕ) (s : List ℕ) {r : Found} (t : FoundTold base s k r) {v : WireValue} (g : r ≡ found.Value v) where
+  pub varint-found : {x : Number} → x ≡ numberOf v → (m : Message) → cut (_from_ base s) ≡ ok m → varintOf k m ≡ numberTold x
+  unfolding varintOf
+  varint-found e = asked-found asVarint k base s t g (as-number base s v ∙ ap numberTold (sym e))
+
+  pub bytes-found : {x : Piece} → x ≡ pieceOf v → BytesTold base s k x
+  unfolding bytesOf
+  bytes-found e = record {
+    is = asked-found asBody k base s t g (as-piece base s v ∙ ap (pieceTold base s) (sym e));
+    inside = subst (PieceInside s) (sym e) (piece-inside s v (found-inside k base s t g));
+  }
+
+-- what is made of a number
+module _ (k : ℕ) (m : Message) {r : Number} (e : varintOf k m ≡ numberTold r) where
+  pub index-nothing : r ≡ number.Nothing → index k m ≡ none
+  unfolding index
+  index-nothing g = ap (λ (o : Option ℕ). ifSome o none as32) (e ∙ ap numberTold g)
+
+  pub flag-nothing : r ≡ number.Nothing → flag k m ≡ false
+  unfolding flag
+  flag-nothing g = ap (λ (o : Option ℕ). ifSome o false λ v. not (eqb v 0)) (e ∙ ap numberTold g)
+
+  module _ {v : ℕ} (g : r ≡ number.Value v) where
+    pub index-large : 4294967295 < v → index k m ≡ none
+    unfolding index
+    index-large h = ap (λ (o : Option ℕ). ifSome o none as32) (e ∙ ap numberTold g) ∙ rw (le-ltb v (2 ^ 32) (omega arith))
+
+    pub index-small : v ≤ 4294967295 → index k m ≡ some v
+    unfolding index
+    index-small h = ap (λ (o : Option ℕ). ifSome o none as32) (e ∙ ap numberTold g) ∙ rw (lt-ltb v (2 ^ 32) (omega arith))
+
+    pub flag-is : flag k m ≡ not (eqb v 0)
+    unfolding flag
+    flag-is = ap (λ (o : Option ℕ). ifSome o false λ v. not (eqb v 0)) (e ∙ ap numberTold g)

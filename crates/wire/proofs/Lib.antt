@@ -1,0 +1,14 @@
+pub mod VarintLaws
+pub mod FieldLaws
+pub mod WalkLaws
+pub mod FindLaws
+pub mod BodyLaws
+pub mod RepeatedLaws
+pub mod NoteLaws
+pub mod SlotLaws
+pub mod Readers
+pub mod Progress
+pub mod MessageLaws
+pub mod Places
+pub mod Later
+pub mod Bounds

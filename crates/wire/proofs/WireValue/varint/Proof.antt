@@ -1,0 +1,29 @@
+-- `wire::WireValue::varint` meets its contract.
+-- Assumes nothing.
+use mathlib.Core.Path.{ap, sym}
+use Rattle.wire.specs.Asked.{numberOf}
+use borrow.Author.Needs.{needs}
+use Rattle.wire.proofs.WireValue.varint.Statement.{statement}
+use Rattle.wire.proofs.WireValue.varint.Tie as tie
+
+enum-known-self : tie.Need-enum-known-self
+enum-known-self c = search needs
+
+enum-told : tie.Need-enum-told
+enum-told c = search needs
+
+enum-told-2 : tie.Need-enum-told-2
+enum-told-2 c = search needs
+
+returns : tie.Need-returns
+returns c = sym (ap numberOf (c .before .self .given .1))
+
+returns-2 : tie.Need-returns-2
+returns-2 c = sym (ap numberOf (c .enum-told .given .1))
+
+returns-3 : tie.Need-returns-3
+returns-3 c = sym (ap numberOf (c .enum-told2 .given .1))
+
+pub varint-spec : {M : Type 1} → statement M
+varint-spec =
+    tie.close (tie.spec enum-known-self enum-told enum-told-2 returns returns-2 returns-3)

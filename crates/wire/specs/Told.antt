@@ -1,0 +1,78 @@
+-- What the code's answers tell, in the definitions' words.
+-- Assumes nothing.
+use mathlib.Core.Path.{_≡_}
+use mathlib.Core.List.{List}
+use Prim.Native.Nat.{ℕ, _+_, _-_, _*_, _≤_, _<_}
+use lib.ListN.{length, take, drop}
+use Rattle.foundation.specs.Results.{Res, refused, Cause, varintCutShort, pastItsMessage, fieldTooLarge, wireType, oversizedVarint, Part, _from_, Got, got, mapGot}
+use Rattle.foundation.specs.Digits.{number}
+use Rattle.wire.specs.Wire.{Value, varint, fixed, body, Field, field}
+use Rattle.wire.specs.declared.WireError.{WireError}
+use Rattle.wire.specs.declared.WireError.the-variants.{VarintCutShort, OversizedVarint, PastItsMessage, FieldTooLarge, WireType}
+use Rattle.wire.specs.declared.Varint.{Varint}
+use Rattle.wire.specs.declared.Varint.the-variants as read
+use Rattle.wire.specs.declared.WireValue.{WireValue}
+use Rattle.wire.specs.declared.WireValue.the-variants as value
+use Rattle.wire.specs.declared.ValueStep.{ValueStep}
+use Rattle.wire.specs.declared.ValueStep.the-variants as valueStep
+use Rattle.wire.specs.declared.Delimited.{Delimited}
+use Rattle.wire.specs.declared.Delimited.the-variants as delimited
+use Rattle.wire.specs.declared.FieldStep.{FieldStep}
+use Rattle.wire.specs.declared.FieldStep.the-variants as fieldStep
+
+abbrev pub causeOf : WireError → Cause
+causeOf (VarintCutShort place) = varintCutShort
+causeOf (OversizedVarint place) = oversizedVarint
+causeOf (PastItsMessage place) = pastItsMessage
+causeOf (FieldTooLarge place) = fieldTooLarge
+causeOf (WireType kind place) = wireType kind
+
+abbrev pub placeOf : WireError → ℕ
+placeOf (VarintCutShort place) = place
+placeOf (OversizedVarint place) = place
+placeOf (PastItsMessage place) = place
+placeOf (FieldTooLarge place) = place
+placeOf (WireType kind place) = place
+
+abbrev pub refusal : {A : Type 0} → WireError → Res A
+refusal e = refused (causeOf e) (placeOf e)
+
+-- of a slice s at offset base, what is left from a place on
+abbrev pub restOf : ℕ → List ℕ → ℕ → Part
+restOf base s at = _from_ (base + at) (drop at s)
+
+abbrev pub varintTold : ℕ → List ℕ → Varint → Res (Got ℕ)
+varintTold base s (read.Read value next) = got value (restOf base s next)
+varintTold base s (read.Refused error) = refusal error
+
+-- the rest of a varint's groups, joined to what those before it gave, where the next one counts `scale`
+abbrev pub joinedTo : ℕ → ℕ → Res (Got (List ℕ)) → Res (Got ℕ)
+joinedTo value scale = mapGot (λ gs. value + scale * number 128 gs)
+
+-- the bytes from start to end
+abbrev pub bodyOf : ℕ → List ℕ → ℕ → ℕ → Part
+bodyOf base s start end = _from_ (base + start) (take (end - start) (drop start s))
+
+abbrev pub DelimitedTold : ℕ → List ℕ → Res (Got Part) → Delimited → Type 0
+DelimitedTold base s r (delimited.Body start end) =
+    (r ≡ got (bodyOf base s start end) (restOf base s end)) × (start ≤ end) × (end ≤ length s) × (0 < start)
+DelimitedTold base s r (delimited.Refused error) = r ≡ refusal error
+
+abbrev pub valueOf : ℕ → List ℕ → WireValue → Value
+valueOf base s (value.Varint n) = varint n
+valueOf base s (value.Fixed width n) = fixed width n
+valueOf base s (value.Body start end) = body (bodyOf base s start end)
+
+-- A body lies in the slice and is shorter than it: `bodyOf` alone does not tell, since what is past the slice would be cut off.
+abbrev pub Inside : List ℕ → WireValue → Type 0
+Inside s (value.Varint n) = Unit {0}
+Inside s (value.Fixed width n) = Unit {0}
+Inside s (value.Body start end) = (start ≤ end) × (end ≤ length s) × (0 < start)
+
+abbrev pub ValueTold : ℕ → List ℕ → Res (Got Value) → ValueStep → Type 0
+ValueTold base s r (valueStep.Value v next) = (r ≡ got (valueOf base s v) (restOf base s next)) × Inside s v
+ValueTold base s r (valueStep.Refused error) = r ≡ refusal error
+
+abbrev pub FieldTold : ℕ → List ℕ → Res (Got Field) → FieldStep → Type 0
+FieldTold base s r (fieldStep.Field n v next) = (r ≡ got (field n (valueOf base s v)) (restOf base s next)) × Inside s v
+FieldTold base s r (fieldStep.Refused error) = r ≡ refusal error

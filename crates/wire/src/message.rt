@@ -1,0 +1,252 @@
+// Messages: a slice that is cut into fields, and what it says of a field. A function that asks a message tells what the definitions say
+// where the slice can be cut, and is safe on any.
+ghost use mathlib.Core.Path.{_≡_};
+ghost use Rattle.foundation.specs.Results.{ok, _from_};
+ghost use Rattle.wire.specs.Wire.{cut, Message};
+ghost use Rattle.wire.specs.Messages.{varintOf, index, flag, messages};
+ghost use Rattle.wire.specs.Told.{restOf};
+ghost use Rattle.wire.specs.Asked.{CheckedTold, FoundTold, numberOf, numberTold, pieceOf, BytesTold, indexTold, EmbeddedTold, pieceIf, NextTold};
+use super::FieldStep;
+use super::WireError;
+use super::WireValue;
+use super::field_at;
+
+pub enum Checked {
+    Whole,
+    Refused { error: WireError },
+}
+
+impl Checked {
+    pub fn error(self) -> WireError
+        ensures { λ r. ⌜ ((e : WireError) → self ≡ Checked.Refused e → r ≡ e) ⌝ }
+    {
+        match self {
+            Checked::Whole => WireError::VarintCutShort { place: 0 },
+            Checked::Refused { error } => error,
+        }
+    }
+}
+
+// Cuts what is left of a slice from a place on.
+pub fn check_from(s: &[u8], base: u32, at: usize) -> Checked
+    ensures { λ r. ⌜ CheckedTold (cut (restOf base (now (s .entry)) at)) r ⌝ }
+{
+    let mut i = at;
+    while i < s.len() {
+        let step = field_at(s, base, i);
+        let FieldStep::Field {
+            number: _,
+            value: _,
+            next,
+        } = step
+        else {
+            return Checked::Refused {
+                error: step.error(),
+            };
+        };
+        i = next;
+    }
+    Checked::Whole
+}
+
+// Cuts a whole message.
+pub fn check(s: &[u8], base: u32) -> Checked
+    ensures { λ r. ⌜ CheckedTold (cut (_from_ base (now (s .entry)))) r ⌝ }
+{
+    check_from(s, base, 0)
+}
+
+pub enum Found {
+    Value { value: WireValue },
+    Nothing,
+}
+
+// The first occurrence of a field, of whatever wire type.
+pub fn find(s: &[u8], base: u32, number: u32) -> Found
+    ensures { λ r. ⌜ FoundTold base (now (s .entry)) number r ⌝ }
+{
+    let mut at = 0;
+    while at < s.len() {
+        let step = field_at(s, base, at);
+        let FieldStep::Field {
+            number: n,
+            value,
+            next,
+        } = step
+        else {
+            return Found::Nothing;
+        };
+        if n == number {
+            return Found::Value { value };
+        }
+        at = next;
+    }
+    Found::Nothing
+}
+
+pub enum Number {
+    Value { value: u64 },
+    Nothing,
+}
+
+// The bytes `&s[start..end]`.
+pub enum Piece {
+    Body { start: usize, end: usize },
+    Nothing,
+}
+
+impl WireValue {
+    pub fn varint(self) -> Number
+        ensures { λ r. ⌜ r ≡ numberOf self ⌝ }
+    {
+        match self {
+            WireValue::Varint { value } => Number::Value { value },
+            WireValue::Fixed {
+                width: _,
+                number: _,
+            } => Number::Nothing,
+            WireValue::Body { start: _, end: _ } => Number::Nothing,
+        }
+    }
+
+    pub fn bytes(self) -> Piece
+        ensures { λ r. ⌜ r ≡ pieceOf self ⌝ }
+    {
+        match self {
+            WireValue::Varint { value: _ } => Piece::Nothing,
+            WireValue::Fixed {
+                width: _,
+                number: _,
+            } => Piece::Nothing,
+            WireValue::Body { start, end } => Piece::Body { start, end },
+        }
+    }
+}
+
+pub fn varint(s: &[u8], base: u32, number: u32) -> Number
+    ensures { λ r. ⌜ ((m : Message) → cut (_from_ base (now (s .entry))) ≡ ok m → varintOf number m ≡ numberTold r) ⌝ }
+{
+    let found = find(s, base, number);
+    let Found::Value { value } = found else {
+        return Number::Nothing;
+    };
+    value.varint()
+}
+
+// The bytes of a field whose first occurrence is length-delimited.
+pub fn bytes(s: &[u8], base: u32, number: u32) -> Piece
+    ensures { λ r. ⌜ BytesTold base (now (s .entry)) number r ⌝ }
+{
+    let found = find(s, base, number);
+    let Found::Value { value } = found else {
+        return Piece::Nothing;
+    };
+    value.bytes()
+}
+
+pub enum Indexed {
+    At { index: u32 },
+    Nothing,
+}
+
+// A number above 2^32 - 1 is no index.
+pub fn index(s: &[u8], base: u32, number: u32) -> Indexed
+    ensures { λ r. ⌜ ((m : Message) → cut (_from_ base (now (s .entry))) ≡ ok m → index number m ≡ indexTold r) ⌝ }
+{
+    let found = varint(s, base, number);
+    let Number::Value { value } = found else {
+        return Indexed::Nothing;
+    };
+    if 4294967295 < value {
+        return Indexed::Nothing;
+    }
+    Indexed::At {
+        index: value as u32,
+    }
+}
+
+pub fn flag(s: &[u8], base: u32, number: u32) -> bool
+    ensures { λ r. ⌜ ((m : Message) → cut (_from_ base (now (s .entry))) ≡ ok m → flag number m ≡ r) ⌝ }
+{
+    let found = varint(s, base, number);
+    let Number::Value { value } = found else {
+        return false;
+    };
+    value != 0
+}
+
+pub enum Embedded {
+    Inline { start: usize, end: usize },
+    Nothing,
+    Refused { error: WireError },
+}
+
+// The message in the first occurrence of a field, cut.
+pub fn message(s: &[u8], base: u32, number: u32) -> Embedded
+    ensures { λ r. ⌜ EmbeddedTold base (now (s .entry)) number r ⌝ }
+{
+    let found = bytes(s, base, number);
+    let Piece::Body { start, end } = found else {
+        return Embedded::Nothing;
+    };
+    let checked = check_from(&s[..end], base, start);
+    let Checked::Whole = checked else {
+        return Embedded::Refused {
+            error: checked.error(),
+        };
+    };
+    Embedded::Inline { start, end }
+}
+
+// The body of a field, if its number is the one that is asked for.
+fn body_of(asked: u32, number: u32, value: WireValue) -> Piece
+    ensures { λ r. ⌜ r ≡ pieceIf asked number value ⌝ }
+{
+    if number != asked {
+        return Piece::Nothing;
+    }
+    value.bytes()
+}
+
+// The next length-delimited occurrence of a field from a place on; those after it are found from its end on.
+pub fn next_body(s: &[u8], base: u32, number: u32, at: usize) -> Piece
+    ensures { λ r. ⌜ NextTold base (now (s .entry)) number at r ⌝ }
+{
+    let mut i = at;
+    while i < s.len() {
+        let step = field_at(s, base, i);
+        let FieldStep::Field {
+            number: n,
+            value,
+            next,
+        } = step
+        else {
+            return Piece::Nothing;
+        };
+        let piece = body_of(number, n, value);
+        let Piece::Nothing = piece else {
+            return piece;
+        };
+        i = next;
+    }
+    Piece::Nothing
+}
+
+// Cuts every message of a list, before the first is read.
+pub fn check_messages(s: &[u8], base: u32, number: u32) -> Checked
+    ensures { λ r. ⌜ ((m : Message) → cut (_from_ base (now (s .entry))) ≡ ok m → CheckedTold (messages number m) r) ⌝ }
+{
+    let mut at = 0;
+    while at < s.len() {
+        let piece = next_body(s, base, number, at);
+        let Piece::Body { start, end } = piece else {
+            return Checked::Whole;
+        };
+        let checked = check_from(&s[..end], base, start);
+        let Checked::Whole = checked else {
+            return checked;
+        };
+        at = end;
+    }
+    Checked::Whole
+}
