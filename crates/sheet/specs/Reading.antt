@@ -5,10 +5,10 @@ use mathlib.Core.List.{List, [], _∷_}
 use mathlib.Core.Option.{Option, none, some}
 use Prim.Native.Nat.{ℕ, zero, suc, _+_, _-_, _^_}
 use lib.Dec.{eqb, ltb}
-use lib.ListN.{length, take, drop, getElem?}
+use lib.ListN.{length, take, drop}
 use Rattle.foundation.specs.Choices.{if_then_else_, ifSome, mapOption}
 use Rattle.foundation.specs.Digits.{number}
-use Rattle.sheet.specs.Rows.{Cell, num, ref, Row, row, Form, wide, text, recordTable}
+use Rattle.sheet.specs.Rows.{Cell, num, ref, Row, row, Form, wide, text, formsOf}
 
 -- what was taken, and the bytes after it
 pub record Taken (A : Type 0) : Type 0 where
@@ -18,11 +18,26 @@ pub record Taken (A : Type 0) : Type 0 where
 abbrev pub taken : {A : Type 0} → A → List ℕ → Taken A
 taken a bs = record { it = a; rest = bs }
 
--- what a ref of four bytes cuts out of the text
+-- offset and length in the text area
+pub record Ref : Type 0 where
+  pub offset : ℕ
+  pub size : ℕ
+
+abbrev pub refAt : ℕ → ℕ → Ref
+refAt o n = record { offset = o; size = n }
+
+-- a ref's four bytes, two each; absent is FFFFFFFF hex
+abbrev pub refOf : List ℕ → Option Ref
+refOf bs =
+    let present = some (refAt (number 256 (take 2 bs)) (number 256 (take 2 (drop 2 bs)))) in
+    if eqb (number 256 (take 4 bs)) (2 ^ 32 - 1) then none else present
+
+-- what a ref cuts out of the text
+abbrev pub cutBy : List ℕ → Ref → List ℕ
+cutBy txt r = take (r .size) (drop (r .offset) txt)
+
 abbrev pub cutOut : List ℕ → List ℕ → Option (List ℕ)
-cutOut txt bs =
-    let cutting = some (take (number 256 (take 2 (drop 2 bs))) (drop (number 256 (take 2 bs)) txt)) in
-    if eqb (number 256 (take 4 bs)) (2 ^ 32 - 1) then none else cutting
+cutOut txt bs = mapOption (cutBy txt) (refOf bs)
 
 abbrev pub formWidth : Form → ℕ
 formWidth (wide w) = w
@@ -38,14 +53,11 @@ takeCells txt (f ∷ fs) bs =
     let more = mapOption (λ t. taken (cellOf txt f bs ∷ t .it) (t .rest)) (takeCells txt fs (drop (formWidth f) bs)) in
     if ltb (length bs) (formWidth f) then none else more
 
--- A record: its kind, and the body that the table has for it. No body is empty, so that kind 0 has none.
-abbrev pub takeBody : List ℕ → ℕ → List Form → List ℕ → Option (Taken Row)
-takeBody txt k [] bs = none
-takeBody txt k (f ∷ fs) bs = mapOption (λ t. taken (row k (t .it)) (t .rest)) (takeCells txt (f ∷ fs) bs)
-
+-- A record: its kind, and the body that the table has for it.
 unfoldable pub takeRow : List ℕ → List ℕ → Option (Taken Row)
 takeRow txt [] = none
-takeRow txt (k ∷ bs) = ifSome (getElem? recordTable k) none λ fs. takeBody txt k fs bs
+takeRow txt (k ∷ bs) =
+    ifSome (formsOf k) none λ fs. mapOption (λ t. taken (row k (t .it)) (t .rest)) (takeCells txt fs bs)
 
 -- The records of a sheet up to its last byte, at most k of them; none if a kind is unknown or the last record isn't whole.
 unfoldable pub takeRows : ℕ → List ℕ → List ℕ → Option (List Row)

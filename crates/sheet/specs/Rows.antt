@@ -1,11 +1,11 @@
 -- The sheet's records as rows of cells, and their bytes (document 01, "The sheet").
 -- Assumes nothing.
-use mathlib.Core.Bool.{Bool, true, false}
-use mathlib.Core.List.{List, [], _∷_, _++_, map}
+use mathlib.Core.Bool.{Bool}
+use mathlib.Core.List.{List, [], _∷_, _++_}
 use mathlib.Core.Option.{Option, none, some}
-use Prim.Native.Nat.{ℕ, _+_, _-_, _^_}
+use Prim.Native.Nat.{ℕ, zero, suc, _+_, _-_, _^_}
 use lib.ListN.{length, getElem?}
-use Rattle.foundation.specs.Choices.{concat}
+use Rattle.foundation.specs.Choices.{if_then_else_}
 use Rattle.foundation.specs.Digits.{little}
 
 -- A cell is a number of a width in bytes, or a ref to a text, here the text itself in UTF-8.
@@ -22,21 +22,22 @@ abbrev pub row : ℕ → List Cell → Row
 row k cs = record { kind = k; body = cs }
 
 -- 0/1
+abbrev pub oneIf : Bool → ℕ
+oneIf b = if b then 1 else 0
+
 abbrev pub bit : Bool → Cell
-bit false = num 1 0
-bit true = num 1 1
+bit b = num 1 (oneIf b)
 
 -- What the table of document 01 puts into a cell.
 pub data Form : Type 0 where
   wide : ℕ → Form  -- a number of that width
   text : Form  -- a ref
 
--- document 01's table, kinds 0 to 7
+-- document 01's table, kinds 1 to 7
 abbrev pub recordTable : List (List Form)
 recordTable =
-    []  -- no record has kind 0
     -- 1 head: metadata kind, class name, flags, counts of constructors, functions, properties
-    ∷ (wide 1 ∷ text ∷ wide 8 ∷ wide 2 ∷ wide 2 ∷ wide 2 ∷ [])
+    (wide 1 ∷ text ∷ wide 8 ∷ wide 2 ∷ wide 2 ∷ wide 2 ∷ [])
     -- 2 constructor: flags, signature name, descriptor, parameter count
     ∷ (wide 8 ∷ text ∷ text ∷ wide 2 ∷ [])
     -- 3 function: name, flags, signature name, descriptor, receiver, parameter count
@@ -51,10 +52,21 @@ recordTable =
     ∷ (text ∷ [])
     ∷ []
 
--- a ref's bytes: offset and length in the text area, or FFFFFFFF hex
+-- the body that the table has for a kind
+abbrev pub formsOf : ℕ → Option (List Form)
+formsOf zero = none
+formsOf (suc k) = getElem? recordTable k
+
+-- a ref's bytes: offset and length in the text area, 2 bytes each; absent is FFFFFFFF hex
+abbrev pub presentBytes : ℕ → ℕ → List ℕ
+presentBytes offset size = little 2 offset ++ little 2 size
+
+abbrev pub absentBytes : List ℕ
+absentBytes = little 4 (2 ^ 32 - 1)
+
 abbrev pub refBytes : ℕ → Option (List ℕ) → List ℕ
-refBytes o none = little 4 (2 ^ 32 - 1)
-refBytes o (some t) = little 2 o ++ little 2 (length t)
+refBytes o none = absentBytes
+refBytes o (some t) = presentBytes o (length t)
 
 -- a cell's bytes, o bytes of text standing before it
 abbrev pub cellBytes : ℕ → Cell → List ℕ

@@ -1,0 +1,12 @@
+-- The lengths of document 01's records, kind byte included.
+-- Assumes nothing.
+use mathlib.Core.Path.{_≡_, refl}
+use mathlib.Core.List.{List, [], _∷_, map}
+use Prim.Native.Nat.{ℕ, suc}
+use Rattle.sheet.specs.Rows.{recordTable}
+use Rattle.sheet.specs.Refs.{bodyWidth}
+
+-- head 20, constructor 19, function 24, property 40, parameter 6, type 9, default descriptor 5
+pub record-lengths : map (λ fs. suc (bodyWidth fs)) recordTable ≡ 20 ∷ 19 ∷ 24 ∷ 40 ∷ 6 ∷ 9 ∷ 5 ∷ []
+unfolding bodyWidth
+record-lengths = refl
