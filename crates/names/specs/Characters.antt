@@ -5,8 +5,8 @@ use mathlib.Core.List.{List, [], _∷_, _++_, map}
 use mathlib.Core.Option.{Option, none, some}
 use Prim.Native.Nat.{ℕ, zero, suc, _+_, _-_, _*_, _/_, _%_, _^_}
 use lib.Dec.{eqb, leb, ltb}
-use lib.ListN.{length, take}
-use Rattle.foundation.specs.Choices.{if_then_else_, ifSome, concat}
+use lib.ListN.{length, take, drop}
+use Rattle.foundation.specs.Choices.{if_then_else_, ifSome, mapOption}
 use Rattle.foundation.specs.Texts.{Text}
 
 -- U+FFFD
@@ -27,10 +27,10 @@ width c = if ltb c 0x80 then 1 else if ltb c 0x800 then 2 else if ltb c 0x10000 
 abbrev pub continuation : ℕ → ℕ
 continuation n = 0x80 + n % 64
 
--- table 3-6
+-- Table 3-6; the first of four bytes has three of the bits.
 unfoldable pub utf8Of : ℕ → List ℕ
 utf8Of c =
-    let four = (0xf0 + c / 64 / 64 / 64) ∷ continuation (c / 64 / 64) ∷ continuation (c / 64) ∷ continuation c ∷ [] in
+    let four = (0xf0 + c / 64 / 64 / 64 % 8) ∷ continuation (c / 64 / 64) ∷ continuation (c / 64) ∷ continuation c ∷ [] in
     let three = (0xe0 + c / 64 / 64) ∷ continuation (c / 64) ∷ continuation c ∷ [] in
     let two = (0xc0 + c / 64) ∷ continuation c ∷ [] in
     if ltb c 0x80 then c ∷ [] else if ltb c 0x800 then two else if ltb c 0x10000 then three else four
@@ -95,14 +95,16 @@ pub record Step : Type 0 where
   pub character : ℕ
   pub after : ℕ
 
+-- of a first byte its 7 bits if it stands alone, else 6 less one for each byte that follows it
+abbrev pub leading : ℕ → ℕ → ℕ
+leading wanted b = if eqb wanted 0 then b else b % 2 ^ (6 - wanted)
+
 -- A well-formed character, or U+FFFD for the longest beginning of one.
 abbrev pub stepBy : Lead → ℕ → List ℕ → Step
 stepBy l b bs =
     let n = run (l .following) bs in
     let wanted = length (l .following) in
-    -- of the first byte its 7 bits if it stands alone, else 6 less one for each that follows
-    let first = if eqb wanted 0 then b else b % 2 ^ (6 - wanted) in
-    record { character = if eqb n wanted then sixes first (take n bs) else replacement; after = n }
+    record { character = if eqb n wanted then sixes (leading wanted b) (take n bs) else replacement; after = n }
 
 unfoldable pub step : ℕ → List ℕ → Step
 step b bs = ifSome (leadOf b leads) (record { character = replacement; after = 0 }) λ l. stepBy l b bs
@@ -116,6 +118,19 @@ fromUtf8After zero (b ∷ bs) = step b bs .character ∷ fromUtf8After (step b b
 -- In bad UTF-8 each longest beginning of a well-formed character, else one byte, becomes one U+FFFD.
 abbrev pub fromUtf8 : List ℕ → Text
 fromUtf8 = fromUtf8After 0
+
+-- How many of the bytes stand before byte place n of their replaced text; none past its end or inside a character. The first j bytes
+-- belong to the character before.
+unfoldable pub placeAfter : ℕ → ℕ → List ℕ → Option ℕ
+placeAfter j n [] = if eqb n 0 then some 0 else none
+placeAfter (suc j) n (b ∷ bs) = mapOption suc (placeAfter j n bs)
+placeAfter zero n (b ∷ bs) =
+    let c = step b bs .character in
+    let later = mapOption suc (placeAfter (step b bs .after) (n - width c) bs) in
+    if eqb n 0 then some 0 else if ltb n (width c) then none else later
+
+abbrev pub placeOf : ℕ → List ℕ → Option ℕ
+placeOf = placeAfter 0
 
 abbrev pub isHigh : ℕ → Bool
 isHigh = between 0xd800 0xdbff
@@ -138,3 +153,7 @@ fromUtf16 (u ∷ v ∷ us) =
     let joined = pair u v ∷ fromUtf16 us in
     let alone = lone u ∷ fromUtf16 (v ∷ us) in
     if isHigh u && isLow v then joined else alone
+
+-- what stands from a place on to an end
+abbrev pub partFrom : ℕ → ℕ → List ℕ → List ℕ
+partFrom start end s = take (end - start) (drop start s)

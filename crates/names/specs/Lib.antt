@@ -1,3 +1,11 @@
 pub mod Characters
 pub mod Records
 pub mod Names
+pub mod WellFormed
+pub mod Told
+pub mod Name
+pub mod Stream
+pub mod Index
+pub mod RecordTold
+pub mod Steps
+pub mod Qualified

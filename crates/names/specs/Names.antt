@@ -1,10 +1,10 @@
 -- Names by their index: jvm_metadata.proto's StringTableTypes with the strings of d2 (document 01, "names.rs").
 -- Assumes nothing.
-use mathlib.Core.Bool.{Bool, true, false}
+use mathlib.Core.Bool.{Bool, true, false, _&&_}
 use mathlib.Core.List.{List, [], _∷_, map}
 use mathlib.Core.Option.{Option, none, some}
 use Prim.Native.Nat.{ℕ, _-_}
-use lib.Dec.{eqb, ltb}
+use lib.Dec.{eqb, leb, ltb}
 use lib.ListN.{length, take, drop, getElem?}
 use Rattle.foundation.specs.Choices.{if_then_else_, ifSome, mapOption, orElse}
 use Rattle.foundation.specs.Results.{Res, ok, refused, _>>=_}
@@ -55,6 +55,11 @@ unwrapped (c ∷ t) = if eqb c 0x4c then ifSome (withoutLast 0x3b t) (c ∷ t) (
 
 unfoldable pub qualifiedName : Names → ℕ → Res (Option Text)
 qualifiedName n i = string n i >>= λ t. ok (mapOption (λ u. dotted (unwrapped u)) t)
+
+-- ends that don't fall and whose last (0 if there are none) is the unit count
+unfoldable pub endsFit : ℕ → List ℕ → ℕ → Bool
+endsFit at [] units = eqb at units
+endsFit at (e ∷ ends) units = leb at e && endsFit e ends units
 
 -- The strings of d2, each from the last one's end to its own.
 unfoldable pub stringsFrom : ℕ → List ℕ → List ℕ → List (List ℕ)

@@ -37,7 +37,7 @@ pub record Record : Type 0 where
   pub range : ℕ  -- how many consecutive indices it serves
   pub string : Option Part
   pub predefined : Option ℕ
-  pub operation : ℕ  -- all 64 bits
+  pub operation : ℕ  -- departure: all 64 bits
   pub substring : Option (ℕ × ℕ)
   pub replaced : Option (ℕ × ℕ)
 
@@ -47,7 +47,8 @@ served none = 1
 served (some zero) = 1
 served (some (suc n)) = suc n
 
--- A step's two numbers, mod 2^32. Errors in its values, or fewer than two of them, mean that the step isn't taken.
+-- A step's two numbers, mod 2^32. Errors in its values, or fewer than two of them, mean that the step isn't taken (an error in any
+-- other field that is looked into refuses).
 abbrev pub twoOf : Res (List ℕ) → Option (ℕ × ℕ)
 twoOf (refused c p) = none
 twoOf (ok []) = none
@@ -102,7 +103,8 @@ splitAt n (c ∷ t) =
     let later = mapOption (λ h. halves (c ∷ h .before) (h .after)) (splitAt (n - width c) t) in
     if eqb n 0 then some (halves [] (c ∷ t)) else if ltb n (width c) then none else later
 
--- Departure: substring by byte places (Kotlin: by UTF-16 units).
+-- Departure: substring by byte places (Kotlin: by UTF-16 units). A place out of range makes the name absent, where Kotlin's reader
+-- leaves the step out.
 unfoldable pub substringOf : ℕ → ℕ → Text → Option Text
 substringOf start end t =
     let part = ifSome (splitAt start t) none λ h. mapOption (λ m. m .before) (splitAt (end - start) (h .after)) in

@@ -1,0 +1,223 @@
+-- A name by its part and by what is done to each of its characters.
+-- Assumes nothing.
+use mathlib.Core.Path.{_≡_, refl, ap, sym, _∙_}
+use mathlib.Core.Bool.{Bool, true, false, _||_}
+use mathlib.Core.List.{List, [], _∷_, _++_, map}
+use mathlib.Core.Option.{Option, none, some}
+use Prim.Native.Nat.{ℕ, _+_, _-_, _≤_, _<_}
+use native.Mathlib.Omega.{arith}
+use borrow.Author.Tests.{eq-eqb, ne-eqb, eqb-true}
+use lib.Dec.{eqb}
+use lib.ListN.{length, take, drop, length-drop}
+use lib.Seq.{take-all}
+use Rattle.foundation.specs.Choices.{if_then_else_, ifSome, mapOption}
+use Rattle.foundation.specs.Texts.{Text, ascii, same}
+use Rattle.foundation.proofs.ChoiceLaws.{if-ind}
+use Rattle.names.specs.Name.{predefinedList, sourceText, steppedBy, nameText}
+use Rattle.names.specs.Characters.{utf8Of, utf8, fromUtf8, fromUtf16, partFrom}
+use Rattle.names.specs.Records.{substituted, dotted, operated}
+use Rattle.names.specs.Stream.{instead, withDots, withSlashes, changed, changeOf, prefixOf, printed, baseOf, changedBytes, sourceBytes, nameBytes, sameSource, sameName}
+use Rattle.names.specs.declared.name.Name.{Name}
+use Rattle.names.specs.declared.name.Change.{Change}
+use Rattle.names.proofs.TestLaws.{below}
+use Rattle.names.proofs.Utf8Laws.{utf8-append}
+
+-- A part that goes to the end of s.
+pub part-rest : (s : List ℕ) (start end : ℕ) → length s ≤ end → take (length s - start) (drop start s) ≡ partFrom start end s
+part-rest s start end h =
+    take-all (length s - start) (drop start s) (omega (arith, length-drop start s))
+    ∙ sym (take-all (end - start) (drop start s) (omega (arith, length-drop start s)))
+
+pub instead-is : (from to c : ℕ) → c ≡ from → to ≡ instead from to c
+instead-is from to c h = rw (eq-eqb c from h)
+
+pub instead-not : (from to c : ℕ) → (c ≡ from → ⊥) → c ≡ instead from to c
+instead-not from to c h = rw (ne-eqb c from h)
+
+-- A map of a text that begins otherwise than the rest.
+map-parts : (g f : ℕ → ℕ) (p t : Text) → map g (p ++ map f t) ≡ map g p ++ map (λ c. g (f c)) t
+map-parts g f [] [] = refl
+map-parts g f [] (c ∷ t) = ap (λ (u : Text). g (f c) ∷ u) (map-parts g f [] t)
+map-parts g f (c ∷ p) t = ap (λ (u : Text). g c ∷ u) (map-parts g f p t)
+
+map-each : (f g : ℕ → ℕ) → ((c : ℕ) → f c ≡ g c) → (t : Text) → map f t ≡ map g t
+map-each f g h [] = refl
+map-each f g h (c ∷ t) = rw (h c, map-each f g h t)
+
+-- / and $ become dots once
+dots-once : (c : ℕ) → withDots true (withDots true c) ≡ withDots true c
+dots-once c =
+    let Q : ℕ → Type 0 = λ x. withDots true x ≡ x in
+    if-ind Q (eqb (instead 0x24 0x2e c) 0x2f) (λ e. refl) (go (eqb c 0x24) refl)
+  where
+    go : (t : Bool) → eqb c 0x24 ≡ t → eqb (if t then 0x2e else c) 0x2f ≡ false → withDots true (if t then 0x2e else c) ≡ (if t then 0x2e else c)
+    go true e h = refl
+    go false e h = rw (e, h)
+
+dotted-parts : (f : ℕ → ℕ) (p t : Text) → dotted (p ++ map f t) ≡ dotted p ++ map (λ c. withDots true (f c)) t
+dotted-parts f p t =
+    ap (substituted 0x2f 0x2e) (map-parts (instead 0x24 0x2e) f p t)
+    ∙ map-parts (instead 0x2f 0x2e) (λ c. instead 0x24 0x2e (f c)) (substituted 0x24 0x2e p) t
+
+-- What a name's steps do: a text in front, and a change of each character.
+module _ (from to : ℕ) (t : Text) where
+  stepped-cases : (one two qualified : Bool) → (one ≡ true → two ≡ false)
+      → let r = substituted from to t in
+      let it = if one then dotted r else if two then ascii "kotlin.collections." ++ r else r in
+      (if qualified then dotted it else it)
+      ≡ (if two then ascii "kotlin.collections." else []) ++ map (λ c. withDots (one || qualified) (instead from to c)) t
+  stepped-cases true true q h =
+      let e = h refl in
+      let z : _≡_ {A = ℕ} 0 1 = cc in
+      absurd (omega arith)
+  stepped-cases true false true h =
+      let f : ℕ → ℕ = λ c. withDots true (instead from to c) in
+      ap dotted (dotted-parts (instead from to) [] t) ∙ dotted-parts f [] t ∙ map-each (λ c. withDots true (f c)) f (λ c. dots-once (instead from to c)) t
+  stepped-cases true false false h = dotted-parts (instead from to) [] t
+  stepped-cases false true true h = dotted-parts (instead from to) (ascii "kotlin.collections.") t
+  stepped-cases false true false h = refl
+  stepped-cases false false true h = dotted-parts (instead from to) [] t
+  stepped-cases false false false h = refl
+
+printed-parts : (slashes : Bool) (f : ℕ → ℕ) (p t : Text)
+    → printed slashes (p ++ map f t) ≡ printed slashes p ++ map (λ c. withSlashes slashes (f c)) t
+printed-parts true f p t = map-parts (instead 0x2e 0x2f) f p t
+printed-parts false f p t = refl
+
+pub stepped-is : (n : Name) (t : Text) (slashes : Bool)
+    → printed slashes (steppedBy n t) ≡ printed slashes (prefixOf (n .operation)) ++ map (changed (changeOf n slashes)) t
+unfolding operated changed
+stepped-is n t slashes =
+    let op = n .operation in
+    let h : eqb op 1 ≡ true → eqb op 2 ≡ false = λ e. ne-eqb op 2 λ g. omega (arith, eqb-true op 1 e) in
+    ap (printed slashes) (stepped-cases (n .from) (n .to) t (eqb op 1) (eqb op 2) (n .qualified) h)
+    ∙ printed-parts slashes (λ c. withDots (eqb op 1 || n .qualified) (instead (n .from) (n .to) c)) (prefixOf op) t
+
+-- What a name is made of, by its source.
+module _ (payload d2 : List ℕ) (n : Name) where
+  pub source-none : (n .source ≡ 1 → ⊥) → (n .source ≡ 2 → ⊥) → (n .source ≡ 3 → ⊥) → sourceText payload d2 n ≡ none
+  unfolding sourceText
+  source-none f g h = rw (ne-eqb (n .source) 1 f, ne-eqb (n .source) 2 g, ne-eqb (n .source) 3 h)
+
+  pub source-absent : n .source ≡ 0 → sourceText payload d2 n ≡ none
+  source-absent e = source-none (λ f. omega arith) (λ f. omega arith) λ f. omega arith
+
+  pub source-past : 3 < n .source → sourceText payload d2 n ≡ none
+  source-past e = source-none (λ f. omega arith) (λ f. omega arith) λ f. omega arith
+
+  pub source-units : n .source ≡ 3 → sourceText payload d2 n ≡ some (fromUtf16 (partFrom (n .start) (n .end) d2))
+  unfolding sourceText
+  source-units e = rw e
+
+  source-payload : n .source ≡ 1 → sourceText payload d2 n ≡ some (fromUtf8 (partFrom (n .start) (n .end) (baseOf (n .source) payload predefinedList)))
+  unfolding sourceText
+  source-payload e = rw e
+
+  source-list : n .source ≡ 2 → sourceText payload d2 n ≡ some (fromUtf8 (partFrom (n .start) (n .end) (baseOf (n .source) payload predefinedList)))
+  unfolding sourceText
+  source-list e = rw e
+
+  pub source-bytes : 0 < n .source → n .source ≤ 3 → (n .source ≡ 3 → ⊥)
+      → sourceText payload d2 n ≡ some (fromUtf8 (partFrom (n .start) (n .end) (baseOf (n .source) payload predefinedList)))
+  source-bytes g h f =
+      below 2 (n .source) (λ l. let e : n .source ≡ 1 = omega arith in source-payload e) λ l.
+      below 3 (n .source) (λ m. let e : n .source ≡ 2 = omega arith in source-list e) λ m.
+      let e : n .source ≡ 3 = omega arith in
+      absurd (f e)
+
+  pub source-there : 0 < n .source → n .source ≤ 3 → (t : Text) × (sourceText payload d2 n ≡ some t)
+  source-there g h =
+      below 3 (n .source) (λ l. (_, source-bytes g h λ e. omega arith)) λ l.
+      let e : n .source ≡ 3 = omega arith in
+      (_, source-units e)
+
+  module _ (slashes : Bool) where
+    pub none-bytes : sourceText payload d2 n ≡ none → nameBytes payload d2 n slashes ≡ []
+    unfolding nameBytes nameText
+    none-bytes e = rw e
+
+    pub absent-bytes : n .source ≡ 0 → nameBytes payload d2 n slashes ≡ []
+    absent-bytes e = none-bytes (source-absent e)
+
+    pub past-bytes : 3 < n .source → nameBytes payload d2 n slashes ≡ []
+    past-bytes e = none-bytes (source-past e)
+
+    pub some-bytes : (t : Text) → sourceText payload d2 n ≡ some t
+        → nameBytes payload d2 n slashes ≡ utf8 (printed slashes (prefixOf (n .operation))) ++ sourceBytes (changeOf n slashes) (sourceText payload d2 n)
+    unfolding nameBytes nameText
+    some-bytes t e =
+        rw e (ap utf8 (stepped-is n t slashes) ∙ utf8-append (printed slashes (prefixOf (n .operation))) (map (changed (changeOf n slashes)) t))
+
+    pub name-bytes : 0 < n .source → n .source ≤ 3
+        → nameBytes payload d2 n slashes ≡ utf8 (printed slashes (prefixOf (n .operation))) ++ sourceBytes (changeOf n slashes) (sourceText payload d2 n)
+    name-bytes g h =
+        let s = source-there g h in
+        some-bytes (s .0) (s .1)
+
+    none-same : (text : List ℕ) → sourceText payload d2 n ≡ none → false ≡ sameName payload d2 n slashes text
+    unfolding sameName nameText
+    none-same text e = rw e
+
+    pub absent-same : (text : List ℕ) → n .source ≡ 0 → false ≡ sameName payload d2 n slashes text
+    absent-same text e = none-same text (source-absent e)
+
+    pub past-same : (text : List ℕ) → 3 < n .source → false ≡ sameName payload d2 n slashes text
+    past-same text e = none-same text (source-past e)
+
+    some-same : (text : List ℕ) (t : Text) → sourceText payload d2 n ≡ some t
+        → sameName payload d2 n slashes text ≡ same (printed slashes (prefixOf (n .operation)) ++ map (changed (changeOf n slashes)) t) text
+    unfolding sameName nameText
+    some-same text t e = rw e (ap (λ (u : Text). same u text) (stepped-is n t slashes))
+
+    pub missing-same : (text : List ℕ) → 0 < n .source → n .source ≤ 3
+        → ((t : Text) → same (printed slashes (prefixOf (n .operation)) ++ t) text ≡ false) → false ≡ sameName payload d2 n slashes text
+    missing-same text g h p =
+        let s = source-there g h in
+        sym (some-same text (s .0) (s .1) ∙ p (map (changed (changeOf n slashes)) (s .0)))
+
+    pub rest-same : (text : List ℕ) (at : ℕ) {h : Change} {r : Bool} → 0 < n .source → n .source ≤ 3
+        → ((t : Text) → same (printed slashes (prefixOf (n .operation)) ++ t) text ≡ same t (drop at text))
+        → h ≡ changeOf n slashes → r ≡ sameSource h (sourceText payload d2 n) text at → r ≡ sameName payload d2 n slashes text
+    rest-same text at g i p e f =
+        let s = source-there g i in
+        f
+        ∙ ap (λ (k : Change). sameSource k (sourceText payload d2 n) text at) e
+        ∙ ap (λ (o : Option Text). sameSource (changeOf n slashes) o text at) (s .1)
+        ∙ sym (some-same text (s .0) (s .1) ∙ p (map (changed (changeOf n slashes)) (s .0)))
+
+    -- by the change that the code made
+    pub name-parts : {h : Change} → h ≡ changeOf n slashes → 0 < n .source → n .source ≤ 3
+        → nameBytes payload d2 n slashes ≡ utf8 (printed slashes (prefixOf (n .operation))) ++ sourceBytes h (sourceText payload d2 n)
+    name-parts e g i =
+        name-bytes g i
+        ∙ ap (λ (k : Change). utf8 (printed slashes (prefixOf (n .operation))) ++ sourceBytes k (sourceText payload d2 n)) (sym e)
+
+pub source-some : (h : Change) {o : Option Text} {t : Text} → o ≡ some t → changedBytes h t ≡ sourceBytes h o
+source-some h e = ap (sourceBytes h) (sym e)
+
+-- What operation 2 puts in front, and its bytes.
+module _ (operation : ℕ) (slashes : Bool) where
+  pub front-none : (operation ≡ 2 → ⊥) → printed slashes (prefixOf operation) ≡ []
+  front-none f = rw (ne-eqb operation 2 f) (go slashes)
+    where
+      go : (b : Bool) → printed b [] ≡ []
+      go true = refl
+      go false = refl
+
+  pub front-slashes : operation ≡ 2 → slashes ≡ true → printed slashes (prefixOf operation) ≡ ascii "kotlin/collections/"
+  front-slashes e f = rw (e, f)
+
+  pub front-dots : operation ≡ 2 → slashes ≡ false → printed slashes (prefixOf operation) ≡ ascii "kotlin.collections."
+  front-dots e f = rw (e, f)
+
+  pub prefix-none : (operation ≡ 2 → ⊥) → utf8 (printed slashes (prefixOf operation)) ≡ []
+  unfolding utf8
+  prefix-none f = ap utf8 (front-none f)
+
+  pub prefix-slashes : operation ≡ 2 → slashes ≡ true → utf8 (printed slashes (prefixOf operation)) ≡ ascii "kotlin/collections/"
+  unfolding utf8 utf8Of
+  prefix-slashes e f = ap utf8 (front-slashes e f)
+
+  pub prefix-dots : operation ≡ 2 → slashes ≡ false → utf8 (printed slashes (prefixOf operation)) ≡ ascii "kotlin.collections."
+  unfolding utf8 utf8Of
+  prefix-dots e f = ap utf8 (front-dots e f)

@@ -1,0 +1,141 @@
+-- Texts written character by character.
+-- Assumes nothing.
+use mathlib.Core.Path.{_≡_, refl, ap, sym, subst, _∙_}
+use mathlib.Core.Bool.{Bool, true, false}
+use mathlib.Core.List.{List, [], _∷_, _++_, map}
+use mathlib.Core.Option.{Option, none, some}
+use Prim.Native.Nat.{ℕ, _+_, _-_, _*_, _≤_, _<_}
+use native.Mathlib.Omega.{arith}
+use lib.Dec.{eqb}
+use lib.ListN.{length, take, drop, length-append, length-map, length-take, length-drop}
+use lib.Seq.{sets, length-sets}
+use Rattle.foundation.specs.Choices.{if_then_else_, IfSome}
+use Rattle.foundation.specs.Texts.{Text, ascii}
+use Rattle.foundation.proofs.ChoiceLaws.{if-ind}
+use Rattle.foundation.proofs.OverlayLaws.{sets-then}
+use Rattle.names.specs.Characters.{utf8Of, utf8, fromUtf8, fromUtf16, partFrom}
+use Rattle.names.specs.Told.{PutCharacter}
+use Rattle.names.specs.Name.{predefinedList, sourceText}
+use Rattle.names.specs.Stream.{changed, changeOf, prefixOf, printed, changedBytes, sourceBytes, nameBytes, PutText}
+use Rattle.names.specs.declared.name.Name.{Name}
+use Rattle.names.specs.declared.name.Change.{Change}
+use Rattle.names.proofs.Utf8Laws.{utf8-length}
+use Rattle.names.proofs.LengthLaws.{bytes-most, fromUtf8-length, fromUtf16-length}
+use Rattle.names.proofs.WriteLaws.{put-next}
+use Rattle.names.proofs.NameLaws.{none-bytes, some-bytes}
+
+-- Of a whole text, written from `at` on over the area A₀, the rest is to be written from `to` on over A.
+pub record Streaming (h : Change) (whole rest : Text) (at to : ℕ) (A₀ A : List ℕ) : Type 0 where
+  pub place : to + length (changedBytes h rest) ≡ at + length (changedBytes h whole)
+  pub written : sets A to (changedBytes h rest) ≡ sets A₀ at (changedBytes h whole)
+  pub kept : length A ≡ length A₀
+
+pub streaming-start : (h : Change) (t : Text) (at : ℕ) (A : List ℕ) → Streaming h t t at at A A
+streaming-start h t at A = record { place = refl; written = refl; kept = refl }
+
+module _ {h : Change} {whole rest : Text} {at to : ℕ} {A₀ A : List ℕ} (s : Streaming h whole rest at to A₀ A) where
+  pub streaming-end : rest ≡ [] → PutText (changedBytes h whole) at to A₀ A
+  unfolding utf8
+  streaming-end e =
+      let p : changedBytes h rest ≡ [] = ap (changedBytes h) e in
+      record {
+        place = let q = ap length p in omega (arith, s .place);
+        written = ap (sets A to) (sym p) ∙ s .written;
+      }
+
+  module _ (rest′ : Text) {code c size : ℕ} {A′ : List ℕ} (e : rest ≡ code ∷ rest′) (f : c ≡ changed h code) (p : PutCharacter c to size A A′) where
+    bytes-are : changedBytes h rest ≡ utf8Of c ++ changedBytes h rest′
+    unfolding utf8
+    bytes-are = ap (changedBytes h) e ∙ ap (λ (x : ℕ). utf8Of x ++ changedBytes h rest′) (sym f)
+
+    size-is : size ≡ length (utf8Of c)
+    size-is = p .bytes ∙ sym (utf8-length c)
+
+    place-is : to + size + length (changedBytes h rest′) ≡ at + length (changedBytes h whole)
+    place-is = let q = ap length bytes-are ∙ length-append (utf8Of c) (changedBytes h rest′) in omega (arith, size-is, s .place)
+
+    pub streaming-fits : (K : ℕ) → at + length (changedBytes h whole) < K → to + size < K
+    streaming-fits K l = omega (arith, place-is)
+
+    pub streaming-next : Streaming h whole rest′ at (to + size) A₀ A′
+    unfolding utf8
+    streaming-next = record {
+      place = place-is;
+      written =
+          sym (put-next c to (map (changed h) rest′) A p) ∙ ap (sets A to) (sym bytes-are) ∙ s .written;
+      kept = ap length (p .written) ∙ simp length-sets (s .kept);
+    }
+
+-- Bytes written, and more after them.
+pub text-none : (at : ℕ) (A : List ℕ) {bytes : List ℕ} → bytes ≡ [] → PutText bytes at at A A
+text-none at A e = record { place = let q = ap length e in omega arith; written = ap (sets A at) (sym e) }
+
+pub text-then : {p q : List ℕ} {at next after : ℕ} {A B C : List ℕ} → PutText p at next A B → PutText q next after B C → PutText (p ++ q) at after A C
+text-then {p} {q} {at} {next} {after} {A} {B} {C} f g = record {
+  place = g .place ∙ omega (arith, f .place, length-append p q);
+  written = sets-then p q A at (f .written) (f .place) (g .written);
+}
+
+pub text-same : {p q : List ℕ} {at next : ℕ} {A B : List ℕ} → p ≡ q → PutText p at next A B → PutText q at next A B
+text-same {p} {q} {at} {next} {A} {B} e f = subst (λ (x : List ℕ). PutText x at next A B) e f
+
+-- Bytes that fit, by their length.
+pub fits-same : {p q : List ℕ} (K at : ℕ) → p ≡ q → at + length q < K → at + length p < K
+fits-same K at e h = let f = ap length e in omega arith
+
+pub fits-first : (p q : List ℕ) {b : List ℕ} (K at : ℕ) → b ≡ p ++ q → at + length b < K → at + length p < K
+fits-first p q K at e h = let f = ap length e ∙ length-append p q in omega arith
+
+pub fits-then : {p : List ℕ} (q : List ℕ) {b : List ℕ} (K at : ℕ) {next : ℕ} {A B : List ℕ} → b ≡ p ++ q → PutText p at next A B → at + length b < K
+    → next + length q < K
+fits-then {p} q K at e f h = let g = ap length e ∙ length-append p q in omega (arith, f .place)
+
+pub text-whole : {p q : List ℕ} (at : ℕ) {A B : List ℕ} → p ≡ q → B ≡ sets A at q → PutText p at (at + length q) A B
+text-whole at {A} e f = record { place = let g = ap length e in omega arith; written = f ∙ ap (sets A at) (sym e) }
+
+-- How long a name can be.
+changed-most : (h : Change) (t : Text) → length (changedBytes h t) ≤ 4 * length t
+changed-most h t = omega (arith, bytes-most (map (changed h) t), length-map t (changed h))
+
+prefix-most : (operation : ℕ) (slashes : Bool) → length (utf8 (printed slashes (prefixOf operation))) ≤ 19
+unfolding utf8 utf8Of
+prefix-most operation slashes = go (eqb operation 2) slashes
+  where
+    go : (two s : Bool) → length (utf8 (printed s (if two then ascii "kotlin.collections." else []))) ≤ 19
+    go true true = omega arith
+    go true false = omega arith
+    go false true = omega arith
+    go false false = omega arith
+
+module _ (payload d2 : List ℕ) (n : Name) where
+  abbrev most : ℕ
+  most = length payload + length d2 + 878
+
+  list-most : length predefinedList ≤ 878
+  unfolding predefinedList
+  list-most = omega arith
+
+  part-most : (l : List ℕ) → length (partFrom (n .start) (n .end) l) ≤ length l
+  part-most l = omega (arith, length-take (n .end - n .start) (drop (n .start) l), length-drop (n .start) l)
+
+  source-most : IfSome (λ t. length t ≤ most) (sourceText payload d2 n)
+  unfolding sourceText
+  source-most =
+      let P : Option Text → Type 0 = IfSome λ t. length t ≤ most in
+      let s : (l : List ℕ) → length l ≤ most → length (fromUtf8 (partFrom (n .start) (n .end) l)) ≤ most =
+      λ l h. omega (arith, fromUtf8-length 0 (partFrom (n .start) (n .end) l), part-most l) in
+      if-ind P (eqb (n .source) 1) (λ e. s payload (omega arith)) λ e.
+      if-ind P (eqb (n .source) 2) (λ e. s predefinedList (omega (arith, list-most))) λ e.
+      if-ind P (eqb (n .source) 3) (λ e. omega (arith, fromUtf16-length (partFrom (n .start) (n .end) d2), part-most d2)) λ e. tt
+
+  pub name-most : (slashes : Bool) → length (nameBytes payload d2 n slashes) ≤ 4 * most + 19
+  name-most slashes = go (sourceText payload d2 n) refl source-most
+    where
+      go : (o : Option Text) → sourceText payload d2 n ≡ o → IfSome (λ t. length t ≤ most) o → length (nameBytes payload d2 n slashes) ≤ 4 * most + 19
+      go none e h = omega (arith, ap length (none-bytes payload d2 n slashes e))
+      go (some t) e h =
+          let p = utf8 (printed slashes (prefixOf (n .operation))) in
+          let c = changeOf n slashes in
+          let b : nameBytes payload d2 n slashes ≡ p ++ changedBytes c t =
+          some-bytes payload d2 n slashes t e ∙ ap (λ (o : Option Text). p ++ sourceBytes c o) e in
+          omega (arith, ap length b ∙ length-append p (changedBytes c t), prefix-most (n .operation) slashes, changed-most c t)

@@ -1,0 +1,33 @@
+-- What the code's Name means: a part of the payload, of the predefined list or of d2, and what is done to its characters.
+-- Assumes nothing.
+use mathlib.Core.Bool.{Bool}
+use mathlib.Core.List.{List, map}
+use mathlib.Core.Option.{Option, none, some}
+use Prim.Native.Nat.{ℕ}
+use lib.Dec.{eqb}
+use Rattle.foundation.specs.Choices.{if_then_else_, mapOption, concat}
+use Rattle.foundation.specs.Texts.{Text, ascii}
+use Rattle.names.specs.Characters.{fromUtf8, fromUtf16, partFrom}
+use Rattle.names.specs.Records.{predefinedStrings, substituted, operated, dotted}
+use Rattle.names.specs.declared.name.Name.{Name}
+
+-- the predefined strings one after the other
+unfoldable pub predefinedList : List ℕ
+predefinedList = concat (map ascii predefinedStrings)
+
+-- the characters that a name is made of
+unfoldable pub sourceText : List ℕ → List ℕ → Name → Option Text
+sourceText payload d2 n =
+    let units = if eqb (n .source) 3 then some (fromUtf16 (partFrom (n .start) (n .end) d2)) else none in
+    let listed = if eqb (n .source) 2 then some (fromUtf8 (partFrom (n .start) (n .end) predefinedList)) else units in
+    if eqb (n .source) 1 then some (fromUtf8 (partFrom (n .start) (n .end) payload)) else listed
+
+-- replacement, operation, and dots in a class name
+abbrev pub steppedBy : Name → Text → Text
+steppedBy n t =
+    let it = operated (n .operation) (substituted (n .from) (n .to) t) in
+    if n .qualified then dotted it else it
+
+-- the name's text, absent if it has no source
+unfoldable pub nameText : List ℕ → List ℕ → Name → Option Text
+nameText payload d2 n = mapOption (steppedBy n) (sourceText payload d2 n)

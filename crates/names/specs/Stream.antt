@@ -1,0 +1,96 @@
+-- What the code does with a name, in the definitions' words.
+-- Assumes nothing.
+use mathlib.Core.Bool.{Bool, true, false, _&&_, _||_}
+use mathlib.Core.Path.{_≡_}
+use mathlib.Core.List.{List, [], _∷_, _++_, map}
+use mathlib.Core.Option.{Option, none, some}
+use Prim.Native.Nat.{ℕ, _+_}
+use lib.Dec.{eqb}
+use lib.ListN.{length, drop}
+use lib.Seq.{sets}
+use Rattle.foundation.specs.Choices.{if_then_else_, ifSome}
+use Rattle.foundation.specs.Texts.{Text, ascii, same}
+use Rattle.names.specs.Characters.{fromUtf8, utf8, partFrom}
+use Rattle.names.specs.Name.{predefinedList, nameText}
+use Rattle.names.specs.Records.{INTERNAL-TO-CLASS-ID, DESC-TO-CLASS-ID, substituted}
+use Rattle.names.specs.declared.name.Name.{Name}
+use Rattle.names.specs.declared.name.Change.{Change}
+use Rattle.names.specs.declared.stream.Prefix.{Prefix}
+use Rattle.names.specs.declared.stream.Prefix.the-variants.{Ends, Missing}
+use Rattle.names.specs.declared.name.Listed.{Listed}
+use Rattle.names.specs.declared.name.Listed.the-variants.{Part, Nothing}
+
+-- the predefined string that is a part of the list
+abbrev pub listedText : Listed → Option Text
+listedText (Part start end) = some (fromUtf8 (partFrom start end predefinedList))
+listedText Nothing = none
+
+-- the bytes that a part is taken of
+abbrev pub baseOf : ℕ → List ℕ → List ℕ → List ℕ
+baseOf source payload list = if eqb source 2 then list else payload
+
+-- what a name's steps do to each character, with slashes for dots if they are asked for
+abbrev pub changeOf : Name → Bool → Change
+changeOf n slashes = record {
+  from = n .from;
+  to = n .to;
+  dots = eqb (n .operation) INTERNAL-TO-CLASS-ID || n .qualified;
+  slashes = slashes;
+}
+
+abbrev pub instead : ℕ → ℕ → ℕ → ℕ
+instead from to c = if eqb c from then to else c
+
+abbrev pub withDots : Bool → ℕ → ℕ
+withDots dots c = if dots then instead 0x2f 0x2e (instead 0x24 0x2e c) else c
+
+abbrev pub withSlashes : Bool → ℕ → ℕ
+withSlashes slashes c = if slashes then instead 0x2e 0x2f c else c
+
+unfoldable pub changed : Change → ℕ → ℕ
+changed h c = withSlashes (h .slashes) (withDots (h .dots) (instead (h .from) (h .to) c))
+
+-- the text that operation 2 puts in front
+abbrev pub prefixOf : ℕ → Text
+prefixOf operation = if eqb operation DESC-TO-CLASS-ID then ascii "kotlin.collections." else []
+
+-- a text, with slashes for dots if they are asked for
+abbrev pub printed : Bool → Text → Text
+printed slashes t = if slashes then substituted 0x2e 0x2f t else t
+
+-- a text in UTF-8, each character changed
+abbrev pub changedBytes : Change → Text → List ℕ
+changedBytes h t = utf8 (map (changed h) t)
+
+abbrev pub sourceBytes : Change → Option Text → List ℕ
+sourceBytes h t = ifSome t [] (changedBytes h)
+
+-- a name's text in UTF-8, with slashes for dots if they are asked for; nothing if it is absent
+unfoldable pub nameBytes : List ℕ → List ℕ → Name → Bool → List ℕ
+nameBytes payload d2 n slashes = ifSome (nameText payload d2 n) [] λ t. utf8 (printed slashes t)
+
+-- Bytes were written at a place of an area, and `next` is the place after them.
+pub record PutText (bytes : List ℕ) (at next : ℕ) (before after : List ℕ) : Type 0 where
+  pub place : next ≡ at + length bytes
+  pub written : after ≡ sets before at bytes
+
+-- is a text, each character changed, what another holds from a place on?
+abbrev pub sameFrom : Change → Text → List ℕ → ℕ → Bool
+sameFrom h t text from = same (map (changed h) t) (drop from text)
+
+abbrev pub begins : List ℕ → List ℕ → Bool
+begins [] text = true
+begins (a ∷ p) [] = false
+begins (a ∷ p) (b ∷ text) = eqb a b && begins p text
+
+-- Where in a text what stands in front of another ends: what that says of any text with it in front.
+abbrev pub PrefixTold : Text → List ℕ → Prefix → Type 0
+PrefixTold p text (Ends at) = (t : Text) → same (p ++ t) text ≡ same t (drop at text)
+PrefixTold p text Missing = (t : Text) → same (p ++ t) text ≡ false
+
+abbrev pub sameSource : Change → Option Text → List ℕ → ℕ → Bool
+sameSource h o text from = ifSome o false λ t. sameFrom h t text from
+
+-- is a name there, and its text, with slashes for dots if they are asked for, this one?
+unfoldable pub sameName : List ℕ → List ℕ → Name → Bool → List ℕ → Bool
+sameName payload d2 n slashes text = ifSome (nameText payload d2 n) false λ t. same (printed slashes t) text

@@ -1,0 +1,333 @@
+// The records of the name table, read from their messages, and their index. The definitions: specs/Records.antt, specs/Index.antt; how
+// the answers tell them: specs/RecordTold.antt.
+ghost use mathlib.Core.Path.{_≡_};
+ghost use Prim.Native.Nat.{ℕ, _+_, _≤_, _<_};
+ghost use lib.ListN.{length, set};
+ghost use Rattle.foundation.specs.Choices.{ifSome};
+ghost use Rattle.foundation.specs.Results.{ok, _from_};
+ghost use Rattle.wire.specs.Wire.{cut, Message};
+ghost use Rattle.wire.specs.Messages.{varints};
+ghost use Rattle.wire.specs.Asked.{FoundTold, indexTold};
+ghost use Rattle.wire.specs.Told.{restOf};
+ghost use Rattle.names.specs.Records.{served, twoOf};
+ghost use Rattle.names.specs.Index.{NotedTold, IndexTold};
+ghost use Rattle.names.specs.RecordTold.{firstSeen, withField, FirstsTold, numberIn, indexIn, operationIn, pieceIn, bothOf, RecordTold};
+use wire::FieldStep;
+use wire::WireError;
+use wire::WireValue;
+use wire::field_at;
+use wire::message::Checked;
+use wire::message::Found;
+use wire::message::Indexed;
+use wire::message::Number;
+use wire::message::Piece;
+use wire::message::check_from;
+use wire::message::index;
+use wire::message::next_body;
+use wire::repeated::FirstTwo;
+use wire::repeated::Two;
+use wire::repeated::check_varints;
+use wire::repeated::first_two;
+
+// Field numbers of jvm_metadata.proto's StringTableTypes.Record.
+const RANGE: u32 = 1;
+
+const PREDEFINED_INDEX: u32 = 2;
+
+const OPERATION: u32 = 3;
+
+const SUBSTRING_INDEX: u32 = 4;
+
+const REPLACE_CHAR: u32 = 5;
+
+const STRING: u32 = 6;
+
+// The first occurrence of each field of a record.
+struct Firsts {
+    range: Found,
+    predefined: Found,
+    operation: Found,
+    substring: Found,
+    replaced: Found,
+    string: Found,
+}
+
+// The first occurrence of a field that is asked for, after one more field.
+fn first_seen(asked: u32, seen: Found, number: u32, value: WireValue) -> Found
+    ensures { λ r. ⌜ r ≡ firstSeen asked seen number value ⌝ }
+{
+    if number != asked {
+        return seen;
+    }
+    let Found::Nothing = seen else {
+        return seen;
+    };
+    Found::Value { value }
+}
+
+impl Firsts {
+    fn with_field(self, number: u32, value: WireValue) -> Firsts
+        ensures { λ r. ⌜ r ≡ withField self number value ⌝ }
+    {
+        let range = self.range;
+        let predefined = self.predefined;
+        let operation = self.operation;
+        let substring = self.substring;
+        let replaced = self.replaced;
+        let string = self.string;
+        Firsts {
+            range: first_seen(RANGE, range, number, value),
+            predefined: first_seen(PREDEFINED_INDEX, predefined, number, value),
+            operation: first_seen(OPERATION, operation, number, value),
+            substring: first_seen(SUBSTRING_INDEX, substring, number, value),
+            replaced: first_seen(REPLACE_CHAR, replaced, number, value),
+            string: first_seen(STRING, string, number, value),
+        }
+    }
+}
+
+// One walk of a record's message.
+fn firsts_in(s: &[u8], base: u32) -> Firsts
+    ensures { λ r. ⌜ FirstsTold base (now (s .entry)) r ⌝ }
+{
+    let mut firsts = Firsts {
+        range: Found::Nothing,
+        predefined: Found::Nothing,
+        operation: Found::Nothing,
+        substring: Found::Nothing,
+        replaced: Found::Nothing,
+        string: Found::Nothing,
+    };
+    let mut at = 0;
+    while at < s.len() {
+        let step = field_at(s, base, at);
+        let FieldStep::Field {
+            number,
+            value,
+            next,
+        } = step
+        else {
+            return firsts;
+        };
+        firsts = firsts.with_field(number, value);
+        at = next;
+    }
+    firsts
+}
+
+fn number_in(found: Found) -> Number
+    ensures { λ r. ⌜ r ≡ numberIn found ⌝ }
+{
+    let Found::Value { value } = found else {
+        return Number::Nothing;
+    };
+    value.varint()
+}
+
+fn piece_in(found: Found) -> Piece
+    ensures { λ r. ⌜ r ≡ pieceIn found ⌝ }
+{
+    let Found::Value { value } = found else {
+        return Piece::Nothing;
+    };
+    value.bytes()
+}
+
+fn index_in(found: Found) -> Indexed
+    ensures { λ r. ⌜ indexTold r ≡ indexIn found ⌝ }
+{
+    let number = number_in(found);
+    let Number::Value { value } = number else {
+        return Indexed::Nothing;
+    };
+    if 4294967295 < value {
+        return Indexed::Nothing;
+    }
+    Indexed::At {
+        index: value as u32,
+    }
+}
+
+// How many indices a record serves: range 0 counts as 1, and so does no range.
+fn served(range: Indexed) -> u32
+    ensures { λ r. ⌜ r ≡ served (indexTold range) ⌝ }
+{
+    let Indexed::At { index } = range else {
+        return 1;
+    };
+    if index == 0 {
+        return 1;
+    }
+    index
+}
+
+fn operation_in(found: Found) -> u64
+    ensures { λ r. ⌜ r ≡ operationIn found ⌝ }
+{
+    let number = number_in(found);
+    let Number::Value { value } = number else {
+        return 0;
+    };
+    value
+}
+
+// A step's two numbers. Errors in its values, or fewer than two of them, mean that the step isn't taken.
+fn two_in(s: &[u8], base: u32, number: u32, found: Found) -> Two
+    ensures { λ r. ⌜ (FoundTold base (now (s .entry)) number found → (m : Message) → cut (_from_ base (now (s .entry))) ≡ ok m → twoOf (varints number m) ≡ bothOf r) ⌝ }
+{
+    let Found::Value { value: _ } = found else {
+        return Two::Neither;
+    };
+    let numbers = first_two(s, base, number);
+    let FirstTwo::Numbers { two } = numbers else {
+        return Two::Neither;
+    };
+    two
+}
+
+pub struct Record {
+    pub range: u32,
+    // its place in the slice that was read
+    pub string: Piece,
+    pub predefined: Indexed,
+    pub operation: u64,
+    // the step is taken if both numbers are there
+    pub substring: Two,
+    pub replaced: Two,
+}
+
+// The record of a message that is cut.
+pub fn record_in(s: &[u8], base: u32) -> Record
+    ensures { λ r. ⌜ RecordTold base (now (s .entry)) r ⌝ }
+{
+    let firsts = firsts_in(s, base);
+    let range = firsts.range;
+    let predefined = firsts.predefined;
+    let operation = firsts.operation;
+    let substring = firsts.substring;
+    let replaced = firsts.replaced;
+    let string = firsts.string;
+    Record {
+        range: served(index_in(range)),
+        string: piece_in(string),
+        predefined: index_in(predefined),
+        operation: operation_in(operation),
+        substring: two_in(s, base, SUBSTRING_INDEX, substring),
+        replaced: two_in(s, base, REPLACE_CHAR, replaced),
+    }
+}
+
+// Field numbers of StringTableTypes.
+const RECORD: u32 = 1;
+
+const LOCAL_NAME: u32 = 5;
+
+pub enum RecordIndex {
+    Records { count: usize },
+    NoRoom,
+    Refused { error: WireError },
+}
+
+fn least(a: usize, b: usize) -> usize
+    ensures { λ r. ⌜ (r ≤ a) × (r ≤ b) × ((c : ℕ) → c ≤ a → c ≤ b → c ≤ r) ⌝ }
+{
+    if a < b {
+        return a;
+    }
+    b
+}
+
+// The entries of record `count`, which ends where the index `next` begins.
+fn put_entry(
+    starts: &mut [u32],
+    ends: &mut [u32],
+    firsts: &mut [u64],
+    count: usize,
+    start: u32,
+    end: u32,
+    next: u64,
+)
+    requires { ⌜ (count < length (now starts)) × (count < length (now ends)) × (count + 1 < length (now firsts)) ⌝ }
+    ensures { λ _. ⌜ (now (starts .exit) ≡ set (now (starts .entry)) count start) × (now (ends .exit) ≡ set (now (ends .entry)) count end) × (now (firsts .exit) ≡ set (now (firsts .entry)) (count + 1) next) ⌝ }
+{
+    starts[count] = start;
+    ends[count] = end;
+    firsts[count + 1] = next;
+}
+
+// Cuts the records of the name table in `bytes` from `at` on, and notes for each where it stands and the first index that it serves.
+fn note_records(
+    bytes: &[u8],
+    at: usize,
+    starts: &mut [u32],
+    ends: &mut [u32],
+    firsts: &mut [u64],
+) -> RecordIndex
+    ensures { λ r. ⌜ ((m : Message) → cut (restOf 0 (now (bytes .entry)) at) ≡ ok m → NotedTold (now (bytes .entry)) at m (now (starts .exit)) (now (ends .exit)) (now (firsts .exit)) r) ⌝ }
+{
+    if firsts.len() == 0 {
+        return RecordIndex::NoRoom;
+    }
+    if 4294967295 < bytes.len() {
+        return RecordIndex::NoRoom;
+    }
+    let room = least(least(starts.len(), ends.len()), firsts.len() - 1);
+    firsts[0] = 0;
+    let mut total: u64 = 0;
+    let mut count: usize = 0;
+    let mut i = at;
+    while i < bytes.len() {
+        let piece = next_body(bytes, 0, RECORD, i);
+        let Piece::Body { start, end } = piece else {
+            return RecordIndex::Records { count };
+        };
+        let checked = check_from(&bytes[..end], 0, start);
+        let Checked::Whole = checked else {
+            return RecordIndex::Refused {
+                error: checked.error(),
+            };
+        };
+        if room <= count {
+            return RecordIndex::NoRoom;
+        }
+        let range = served(index(&bytes[start..end], start as u32, RANGE));
+        total += range as u64;
+        put_entry(starts, ends, firsts, count, start as u32, end as u32, total);
+        count += 1;
+        i = end;
+    }
+    RecordIndex::Records { count }
+}
+
+// The index of a name table: `bytes` are the decoded ones up to its end, and it begins at `at`. An error in the local names refuses after
+// all records are cut.
+pub fn index_records(
+    bytes: &[u8],
+    at: usize,
+    starts: &mut [u32],
+    ends: &mut [u32],
+    firsts: &mut [u64],
+) -> RecordIndex
+    ensures { λ r. ⌜ ((m : Message) → cut (restOf 0 (now (bytes .entry)) at) ≡ ok m → IndexTold (now (bytes .entry)) at m (now (starts .exit)) (now (ends .exit)) (now (firsts .exit)) r) ⌝ }
+{
+    if bytes.len() < at {
+        return RecordIndex::NoRoom;
+    }
+    if 4294967295 < at {
+        return RecordIndex::NoRoom;
+    }
+    let noted = note_records(bytes, at, starts, ends, firsts);
+    match noted {
+        RecordIndex::Records { count } => {
+            let checked = check_varints(&bytes[at..], at as u32, LOCAL_NAME);
+            let Checked::Whole = checked else {
+                return RecordIndex::Refused {
+                    error: checked.error(),
+                };
+            };
+            RecordIndex::Records { count }
+        }
+        RecordIndex::NoRoom => RecordIndex::NoRoom,
+        RecordIndex::Refused { error } => RecordIndex::Refused { error },
+    }
+}

@@ -1,0 +1,251 @@
+// Names written: straight from their source into the text area, character by character.
+use crate::Character;
+use crate::name::Change;
+use crate::name::Name;
+use crate::name::PREDEFINED;
+use crate::name::base_part;
+use crate::name::change_of;
+use crate::name::character_of;
+ghost use mathlib.Core.Path.{_≡_};
+ghost use Prim.Native.Nat.{_+_, _^_, _≤_, _<_};
+ghost use lib.ListN.{length};
+ghost use Rattle.names.specs.Characters.{fromUtf8, fromUtf16, utf8, partFrom};
+ghost use Rattle.names.specs.Name.{sourceText};
+ghost use Rattle.names.specs.Stream.{changedBytes, sourceBytes, nameBytes, PutText, prefixOf, printed, sameFrom, begins, PrefixTold, sameSource, sameName};
+
+// The text of some bytes, each character changed. Answers the place after it.
+fn put_bytes(s: &[u8], change: Change, area: &mut [u8], at: usize) -> usize
+    requires { ⌜ at + length (changedBytes change (fromUtf8 (now s))) < 2 ^ 64 ⌝ }
+    ensures { λ r. ⌜ PutText (changedBytes change (fromUtf8 (now (s .entry)))) at r (now (area .entry)) (now (area .exit)) ⌝ }
+{
+    let mut i = 0;
+    let mut to = at;
+    loop {
+        let character = crate::utf8_at(s, i);
+        let Character::Read { code, next } = character else {
+            return to;
+        };
+        let size = crate::put_character(area, to, character_of(change, code));
+        to += size;
+        i = next;
+    }
+}
+
+// The same of units of d2.
+fn put_units(
+    units: &[u16],
+    start: usize,
+    end: usize,
+    change: Change,
+    area: &mut [u8],
+    at: usize,
+) -> usize
+    requires { ⌜ at + length (changedBytes change (fromUtf16 (partFrom start end (now units)))) < 2 ^ 64 ⌝ }
+    ensures { λ r. ⌜ PutText (changedBytes change (fromUtf16 (partFrom start end (now (units .entry))))) at r (now (area .entry)) (now (area .exit)) ⌝ }
+{
+    let mut i = start;
+    let mut to = at;
+    loop {
+        let character = crate::utf16_at(units, i, end);
+        let Character::Read { code, next } = character else {
+            return to;
+        };
+        let size = crate::put_character(area, to, character_of(change, code));
+        to += size;
+        i = next;
+    }
+}
+
+// What operation 2 puts in front.
+fn put_prefix(operation: u8, slashes: bool, area: &mut [u8], at: usize) -> usize
+    requires { ⌜ at + length (utf8 (printed slashes (prefixOf operation))) < 2 ^ 64 ⌝ }
+    ensures { λ r. ⌜ PutText (utf8 (printed slashes (prefixOf operation))) at r (now (area .entry)) (now (area .exit)) ⌝ }
+{
+    if operation != 2 {
+        return at;
+    }
+    if slashes {
+        sheet::put_all(area, at, b"kotlin/collections/");
+        return at + 19;
+    }
+    sheet::put_all(area, at, b"kotlin.collections.");
+    at + 19
+}
+
+// The characters of a name's source, changed.
+fn put_source(
+    payload: &[u8],
+    d2: &[u16],
+    name: Name,
+    change: Change,
+    area: &mut [u8],
+    at: usize,
+) -> usize
+    requires { ⌜ (0 < name .source) × (name .source ≤ 3) × (at + length (sourceBytes change (sourceText (now payload) (now d2) name)) < 2 ^ 64) ⌝ }
+    ensures { λ r. ⌜ PutText (sourceBytes change (sourceText (now (payload .entry)) (now (d2 .entry)) name)) at r (now (area .entry)) (now (area .exit)) ⌝ }
+{
+    let source = name.source;
+    let start = name.start;
+    let end = name.end;
+    if source == 3 {
+        return put_units(d2, start, end, change, area, at);
+    }
+    let base = base_part(payload, &PREDEFINED, source, start, end);
+    put_bytes(base, change, area, at)
+}
+
+// A name's text in UTF-8, as far as the area goes; an absent one has none. Answers the place after it.
+pub fn put_name(
+    payload: &[u8],
+    d2: &[u16],
+    name: Name,
+    slashes: bool,
+    area: &mut [u8],
+    at: usize,
+) -> usize
+    requires { ⌜ at + length (nameBytes (now payload) (now d2) name slashes) < 2 ^ 64 ⌝ }
+    ensures { λ r. ⌜ PutText (nameBytes (now (payload .entry)) (now (d2 .entry)) name slashes) at r (now (area .entry)) (now (area .exit)) ⌝ }
+{
+    let source = name.source;
+    if source == 0 {
+        return at;
+    }
+    if 3 < source {
+        return at;
+    }
+    let change = change_of(name, slashes);
+    let next = put_prefix(name.operation, slashes, area, at);
+    put_source(payload, d2, name, change, area, next)
+}
+
+// Is the text of some bytes, each character changed, what `text` holds from a place on?
+fn same_bytes(s: &[u8], change: Change, text: &[u8], from: usize) -> bool
+    ensures { λ r. ⌜ r ≡ sameFrom change (fromUtf8 (now (s .entry))) (now (text .entry)) from ⌝ }
+{
+    let mut i = 0;
+    let mut k = from;
+    loop {
+        let character = crate::utf8_at(s, i);
+        let Character::Read { code, next } = character else {
+            return text.len() <= k;
+        };
+        if text.len() <= k {
+            return false;
+        }
+        if character_of(change, code) != crate::wide(text[k]) {
+            return false;
+        }
+        i = next;
+        k += 1;
+    }
+}
+
+// The same of units of d2.
+fn same_units(
+    units: &[u16],
+    start: usize,
+    end: usize,
+    change: Change,
+    text: &[u8],
+    from: usize,
+) -> bool
+    ensures { λ r. ⌜ r ≡ sameFrom change (fromUtf16 (partFrom start end (now (units .entry)))) (now (text .entry)) from ⌝ }
+{
+    let mut i = start;
+    let mut k = from;
+    loop {
+        let character = crate::utf16_at(units, i, end);
+        let Character::Read { code, next } = character else {
+            return text.len() <= k;
+        };
+        if text.len() <= k {
+            return false;
+        }
+        if character_of(change, code) != crate::wide(text[k]) {
+            return false;
+        }
+        i = next;
+        k += 1;
+    }
+}
+
+fn begins(text: &[u8], with: &[u8]) -> bool
+    ensures { λ r. ⌜ r ≡ begins (now (with .entry)) (now (text .entry)) ⌝ }
+{
+    let mut i = 0;
+    while i < with.len() {
+        if text.len() <= i {
+            return false;
+        }
+        if with[i] != text[i] {
+            return false;
+        }
+        i += 1;
+    }
+    true
+}
+
+pub enum Prefix {
+    Ends { at: usize },
+    Missing,
+}
+
+// Where in `text` what operation 2 puts in front ends.
+fn skip_prefix(operation: u8, slashes: bool, text: &[u8]) -> Prefix
+    ensures { λ r. ⌜ PrefixTold (printed slashes (prefixOf operation)) (now (text .entry)) r ⌝ }
+{
+    if operation != 2 {
+        return Prefix::Ends { at: 0 };
+    }
+    if slashes {
+        if begins(text, b"kotlin/collections/") {
+            return Prefix::Ends { at: 19 };
+        }
+        return Prefix::Missing;
+    }
+    if begins(text, b"kotlin.collections.") {
+        return Prefix::Ends { at: 19 };
+    }
+    Prefix::Missing
+}
+
+// Are the characters of a name's source, changed, what `text` holds from a place on?
+fn same_source(
+    payload: &[u8],
+    d2: &[u16],
+    name: Name,
+    change: Change,
+    text: &[u8],
+    from: usize,
+) -> bool
+    requires { ⌜ (0 < name .source) × (name .source ≤ 3) ⌝ }
+    ensures { λ r. ⌜ r ≡ sameSource change (sourceText (now (payload .entry)) (now (d2 .entry)) name) (now (text .entry)) from ⌝ }
+{
+    let source = name.source;
+    let start = name.start;
+    let end = name.end;
+    if source == 3 {
+        return same_units(d2, start, end, change, text, from);
+    }
+    let base = base_part(payload, &PREDEFINED, source, start, end);
+    same_bytes(base, change, text, from)
+}
+
+// Is the name there, and `text` its text? The bytes of `text` stand for characters of their number.
+pub fn same_name(payload: &[u8], d2: &[u16], name: Name, slashes: bool, text: &[u8]) -> bool
+    ensures { λ r. ⌜ r ≡ sameName (now (payload .entry)) (now (d2 .entry)) name slashes (now (text .entry)) ⌝ }
+{
+    let source = name.source;
+    if source == 0 {
+        return false;
+    }
+    if 3 < source {
+        return false;
+    }
+    let prefix = skip_prefix(name.operation, slashes, text);
+    let Prefix::Ends { at } = prefix else {
+        return false;
+    };
+    let change = change_of(name, slashes);
+    same_source(payload, d2, name, change, text, at)
+}

@@ -1,0 +1,71 @@
+use mathlib.Core.Path.{_∙_, sym}
+use Prim.Native.Nat.{_≤_, _-_}
+use native.Mathlib.Omega.{arith}
+use lib.ListN.{length}
+use Rattle.names.proofs.UnitLaws.{utf16-inside}
+use borrow.Author.Needs.{needs}
+use Rattle.names_vectors.proofs.print_units.Statement.{statement}
+use Rattle.names_vectors.proofs.print_units.Tie as tie
+use Rattle.names_vectors.proofs.print_units.Reads as reads
+use Rattle.names_vectors.proofs.print_units.Lts as lts
+use Rattle.names.proofs.name.character_of.Reads as character-of-reads
+use Rattle.names.proofs.utf16_at.Reads as utf16-at-reads
+use Rattle.names_vectors.proofs.print_character.Reads as print-character-reads
+
+abbrev Inv-loop : tie.InvT-loop
+Inv-loop units start end change at₀ at = Unit {0}
+
+abbrev μ-loop : tie.MeasureT-loop
+μ-loop units start end change at₀ at = length units - at
+
+-- src/main.rt:137:5
+loop-holds : tie.Need-loop-holds Inv-loop μ-loop
+loop-holds c = tt
+
+-- src/main.rt:138:13
+utf16-at-requires : tie.Need-utf16-at-requires Inv-loop μ-loop
+utf16-at-requires c κs = search needs
+
+-- src/main.rt:139:31
+enum-known-character : tie.Need-enum-known-character Inv-loop μ-loop
+enum-known-character c = search needs
+
+-- src/main.rt:140:13
+enum-told : tie.Need-enum-told Inv-loop μ-loop
+enum-told c = search needs
+
+-- src/main.rt:140:13
+returns : tie.Need-returns Inv-loop μ-loop
+returns c = search needs
+
+-- src/main.rt:142:25
+character-of-requires : tie.Need-character-of-requires Inv-loop μ-loop
+character-of-requires c κs = search needs
+
+-- src/main.rt:142:9
+print-character-requires : tie.Need-print-character-requires Inv-loop μ-loop
+print-character-requires c κs = search needs
+
+-- src/main.rt:137:5
+loop-less : tie.Need-loop-less Inv-loop μ-loop
+loop-less c = let h = utf16-inside (c .before .before .before .before .before .before .before .before .args .units .now) (c .before .before .before .before .before .before .loop .at) (c .before .before .before .before .before .before .before .before .args .end) (sym (c .before .before .before .before .before .utf16-at .ensures) ∙ c .before .before .before .character .given .1) in omega arith
+
+-- src/main.rt:137:5
+loop-again : tie.Need-loop-again Inv-loop μ-loop
+loop-again c = tt
+
+pub print-units-spec : {M : Type 1} → statement M
+print-units-spec =
+    tie.close
+    (tie.spec
+    Inv-loop
+    μ-loop
+    loop-holds
+    utf16-at-requires
+    enum-known-character
+    enum-told
+    returns
+    character-of-requires
+    print-character-requires
+    loop-less
+    loop-again)
