@@ -4,3 +4,8 @@ pub mod Reading
 pub mod Types
 pub mod Members
 pub mod Rows
+pub mod Written
+pub mod Counting
+pub mod Told
+pub mod TypesTold
+pub mod TableTold

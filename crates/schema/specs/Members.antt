@@ -17,8 +17,10 @@ use Rattle.schema.specs.Fields.{
   Class·constructor,
   Class·function,
   Class·property,
+  Class·type-table,
   Package·function,
   Package·property,
+  Package·type-table,
   Constructor·flags,
   Constructor·value-parameter,
   Constructor·constructor-signature,
@@ -72,7 +74,8 @@ smallFlagsIn n m = ifSome (varintOf n m) 0 λ flags. flags
 abbrev pub signed : Text → Text → Signature
 signed n d = record { name = n; descriptor = d }
 
--- What `read` reads once there is a name; without one it is skipped before anything inside it is read.
+-- What `read` reads once there is a name; without one it is skipped before anything inside it is read (metadata.proto requires the
+-- name, and Kotlin's reader refuses the message).
 abbrev pub named : {A : Type 0} → Option Text → (Text → Read A) → Read (Option A)
 named none read = pure none
 named (some name) read = read name >>= λ a. pure (some a)
@@ -186,11 +189,11 @@ membersIn s name flags constructors function property m =
 
 unfoldable pub classBody : Names → Message → Read Declarations
 classBody names m =
-    typeTableIn m >>= λ table.
+    typeTableIn Class·type-table m >>= λ table.
     classNameIn (scope names table) Class·fq-name m >>= λ name.
     listIn (constructorIn (scope names table)) Class·constructor m >>= λ constructors.
     membersIn (scope names table) name (flagsIn Class·flags m) constructors Class·function Class·property m
 
 -- A package has no class name, flags 6 and no constructors.
 unfoldable pub packageBody : Names → Message → Read Declarations
-packageBody names m = typeTableIn m >>= λ table. membersIn (scope names table) none 6 [] Package·function Package·property m
+packageBody names m = typeTableIn Package·type-table m >>= λ table. membersIn (scope names table) none 6 [] Package·function Package·property m

@@ -18,7 +18,6 @@ use Rattle.schema.specs.Fields.{
   Type·Argument·type-id,
   TypeTable·type,
   TypeTable·first-nullable,
-  Class·type-table,
 }
 use Rattle.schema.specs.Declarations.{Ty, typesOf}
 use Rattle.schema.specs.Reading.{Read, pure, _>>=_, lift, enter, kept, TypeTable, Scope, classNameIn, allowance}
@@ -31,7 +30,8 @@ maxDepth = 64
 abbrev pub Walk : Type 0
 Walk = ℕ → Message → Read Ty
 
--- Table entries from first_nullable on are nullable.
+-- Table entries from first_nullable on are nullable, whatever their own flag says; those before it by their own flag (Kotlin's
+-- reader leaves an entry's own flag aside).
 abbrev pub nullableFrom : Option ℕ → ℕ → Ty → Ty
 nullableFrom first i t =
     record { nullable = ifSome first false (λ f. leb f i) || t .nullable; name = t .name; arguments = t .arguments }
@@ -49,7 +49,7 @@ typeIn walk s d inline indexed m =
     lift (message inline m) >>= λ t.
     ifSome t (ifSome (index indexed m) (pure none) (resolveAt walk s d)) λ inner. walk d inner >>= λ it. pure (some it)
 
--- An argument is kept if its type is there.
+-- An argument is kept if its type is there; so a star, which has none, is dropped.
 unfoldable pub argumentIn : Walk → Scope → ℕ → Message → Read (Option Ty)
 argumentIn walk s d m = typeIn walk s d Type·Argument·type Type·Argument·type-id m
 
@@ -75,9 +75,9 @@ declaredType s = typeIn (typeAt allowance s) s 0
 abbrev pub noTable : TypeTable
 noTable = record { types = []; firstNullable = none }
 
--- the type table of a class or package; both have it in field 30
-unfoldable pub typeTableIn : Message → Read TypeTable
-typeTableIn m =
-    lift (message Class·type-table m) >>= λ t.
+-- the type table in field n of a class or package
+unfoldable pub typeTableIn : ℕ → Message → Read TypeTable
+typeTableIn n m =
+    lift (message n m) >>= λ t.
     ifSome t (pure noTable) λ table.
     lift (messages TypeTable·type table) >>= λ types. pure (record { types = types; firstNullable = index TypeTable·first-nullable table })

@@ -1,1 +1,36 @@
-// Types, parameters, constructors, functions and properties: see specs/. Its code is yet to come.
+// Declarations read from messages and written as records, in the specification's order. The definitions: specs/Types.antt,
+// specs/Members.antt, specs/Rows.antt; how the answers tell them: specs/Told.antt.
+use sheet::State;
+use wire::WireError;
+
+pub mod rows; // rows.rt: records written from values that are looked up
+pub mod name; // name.rt: names by the index in a field, and their cells
+pub mod table; // table.rt: where the entries of the type table stand
+pub mod types; // types.rt: types, inline and by their index
+
+// The sizes of what is lent beside the slices: how many records the name table has, how many entries the type table, and from which of
+// these on all are nullable; 2^32 or more: none.
+pub struct Tables {
+    pub records: usize,
+    pub types: usize,
+    pub first_nullable: u64,
+}
+
+// Why a reading stops.
+pub enum Stop {
+    Wire { error: WireError },
+    TooManyTypes,
+}
+
+// What was read is written, up to a state.
+pub enum Walked {
+    Done { state: State },
+    Refused { stop: Stop },
+}
+
+// The same of what may not be there.
+pub enum Picked {
+    Kept { state: State },
+    Dropped,
+    Refused { stop: Stop },
+}

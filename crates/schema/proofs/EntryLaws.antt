@@ -1,0 +1,88 @@
+-- Look-ups: an entry of the type table by its index, a name by the index in a field.
+-- Assumes nothing.
+use mathlib.Core.Path.{_≡_, refl, ap, sym, subst, _∙_}
+use mathlib.Core.List.{List, [], _∷_}
+use mathlib.Core.Option.{Option, none, some}
+use Prim.Native.Nat.{ℕ, zero, suc, _≤_, _<_}
+use native.Mathlib.Omega.{arith}
+use lib.ListN.{length, getD, getElem?}
+use Rattle.foundation.specs.Choices.{ifSome}
+use Rattle.foundation.specs.Results.{Res, ok}
+use Rattle.foundation.specs.Texts.{Text}
+use Rattle.wire.specs.Wire.{Message}
+use Rattle.wire.specs.Asked.{indexTold}
+use Rattle.wire.specs.declared.message.Piece.{Piece}
+use Rattle.wire.specs.declared.message.Piece.the-variants as piece
+use Rattle.wire.specs.declared.message.Indexed.{Indexed}
+use Rattle.wire.specs.declared.message.Indexed.the-variants as indexed
+use Rattle.names.specs.Names.{Names, stringsFrom, d2String}
+use Rattle.schema.specs.Reading.{pure, lift}
+use Rattle.schema.specs.Told.{EntryAt, EntriesOf, NamesOf}
+use Rattle.schema.specs.TypesTold.{EntryInside, EntryTold}
+
+elem-none : {A : Type 0} (l : List A) (i : ℕ) → length l ≤ i → getElem? l i ≡ none
+elem-none [] i h = refl
+elem-none (a ∷ l) zero h = absurd (omega arith)
+elem-none (a ∷ l) (suc i) h = elem-none l i (omega arith)
+
+elem-there : {A : Type 0} (l : List A) (i : ℕ) → i < length l → (a : A) × (getElem? l i ≡ some a)
+elem-there [] i h = absurd (omega arith)
+elem-there (a ∷ l) zero h = (a, refl)
+elem-there (a ∷ l) (suc i) h = elem-there l i (omega arith)
+
+module _ (payload starts ends : List ℕ) (count i : ℕ) {j : ℕ} (e : j ≡ i) where
+  pub entry-past : count ≤ j → EntryTold payload starts ends count i piece.Nothing
+  entry-past h = record { is = λ types o. elem-none types i (omega (arith, o .many)); inside = tt }
+
+  pub entry-no-start : length starts ≤ j → EntryTold payload starts ends count i piece.Nothing
+  entry-no-start h = record { is = λ types o. elem-none types i (omega (arith, o .many, o .starts-long)); inside = tt }
+
+  pub entry-no-end : length ends ≤ j → EntryTold payload starts ends count i piece.Nothing
+  entry-no-end h = record { is = λ types o. elem-none types i (omega (arith, o .many, o .ends-long)); inside = tt }
+
+  module _ {a b : ℕ} (f : a ≡ getD starts j 0) (g : b ≡ getD ends j 0) where
+    start-is : getD starts i 0 ≡ a
+    start-is = sym (f ∙ ap (λ (k : ℕ). getD starts k 0) e)
+
+    end-is : getD ends i 0 ≡ b
+    end-is = sym (g ∙ ap (λ (k : ℕ). getD ends k 0) e)
+
+    at : (types : List Message) → EntriesOf payload starts ends count types → (m : Message) → getElem? types i ≡ some m → EntryAt payload a b m
+    at types o m q =
+        subst (λ (k : ℕ). EntryAt payload k b m) start-is (subst (λ (k : ℕ). EntryAt payload (getD starts i 0) k m) end-is (o .each i m q))
+
+    nowhere : (types : List Message) → ((m : Message) → getElem? types i ≡ some m → ⊥) → getElem? types i ≡ none
+    nowhere types h = go (getElem? types i) refl
+      where
+        go : (o : Option Message) → getElem? types i ≡ o → o ≡ none
+        go none q = refl
+        go (some m) q = absurd (h m q)
+
+    pub entry-outside : length payload < b → EntryTold payload starts ends count i piece.Nothing
+    entry-outside h = record { is = λ types o. nowhere types λ m q. omega (arith, at types o m q .inside); inside = tt }
+
+    pub entry-falls : b < a → EntryTold payload starts ends count i piece.Nothing
+    entry-falls h = record { is = λ types o. nowhere types λ m q. omega (arith, at types o m q .ordered); inside = tt }
+
+    pub entry-found : j < count → b ≤ length payload → a ≤ b → EntryTold payload starts ends count i (piece.Body a b)
+    entry-found h k l = record {
+      is = λ types o. let m = elem-there types i (omega (arith, o .many)) in (m .0, m .1, at types o (m .0) (m .1) .cuts);
+      inside = (l, k);
+    }
+
+-- the names that are lent
+pub names-are : {payload d2 ends starts stops firsts : List ℕ} {count : ℕ} {n : Names} → NamesOf payload d2 ends starts stops firsts count n
+    → n ≡ record { records = n .records; d2 = d2String (stringsFrom 0 ends d2) }
+names-are {n = n} o = ap (λ (f : ℕ → Res (Option Text)). record { records = n .records; d2 = f }) (o .strings)
+
+-- a name by its index, as `nameIn` and `classNameIn` are
+module _ (look : ℕ → Res (Option Text)) {o : Option ℕ} {y : Indexed} (e : o ≡ indexTold y) (l : ℕ) where
+  pub looked-none : y ≡ indexed.Nothing → {t : Option Text} → t ≡ none → ifSome o (pure none) (λ i. lift (look i)) l ≡ ok (t, l)
+  looked-none g h = rw (e, g, h)
+
+  pub looked-up : {i : ℕ} → y ≡ indexed.At i → {t : Option Text} → look i ≡ ok t → ifSome o (pure none) (λ i. lift (look i)) l ≡ ok (t, l)
+  looked-up g h = rw (e, g, h)
+
+pub entry-in : (payload starts ends : List ℕ) (count i : ℕ) {x : Piece} → EntryTold payload starts ends count i x → {a b : ℕ} → x ≡ piece.Body a b
+    → (a ≤ b) × (b ≤ length payload)
+entry-in payload starts ends count i t g = subst (EntryInside payload) g (t .inside)

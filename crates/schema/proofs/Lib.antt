@@ -1,0 +1,13 @@
+pub mod Falls
+pub mod TypeNext
+pub mod TypeCount
+pub mod Fine
+pub mod FieldNumbers
+pub mod WrittenLaws
+pub mod RecordLaws
+pub mod TypeLaws
+pub mod ArgumentLaws
+pub mod NamedLaws
+pub mod ParseLaws
+pub mod EntryLaws
+pub mod TableLaws

@@ -1,0 +1,251 @@
+-- The type table's entries, noted by one walk.
+-- Assumes nothing.
+use mathlib.Core.Path.{_≡_, refl, ap, sym, _∙_, subst}
+use mathlib.Core.Logic.{_⊎_, inl, inr}
+use mathlib.Core.List.{List, [], _∷_, _++_, append-nil}
+use mathlib.Core.Option.{Option, some}
+use Prim.Native.Nat.{ℕ, suc, _+_, _-_, _^_, _≤_, _<_}
+use native.Mathlib.Nat.{zero-add}
+use native.Mathlib.Omega.{arith}
+use borrow.Author.Tests.{lt-ltb}
+use lib.ListN.{length, take, drop, set, getD, getElem?, length-append, length-set, length-take, length-drop}
+use lib.Seq.{getD-set-same, getD-set-other, take-all}
+use Rattle.foundation.specs.Results.{ok, Part, _from_}
+use Rattle.wire.specs.Wire.{Message, cut}
+use Rattle.wire.specs.Messages.{index, as32, cutAll, messages}
+use Rattle.wire.specs.Told.{refusal, restOf, bodyOf}
+use Rattle.wire.specs.Asked.{CheckedTold, indexTold, bodies, NextTold, EmbeddedIs, EmbeddedInside, EmbeddedTold}
+use Rattle.wire.specs.declared.WireError.{WireError}
+use Rattle.wire.specs.declared.message.Checked.{Checked}
+use Rattle.wire.specs.declared.message.Checked.the-variants as checked
+use Rattle.wire.specs.declared.message.Indexed.{Indexed}
+use Rattle.wire.specs.declared.message.Indexed.the-variants as indexed
+use Rattle.wire.specs.declared.message.Piece.{Piece}
+use Rattle.wire.specs.declared.message.Piece.the-variants as piece
+use Rattle.wire.specs.declared.message.Embedded.{Embedded}
+use Rattle.wire.specs.declared.message.Embedded.the-variants as embedded
+use Rattle.wire.proofs.BodyLaws.{checked-part, part-is}
+use Rattle.names.specs.Characters.{partFrom}
+use Rattle.names.proofs.NoteLaws.{elem-snoc, after, after-none, after-one, after-refused}
+use Rattle.names.proofs.LookupLaws.{part-longer}
+use Rattle.names.proofs.PartLaws.{part-part}
+use Rattle.schema.specs.Fields.{TypeTable·type, TypeTable·first-nullable}
+use Rattle.schema.specs.Types.{noTable, typeTableIn}
+use Rattle.schema.specs.Told.{EntryAt, EntriesOf}
+use Rattle.schema.specs.TableTold.{EntriesTold, TableTold, TypeIndexTold}
+use Rattle.schema.specs.declared.table.Entries.{Entries}
+use Rattle.schema.specs.declared.table.Entries.the-variants as entries
+use Rattle.schema.specs.declared.table.TypeIndex.{TypeIndex}
+use Rattle.schema.specs.declared.table.TypeIndex.the-variants as types
+
+-- The places of no entry, of one more, and among more bytes.
+pub entries-none : (bytes starts ends : List ℕ) → EntriesOf bytes starts ends 0 []
+entries-none bytes starts ends = record {
+  many = refl;
+  starts-long = omega arith;
+  ends-long = omega arith;
+  each = λ i m e. let z : _≡_ {A = ℕ} 0 1 = cc in absurd (omega arith);
+}
+
+module _ (bytes starts ends : List ℕ) (count : ℕ) (ms : List Message) (o : EntriesOf bytes starts ends count ms) where
+  entries-more : count < length starts → count < length ends → {a b : ℕ} (m : Message) → EntryAt bytes a b m
+      → EntriesOf bytes (set starts count a) (set ends count b) (count + 1) (ms ++ (m ∷ []))
+  entries-more h g {a} {b} m at = record {
+    many = length-append ms (m ∷ []) ∙ ap (λ (k : ℕ). k + 1) (o .many);
+    starts-long = rw length-set (omega arith);
+    ends-long = rw length-set (omega arith);
+    each = λ k x e. go k x (elem-snoc ms m k e);
+  }
+    where
+      go : (k : ℕ) (x : Message) → ((k < length ms) × (getElem? ms k ≡ some x)) ⊎ ((k ≡ length ms) × (m ≡ x))
+          → EntryAt bytes (getD (set starts count a) k 0) (getD (set ends count b) k 0) x
+      go k x (inl (l, q)) =
+          let n : k ≡ count → ⊥ = λ z. omega (arith, o .many) in
+          rw (getD-set-other starts count k a 0 n, getD-set-other ends count k b 0 n) (o .each k x q)
+      go k x (inr (l, q)) =
+          let z : k ≡ count = l ∙ o .many in
+          rw (z, getD-set-same starts count a 0 h, getD-set-same ends count b 0 g, ← q) at
+
+entries-longer : (bytes : List ℕ) (n : ℕ) (starts ends : List ℕ) (count : ℕ) (ms : List Message) → EntriesOf (take n bytes) starts ends count ms
+    → EntriesOf bytes starts ends count ms
+entries-longer bytes n starts ends count ms o = record {
+  many = o .many;
+  starts-long = o .starts-long;
+  ends-long = o .ends-long;
+  each = λ k m e.
+      let at = o .each k m e in
+      let same = part-longer bytes n (getD starts k 0) (getD ends k 0) (at .ordered) (at .inside) in
+      record {
+        ordered = at .ordered;
+        inside = omega (arith, at .inside, length-take n bytes);
+        cuts = ap (λ (bs : List ℕ). cut (_from_ (getD starts k 0) bs)) (sym same) ∙ at .cuts;
+      };
+}
+
+-- of the table m what is noted before the place `at`
+pub record Noted (bytes : List ℕ) (m : Message) (starts ends : List ℕ) (count at : ℕ) : Type 0 where
+  pub rest : Message
+  pub cuts : cut (restOf 0 bytes at) ≡ ok rest
+  pub before : List Message
+  pub whole : messages TypeTable·type m ≡ after before (cutAll (bodies TypeTable·type rest))
+  pub many : length (bodies TypeTable·type m) ≡ count + length (bodies TypeTable·type rest)
+  pub noted : EntriesOf bytes starts ends count before
+
+abbrev pub Noting : List ℕ → ℕ → List ℕ → List ℕ → ℕ → ℕ → Type 0
+Noting bytes start starts ends count at = (m : Message) → cut (restOf 0 bytes start) ≡ ok m → Noted bytes m starts ends count at
+
+pub noting-start : (bytes : List ℕ) (at : ℕ) (starts ends : List ℕ) → Noting bytes at starts ends 0 at
+unfolding messages
+noting-start bytes at starts ends m w = record {
+  rest = m;
+  cuts = w;
+  before = [];
+  whole = after-none (cutAll (bodies TypeTable·type m));
+  many = sym (zero-add (length (bodies TypeTable·type m)));
+  noted = entries-none bytes starts ends;
+}
+
+module _ (bytes : List ℕ) (start : ℕ) (starts ends : List ℕ) (count at : ℕ) (i : Noting bytes start starts ends count at) {r : Piece}
+    (t : NextTold 0 bytes TypeTable·type at r) where
+  pub noting-none : r ≡ piece.Nothing → (m : Message) → cut (restOf 0 bytes start) ≡ ok m → EntriesTold bytes m starts ends (entries.Noted count)
+  unfolding cutAll
+  noting-none g m w =
+      let n = i m w in
+      let e : bodies TypeTable·type (n .rest) ≡ [] = subst (NextTold 0 bytes TypeTable·type at) g t .is (n .rest) (n .cuts) in
+      (n .before, n .whole ∙ rw e (ap ok (append-nil (n .before))), n .noted)
+
+  module _ {a b : ℕ} (g : r ≡ piece.Body a b) where
+    next : NextTold 0 bytes TypeTable·type at (piece.Body a b)
+    next = subst (NextTold 0 bytes TypeTable·type at) g t
+
+    pub body-in : (a ≤ b) × (b ≤ length bytes) × (at < b)
+    body-in = (next .inside .0, next .inside .1, next .later)
+
+    pub noting-refused : (c : Checked) → CheckedTold (cut (restOf 0 (take b bytes) a)) c → {error err : WireError} → c ≡ checked.Refused error
+        → err ≡ error → (m : Message) → cut (restOf 0 bytes start) ≡ ok m → EntriesTold bytes m starts ends (entries.Refused err)
+    noting-refused c k {error} {err} q p m w =
+        let n = i m w in
+        let v = next .is (n .rest) (n .cuts) in
+        let f : cut (bodyOf 0 bytes a b) ≡ refusal error =
+        subst (CheckedTold (cut (bodyOf 0 bytes a b))) q (checked-part 0 bytes a b c (body-in .0) k) in
+        n .whole
+        ∙ ap (λ (ps : List Part). after (n .before) (cutAll ps)) (v .2)
+        ∙ after-refused (n .before) (bodyOf 0 bytes a b) (bodies TypeTable·type (v .0)) error f
+        ∙ ap (refusal {A = List Message}) (sym p)
+
+    -- there is one entry more than were noted
+    one-more : (m : Message) (w : cut (restOf 0 bytes start) ≡ ok m) → count < length (bodies TypeTable·type m)
+    one-more m w =
+        let n = i m w in
+        let v = next .is (n .rest) (n .cuts) in
+        let q : length (bodies TypeTable·type (n .rest)) ≡ suc (length (bodies TypeTable·type (v .0))) = ap length (v .2) in
+        omega (arith, n .many)
+
+    pub no-start : length starts ≤ count → (m : Message) → cut (restOf 0 bytes start) ≡ ok m → EntriesTold bytes m starts ends entries.NoRoom
+    no-start h m w room = omega (arith, one-more m w, room .starts-long)
+
+    pub no-end : length ends ≤ count → (m : Message) → cut (restOf 0 bytes start) ≡ ok m → EntriesTold bytes m starts ends entries.NoRoom
+    no-end h m w room = omega (arith, one-more m w, room .ends-long)
+
+    module _ (c : Checked) (k : CheckedTold (cut (restOf 0 (take b bytes) a)) c) (q : c ≡ checked.Whole) where
+      inner : (x : Message) × (cut (bodyOf 0 bytes a b) ≡ ok x)
+      inner = subst (CheckedTold (cut (bodyOf 0 bytes a b))) q (checked-part 0 bytes a b c (body-in .0) k)
+
+      pub noting-next : count < length starts → count < length ends → {starts′ ends′ : List ℕ} → starts′ ≡ set starts count a → ends′ ≡ set ends count b
+          → Noting bytes start starts′ ends′ (count + 1) b
+      noting-next hs he {starts′} {ends′} ps pe m w =
+          let n = i m w in
+          let v = next .is (n .rest) (n .cuts) in
+          let y = inner .0 in
+          let here : EntryAt bytes a b y = record {
+            ordered = body-in .0;
+            inside = body-in .1;
+            cuts = ap (λ (n : ℕ). cut (_from_ n (partFrom a b bytes))) (sym (zero-add a)) ∙ inner .1;
+          } in
+          record {
+            rest = v .0;
+            cuts = v .1;
+            before = n .before ++ (y ∷ []);
+            whole =
+                n .whole
+                ∙ ap (λ (ps : List Part). after (n .before) (cutAll ps)) (v .2)
+                ∙ after-one (n .before) y (bodyOf 0 bytes a b) (bodies TypeTable·type (v .0)) (inner .1);
+            many = n .many ∙ ap (λ (ps : List Part). count + length ps) (v .2) ∙ omega arith;
+            noted = rw (ps, pe) (entries-more bytes starts ends count (n .before) (n .noted) hs he y here);
+          }
+
+-- from which entry on all are nullable
+module _ (o : Option ℕ) {y : Indexed} (e : o ≡ indexTold y) where
+  pub first-none : y ≡ indexed.Nothing → o ≡ as32 4294967296
+  first-none g = rw (e, g)
+
+  pub first-some : {i : ℕ} → y ≡ indexed.At i → i < 2 ^ 32 → o ≡ as32 i
+  first-some {i} g h = rw (e, g, lt-ltb i (2 ^ 32) h)
+
+-- the table from a place to another
+module _ (payload : List ℕ) (start end : ℕ) (h : start ≤ end) (m : Message) (w : cut (_from_ start (partFrom start end payload)) ≡ ok m) (starts ends : List ℕ)
+    (r : Entries) (t : (m : Message) → cut (restOf 0 (take end payload) start) ≡ ok m → EntriesTold (take end payload) m starts ends r) where
+  from-start : cut (restOf 0 (take end payload) start) ≡ ok m
+  from-start = ap cut (part-is 0 payload start end h) ∙ ap (λ (n : ℕ). cut (_from_ n (partFrom start end payload))) (zero-add start) ∙ w
+
+  told : {s : Entries} → r ≡ s → EntriesTold (take end payload) m starts ends s
+  told g = subst (EntriesTold (take end payload) m starts ends) g (t m from-start)
+
+  pub table-noted : {count : ℕ} (first : ℕ) → r ≡ entries.Noted count → index TypeTable·first-nullable m ≡ as32 first
+      → TableTold payload m starts ends (types.Types count first)
+  table-noted {count} first g f = let n = told g in (n .0, n .1, entries-longer payload end starts ends count (n .0) (n .2), f)
+
+  pub table-full : r ≡ entries.NoRoom → TableTold payload m starts ends types.NoRoom
+  table-full g = told g
+
+  pub table-refused : {error : WireError} → r ≡ entries.Refused error → TableTold payload m starts ends (types.Refused error)
+  table-refused g = told g
+
+-- the table in a field
+pub table-place : (payload : List ℕ) (at n : ℕ) {x : Embedded} → EmbeddedTold at (take (length payload - at) (drop at payload)) n x
+    → {a b : ℕ} → x ≡ embedded.Inline a b → (a ≤ b) × (b ≤ length payload - at)
+table-place payload at n t g =
+    let i = subst (EmbeddedInside (take (length payload - at) (drop at payload))) g (t .inside) in
+    (i .0, omega (arith, length-take (length payload - at) (drop at payload)))
+
+module _ (payload : List ℕ) (at n : ℕ) (starts ends : List ℕ) where
+  pub index-past : length payload < at → (m : Message) → TypeIndexTold payload at n m starts ends types.NoRoom
+  index-past h m room = omega (arith, room .inside)
+
+  pub index-long : 4294967295 < length payload → (m : Message) → TypeIndexTold payload at n m starts ends types.NoRoom
+  index-long h m room = omega (arith, room .short)
+
+  module _ (m : Message) (w : cut (_from_ at (drop at payload)) ≡ ok m) {x : Embedded}
+      (t : EmbeddedTold at (take (length payload - at) (drop at payload)) n x) where
+    body-is : cut (_from_ at (take (length payload - at) (drop at payload))) ≡ ok m
+    body-is =
+        let all : length (drop at payload) ≤ length payload - at = rw length-drop (omega arith) in
+        ap (λ (bs : List ℕ). cut (_from_ at bs)) (take-all (length payload - at) (drop at payload) all) ∙ w
+
+    found : {y : Embedded} → x ≡ y → EmbeddedIs at (take (length payload - at) (drop at payload)) n m y
+    found g = subst (EmbeddedIs at (take (length payload - at) (drop at payload)) n m) g (t .is m body-is)
+
+    pub index-none : x ≡ embedded.Nothing → TypeIndexTold payload at n m starts ends (types.Types 0 4294967296)
+    unfolding typeTableIn
+    index-none g = (noTable, (λ l. rw (found g)), entries-none payload starts ends, refl)
+
+    pub index-refused : {error : WireError} → x ≡ embedded.Refused error → TypeIndexTold payload at n m starts ends (types.Refused error)
+    unfolding typeTableIn
+    index-refused g l = rw (found g)
+
+    module _ {a b : ℕ} (g : x ≡ embedded.Inline a b) where
+      table-cuts : cut (_from_ (at + a) (partFrom (at + a) (at + b) payload)) ≡ ok (found g .0)
+      table-cuts =
+          let i = subst (EmbeddedInside (take (length payload - at) (drop at payload))) g (t .inside) in
+          ap (λ (bs : List ℕ). cut (_from_ (at + a) bs)) (sym (part-part payload at (length payload) a b (i .0) (i .1))) ∙ found g .1
+
+      index-told : (r : TypeIndex) → TableTold payload (found g .0) starts ends r → TypeIndexTold payload at n m starts ends r
+      unfolding typeTableIn
+      index-told (types.Types count first) (ms, e, o, f) =
+          (record { types = ms; firstNullable = index TypeTable·first-nullable (found g .0) }, (λ l. rw (found g .2, e)), o, f)
+      index-told types.NoRoom h = λ room. h (room .entries (found g .0) (found g .2))
+      index-told (types.Refused error) h = λ l. rw (found g .2, h)
+
+      pub index-inline : (r : TypeIndex) → ((m : Message) → cut (_from_ (at + a) (partFrom (at + a) (at + b) payload)) ≡ ok m → TableTold payload m starts ends r)
+          → TypeIndexTold payload at n m starts ends r
+      index-inline r h = index-told r (h (found g .0) table-cuts)

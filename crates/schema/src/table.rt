@@ -1,0 +1,139 @@
+// The type table of a class or package: its entries cut, and noted where they stand among the decoded bytes. The definition:
+// specs/Types.antt, `typeTableIn`; what the answers tell: specs/TableTold.antt.
+ghost use mathlib.Core.Path.{_≡_};
+ghost use Prim.Native.Nat.{ℕ, _^_, _≤_, _<_};
+ghost use lib.ListN.{length, set, drop};
+ghost use Rattle.foundation.specs.Results.{ok, _from_};
+ghost use Rattle.wire.specs.Wire.{cut, Message};
+ghost use Rattle.wire.specs.Messages.{as32, index};
+ghost use Rattle.wire.specs.Told.{restOf};
+ghost use Rattle.names.specs.Characters.{partFrom};
+ghost use Rattle.schema.specs.Fields.{TypeTable·first-nullable};
+ghost use Rattle.schema.specs.TableTold.{EntriesTold, TableTold, TypeIndexTold};
+use wire::WireError;
+use wire::message::Checked;
+use wire::message::Embedded;
+use wire::message::Indexed;
+use wire::message::Piece;
+use wire::message::check_from;
+use wire::message::index;
+use wire::message::message;
+use wire::message::next_body;
+
+// Field numbers of metadata.proto's TypeTable.
+const TYPE: u32 = 1;
+
+const FIRST_NULLABLE: u32 = 2;
+
+// No entry is nullable by its place.
+const NONE: u64 = 4294967296;
+
+pub enum TypeIndex {
+    Types { count: usize, first: u64 },
+    NoRoom,
+    Refused { error: WireError },
+}
+
+enum Entries {
+    Noted { count: usize },
+    NoRoom,
+    Refused { error: WireError },
+}
+
+fn put_entry(starts: &mut [u32], ends: &mut [u32], count: usize, start: u32, end: u32)
+    requires { ⌜ (count < length (now starts)) × (count < length (now ends)) ⌝ }
+    ensures { λ _. ⌜ (now (starts .exit) ≡ set (now (starts .entry)) count start) × (now (ends .exit) ≡ set (now (ends .entry)) count end) ⌝ }
+{
+    starts[count] = start;
+    ends[count] = end;
+}
+
+// Cuts the entries of the type table in `bytes` from `at` on, and notes for each where it stands.
+fn note_entries(bytes: &[u8], at: usize, starts: &mut [u32], ends: &mut [u32]) -> Entries
+    requires { ⌜ length (now bytes) < 2 ^ 32 ⌝ }
+    ensures { λ r. ⌜ ((m : Message) → cut (restOf 0 (now (bytes .entry)) at) ≡ ok m → EntriesTold (now (bytes .entry)) m (now (starts .exit)) (now (ends .exit)) r) ⌝ }
+{
+    let mut count: usize = 0;
+    let mut i = at;
+    loop {
+        let piece = next_body(bytes, 0, TYPE, i);
+        let Piece::Body { start, end } = piece else {
+            return Entries::Noted { count };
+        };
+        let checked = check_from(&bytes[..end], 0, start);
+        let Checked::Whole = checked else {
+            return Entries::Refused {
+                error: checked.error(),
+            };
+        };
+        if starts.len() <= count {
+            return Entries::NoRoom;
+        }
+        if ends.len() <= count {
+            return Entries::NoRoom;
+        }
+        put_entry(starts, ends, count, start as u32, end as u32);
+        count += 1;
+        i = end;
+    }
+}
+
+// From which entry on all are nullable; 2^32: none.
+fn first_nullable(table: &[u8], base: u32) -> u64
+    ensures { λ r. ⌜ ((m : Message) → cut (_from_ base (now (table .entry))) ≡ ok m → index TypeTable·first-nullable m ≡ as32 r) ⌝ }
+{
+    let found = index(table, base, FIRST_NULLABLE);
+    let Indexed::At { index: first } = found else {
+        return NONE;
+    };
+    first as u64
+}
+
+// The type table from a place to another of the decoded bytes.
+fn note_table(
+    payload: &[u8],
+    start: usize,
+    end: usize,
+    starts: &mut [u32],
+    ends: &mut [u32],
+) -> TypeIndex
+    requires { ⌜ (start ≤ end) × (end ≤ length (now payload)) × (length (now payload) < 2 ^ 32) ⌝ }
+    ensures { λ r. ⌜ ((m : Message) → cut (_from_ start (partFrom start end (now (payload .entry)))) ≡ ok m → TableTold (now (payload .entry)) m (now (starts .exit)) (now (ends .exit)) r) ⌝ }
+{
+    let entries = note_entries(&payload[..end], start, starts, ends);
+    match entries {
+        Entries::Noted { count } => {
+            let first = first_nullable(&payload[start..end], start as u32);
+            TypeIndex::Types { count, first }
+        }
+        Entries::NoRoom => TypeIndex::NoRoom,
+        Entries::Refused { error } => TypeIndex::Refused { error },
+    }
+}
+
+// The type table in a field of the message that is the decoded bytes from `at` on.
+pub fn index_types(
+    payload: &[u8],
+    at: usize,
+    number: u32,
+    starts: &mut [u32],
+    ends: &mut [u32],
+) -> TypeIndex
+    ensures { λ r. ⌜ ((m : Message) → cut (_from_ at (drop at (now (payload .entry)))) ≡ ok m → TypeIndexTold (now (payload .entry)) at number m (now (starts .exit)) (now (ends .exit)) r) ⌝ }
+{
+    if payload.len() < at {
+        return TypeIndex::NoRoom;
+    }
+    if 4294967295 < payload.len() {
+        return TypeIndex::NoRoom;
+    }
+    let table = message(&payload[at..], at as u32, number);
+    match table {
+        Embedded::Inline { start, end } => note_table(payload, at + start, at + end, starts, ends),
+        Embedded::Refused { error } => TypeIndex::Refused { error },
+        Embedded::Nothing => TypeIndex::Types {
+            count: 0,
+            first: NONE,
+        },
+    }
+}
