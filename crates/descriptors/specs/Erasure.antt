@@ -42,7 +42,7 @@ pub data Meaning : Type 0 where
   primitiveArray : Primitive → Meaning
   array : Meaning  -- of its first kept argument
   unit : Meaning
-  nothing : Meaning
+  nothing : Meaning  -- has no descriptor (Kotlin's reader prints java/lang/Void)
   mapped : Text → Meaning  -- another class, by its name on the JVM
 
 pub record Entry : Type 0 where

@@ -1,2 +1,3 @@
 pub mod Erasure
 pub mod Defaults
+pub mod Told

@@ -1,0 +1,6 @@
+pub mod WellFormedLaws
+pub mod Letters
+pub mod TextLaws
+pub mod TableLaws
+pub mod ListedLaws
+pub mod PartLaws
