@@ -1,2 +1,4 @@
 pub mod Refusals
 pub mod Read
+pub mod Walk
+pub mod Promises

@@ -24,10 +24,10 @@ use Rattle.foundation.specs.Results.{
   Part,
   _from_,
 }
-use Rattle.encoding.specs.Encoding.{decoded}
+use Rattle.encoding.specs.Encoding.{unitLimit, decoded}
 use Rattle.foundation.specs.Texts.{Text}
 use Rattle.wire.specs.Wire.{Message, cut, readDelimited}
-use Rattle.names.specs.Names.{Names, recordsOf, stringsFrom, d2String}
+use Rattle.names.specs.Names.{Names, recordsOf, endsFit, stringsFrom, d2String}
 use Rattle.sheet.specs.Rows.{num, Row, row, texts, sheetFrom}
 use Rattle.schema.specs.Declarations.{Declarations}
 use Rattle.schema.specs.Reading.{Read, allowance}
@@ -44,7 +44,7 @@ pub record Input : Type 0 where
   pub d2 : List ℕ
   pub ends : List ℕ
 
--- The metadata kind, 1 to 5. A k outside 1 to 5 counts as 1.
+-- The metadata kind, 1 to 5. A k outside 1 to 5 counts as 1, as in the Rust.
 abbrev pub kindOf : ℤ → ℕ
 kindOf (pos n) = if leb 1 n && leb n 5 then n else 1
 kindOf (negsuc n) = 1
@@ -52,9 +52,6 @@ kindOf (negsuc n) = 1
 -- Class, FileFacade, MultiFileClassPart; not SyntheticClass (3) and MultiFileClassFacade (4)
 abbrev pub carriesDeclarations : ℕ → Bool
 carriesDeclarations kind = eqb kind 1 || (eqb kind 2 || eqb kind 5)
-
-abbrev pub unitLimit : ℕ
-unitLimit = 32768
 
 abbrev pub stringLimit : ℕ
 stringLimit = 4096
@@ -65,18 +62,17 @@ supportedMajor = pos 2
 abbrev pub major : Input → ℤ
 major i = getD (i .mv) 0 (pos 0)
 
--- ends that don't fall and whose last (0 if there are none) is the unit count
-unfoldable pub endsFit : ℕ → List ℕ → ℕ → Bool
-endsFit at [] units = eqb at units
-endsFit at (e ∷ ends) units = leb at e && endsFit e ends units
-
--- what is refused of every kind before the payload is looked at, 1 to 4
-unfoldable pub faultOf : Input → Option Cause
-faultOf i =
+-- 2 to 4
+unfoldable pub laterFault : Input → Option Cause
+laterFault i =
     let version = if ltZ supportedMajor (major i) then some newerVersion else none in
     let strings = if endsFit 0 (i .ends) (length (i .d2)) then version else some stringEnds in
     let long = ltb unitLimit (length (i .d2)) || ltb stringLimit (length (i .ends)) in
-    if ltb unitLimit (length (i .d1)) then some d1TooLong else if long then some d2TooLong else strings
+    if long then some d2TooLong else strings
+
+-- what is refused of every kind before the payload is looked at, 1 to 4
+unfoldable pub faultOf : Input → Option Cause
+faultOf i = if ltb unitLimit (length (i .d1)) then some d1TooLong else laterFault i
 
 -- what stands for the body of metadata kinds 3 and 4
 abbrev pub headAlone : Declarations
@@ -149,13 +145,17 @@ accepted sheet text s t n = record {
   text = t ++ drop (length t) text;
 }
 
+-- 12, the last refusal
+unfoldable pub sheetWritten : List ℕ → List ℕ → List Row → ℕ → Answer
+sheetWritten sheet text rows n =
+    let s = sheetFrom 0 rows in
+    if ltb (length sheet) (length s) then refusal sheet text sheetTooLong else accepted sheet text s (texts rows) n
+
 -- 11 and 12 are tested when all is read
 unfoldable pub written : List ℕ → List ℕ → List Row → ℕ → Answer
 written sheet text rows n =
-    let s = sheetFrom 0 rows in
-    let t = texts rows in
-    let fits = if ltb (length sheet) (length s) then refusal sheet text sheetTooLong else accepted sheet text s t n in
-    if ltb (min (length text) textLimit) (length t) then refusal sheet text textTooLong else fits
+    let fits = sheetWritten sheet text rows n in
+    if ltb (min (length text) textLimit) (length (texts rows)) then refusal sheet text textTooLong else fits
 
 abbrev pub answered : List ℕ → List ℕ → ℕ → Res (Declarations × ℕ) → Answer
 answered sheet text kind (refused c p) = refusal sheet text c

@@ -1,0 +1,5 @@
+pub mod Accepted
+pub mod WalkLaws
+pub mod Tabled
+pub mod Sound
+pub mod Promised
