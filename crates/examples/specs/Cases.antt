@@ -34,25 +34,41 @@ units = hexFrom 4 3 0
 abbrev pub filling : ℕ
 filling = 0xaa
 
-pub record Case : Type 0 where
-  pub input : Input
-  pub sheetArea : ℕ
-  pub textArea : ℕ
+-- The answer: number, detail, types, and what stands in both areas up to their lengths.
+pub record Expected : Type 0 where
   pub number : ℕ
   pub detail : ℕ
   pub types : ℕ
   pub sheet : List ℕ
   pub text : List ℕ
 
+-- with sheet and text in hexadecimal
+abbrev pub gives : ℕ → ℕ → ℕ → String → String → Expected
+gives number detail types sheet text = record { number = number; detail = detail; types = types; sheet = hex sheet; text = hex text }
+
+pub record Case : Type 0 where
+  pub input : Input
+  pub sheetArea : ℕ
+  pub textArea : ℕ
+  pub answer : Expected
+
+-- k, mv, d1, d2, string ends, the lengths of both areas
+abbrev pub given : ℤ → List ℤ → List ℕ → List ℕ → List ℕ → ℕ → ℕ → Expected → Case
+given k mv d1 d2 ends sheet text answer =
+    record { input = record { k = k; mv = mv; d1 = d1; d2 = d2; ends = ends }; sheetArea = sheet; textArea = text; answer = answer }
+
+-- an area of that length that holds some bytes and then its filling
+abbrev pub area : ℕ → List ℕ → List ℕ
+area n bs = bs ++ replicate (n - length bs) filling
+
 -- number, detail, lengths, types and every byte of both areas
 unfoldable pub holds : Case → Bool
 holds c =
-    let a = read (replicate (c .sheetArea) filling) (replicate (c .textArea) filling) (c .input) in
-    eqb (a .number) (c .number) && eqb (a .detail) (c .detail) && eqb (a .types) (c .types) && eqb (a .sheetLength) (length (c .sheet))
-    && eqb (a .textLength) (length (c .text)) && same (a .sheet) (c .sheet ++ replicate (c .sheetArea - length (c .sheet)) filling)
-    && same (a .text) (c .text ++ replicate (c .textArea - length (c .text)) filling)
+    let a = read (area (c .sheetArea) []) (area (c .textArea) []) (c .input) in
+    let e = c .answer in
+    eqb (a .number) (e .number) && eqb (a .detail) (e .detail) && eqb (a .types) (e .types) && eqb (a .sheetLength) (length (e .sheet))
+    && eqb (a .textLength) (length (e .text)) && same (a .sheet) (area (c .sheetArea) (e .sheet)) && same (a .text) (area (c .textArea) (e .text))
 
--- all of them; how many hold if not all do is what a refused check shows
 abbrev pub allHold : List Case → Bool
 allHold [] = true
 allHold (c ∷ cs) = holds c && allHold cs
