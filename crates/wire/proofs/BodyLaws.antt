@@ -49,7 +49,7 @@ use Rattle.wire.specs.declared.message.Piece.{Piece}
 use Rattle.wire.specs.declared.message.Piece.the-variants as piece
 use Rattle.wire.specs.declared.message.Embedded.{Embedded}
 use Rattle.wire.specs.declared.message.Embedded.the-variants as embedded
-use Rattle.wire.proofs.Later.{gives-any}
+use Rattle.wire.proofs.Later.{Later, gives-any, field-later}
 use Rattle.wire.proofs.WalkLaws.{whole, field-is, field-inside, Leads, leads-next, leads-never, leads-end, values-found, values-passed}
 
 -- where a body ends the field ends
@@ -99,6 +99,13 @@ body-next base s at e {n} {a} {b} next g =
     let same : base + next ≡ base + a + (b - a) = ends ∙ ap (λ (n : ℕ). base + a + n) (length-take-le (b - a) (drop a s) fits) in
     omega (arith, f .1 .0)
 
+-- a body begins after the place where its field does
+body-later : (base : ℕ) (s : List ℕ) (at : ℕ) {r : FieldStep} → FieldTold base s (readField (restOf base s at)) r
+    → {n a b next : ℕ} → r ≡ step.Field n (wire.Body a b) next → at < a
+body-later base s at e g =
+    let h = gives-ok (λ q. Later (base + at) (q .0 .value)) (field-is base s at e g .0) (field-later (restOf base s at)) in
+    omega arith
+
 -- what the code makes of a field
 of-value : (v : WireValue) {a b : ℕ} → pieceOf v ≡ piece.Body a b → v ≡ wire.Body a b
 of-value (wire.Varint n) e = cc
@@ -143,7 +150,7 @@ module _ (k base : ℕ) (s : List ℕ) (at : ℕ) where
   module _ (i : ℕ) (o : Bodies k base s at i) where
     pub bodies-end : length s ≤ i → NextTold base s k at piece.Nothing
     unfolding bodiesOf values
-    bodies-end h = record { is = leads-end (λ m rest. bodies k m ≡ bodies k rest) (restOf base s at) base s i o h; inside = tt; later = tt }
+    bodies-end h = record { is = leads-end (λ m rest. bodies k m ≡ bodies k rest) (restOf base s at) base s i o h; inside = tt; later = tt; begins = tt }
 
     module _ {r : FieldStep} (e : FieldTold base s (readField (restOf base s i)) r) (h : i < length s) where
       pub bodies-never : {error : WireError} → r ≡ step.Refused error → NextTold base s k at piece.Nothing
@@ -151,6 +158,7 @@ module _ (k base : ℕ) (s : List ℕ) (at : ℕ) where
         is = λ m w. leads-never (restOf base s at) base s i e h (λ m rest. bodies k m ≡ bodies k rest) o g m w;
         inside = tt;
         later = tt;
+        begins = tt;
       }
 
       module _ {n : ℕ} {v : WireValue} (next : ℕ) (g : r ≡ step.Field n v next) {x : Piece} (q : x ≡ pieceIf k n v) where
@@ -172,6 +180,7 @@ module _ (k base : ℕ) (s : List ℕ) (at : ℕ) where
               is = subst (λ (u : ℕ). Leads S (restOf base s at) (restOf base s u)) (sym last) on;
               inside = field-is base s i e g′ .1;
               later = omega arith;
+              begins = omega (arith, body-later base s i e g′);
             } in
             subst (NextTold base s k at) (sym z) told
 

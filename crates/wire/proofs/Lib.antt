@@ -12,3 +12,5 @@ pub mod MessageLaws
 pub mod Places
 pub mod Later
 pub mod Bounds
+pub mod SkipLaws
+pub mod ReaderLaws

@@ -134,7 +134,7 @@ slots-end wanted n new area now j h o =
     sym (take-append-drop (3 * j) now) ∙ all
 
 -- what a message says after one field more
-values-append : (k : ℕ) (a b : Message) → values k (a ++ b) ≡ values k a ++ values k b
+pub values-append : (k : ℕ) (a b : Message) → values k (a ++ b) ≡ values k a ++ values k b
 unfolding values
 values-append k [] b = refl
 values-append k (f ∷ a) b = go (eqb (f .number) k) (values k (a ++ b)) (values k a) (values k b) (values-append k a b)

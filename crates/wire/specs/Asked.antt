@@ -109,7 +109,13 @@ abbrev pub PieceAfter : ℕ → Piece → Type 0
 PieceAfter at (piece.Body start end) = at < end
 PieceAfter at piece.Nothing = Unit {0}
 
+-- a piece that begins later than a place
+abbrev pub PieceBegins : ℕ → Piece → Type 0
+PieceBegins at (piece.Body start end) = at < start
+PieceBegins at piece.Nothing = Unit {0}
+
 pub record NextTold (base : ℕ) (s : List ℕ) (n at : ℕ) (r : Piece) : Type 0 where
   pub is : (m : Message) → cut (restOf base s at) ≡ ok m → NextIs base s n m r
   pub inside : PieceInside s r
   pub later : PieceAfter at r
+  pub begins : PieceBegins at r

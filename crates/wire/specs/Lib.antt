@@ -4,3 +4,4 @@ pub mod Told
 pub mod Asked
 pub mod Repeated
 pub mod Notes
+pub mod Reader

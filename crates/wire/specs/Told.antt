@@ -1,12 +1,13 @@
 -- What the code's answers tell, in the definitions' words.
 -- Assumes nothing.
 use mathlib.Core.Path.{_≡_}
-use mathlib.Core.List.{List}
+use mathlib.Core.List.{List, [], _++_}
 use Prim.Native.Nat.{ℕ, _+_, _-_, _*_, _≤_, _<_}
-use lib.ListN.{length, take, drop}
-use Rattle.foundation.specs.Results.{Res, refused, Cause, varintCutShort, pastItsMessage, fieldTooLarge, wireType, oversizedVarint, Part, _from_, Got, got, mapGot}
+use lib.ListN.{length, take, drop, getD}
+use Rattle.foundation.specs.Results.{Res, ok, refused, _>>=_, Cause, varintCutShort, pastItsMessage, fieldTooLarge, wireType, oversizedVarint, Part, _from_, Got, got, mapGot}
 use Rattle.foundation.specs.Digits.{number}
-use Rattle.wire.specs.Wire.{Value, varint, fixed, body, Field, field}
+use Rattle.wire.specs.Wire.{Value, varint, fixed, body, Field, field, Message, cut}
+use Rattle.wire.specs.Messages.{values}
 use Rattle.wire.specs.declared.WireError.{WireError}
 use Rattle.wire.specs.declared.WireError.the-variants.{VarintCutShort, OversizedVarint, PastItsMessage, FieldTooLarge, WireType}
 use Rattle.wire.specs.declared.Varint.{Varint}
@@ -76,3 +77,22 @@ ValueTold base s r (valueStep.Refused error) = r ≡ refusal error
 abbrev pub FieldTold : ℕ → List ℕ → Res (Got Field) → FieldStep → Type 0
 FieldTold base s r (fieldStep.Field n v next) = (r ≡ got (field n (valueOf base s v)) (restOf base s next)) × Inside s v
 FieldTold base s r (fieldStep.Refused error) = r ≡ refusal error
+
+-- At a place stand a tag and a varint of one byte each.
+pub record Short (s : List ℕ) (at tag second : ℕ) : Type 0 where
+  pub fits : at + 1 < length s
+  pub is-tag : tag ≡ getD s at 0
+  pub is-second : second ≡ getD s (at + 1) 0
+  pub tag-small : tag < 128
+  pub second-small : second < 128
+
+-- Between two places stand fields, none with the number k.
+pub record Skips (base : ℕ) (s : List ℕ) (k at next : ℕ) : Type 0 where
+  pub fields : Message
+  pub others : values k fields ≡ []
+  pub cuts : cut (restOf base s at) ≡ (cut (restOf base s next) >>= λ m. ok (fields ++ m))
+
+pub record SkipTold (s : List ℕ) (k at next : ℕ) : Type 0 where
+  pub later : at ≤ next
+  pub inside : next ≤ at + (length s - at)
+  pub is : (base : ℕ) → Skips base s k at next

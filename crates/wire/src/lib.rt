@@ -7,11 +7,12 @@ ghost use lib.ListN.{length, take, drop};
 ghost use Rattle.foundation.specs.Results.{Res, Part, Got, got, mapGot};
 ghost use Rattle.foundation.specs.Digits.{number};
 ghost use Rattle.wire.specs.Wire.{groupsFrom, readVarint, readFixed, readDelimited, readValue, readField, varint, body};
-ghost use Rattle.wire.specs.Told.{restOf, varintTold, joinedTo, DelimitedTold, ValueTold, FieldTold};
+ghost use Rattle.wire.specs.Told.{restOf, varintTold, joinedTo, DelimitedTold, ValueTold, FieldTold, Short, SkipTold};
 
 pub mod message; // message.rt: messages, cut and asked for their fields
 pub mod repeated; // repeated.rt: repeated numbers, single and packed
 pub mod notes; // notes.rt: the first occurrences of many fields by one walk
+pub mod reader; // reader.rt: a reader over a message
 
 // Why a part is refused, with the offset among the decoded bytes that is told.
 pub enum WireError {
@@ -306,7 +307,48 @@ fn tagged_at(s: &[u8], base: u32, at: usize, tag: u64, next: usize) -> FieldStep
     }
 }
 
-// The field at a place. Most tags have one byte.
+// The field at a place whose tag has more than one byte.
+fn long_field_at(s: &[u8], base: u32, at: usize) -> FieldStep
+    requires { ⌜ at < length (now s) ⌝ }
+    ensures { λ r. ⌜ FieldTold base (now (s .entry)) (readField (restOf base (now (s .entry)) at)) r ⌝ }
+{
+    let tag = long_varint_at(s, base, at);
+    let Varint::Read { value, next } = tag else {
+        return FieldStep::Refused { error: tag.error() };
+    };
+    tagged_at(s, base, at, value, next)
+}
+
+// The field at a place, if its tag is one byte and so is the varint after it: by far the most.
+fn short_field_at(s: &[u8], base: u32, at: usize, tag: u64, second: u64) -> FieldStep
+    requires { ⌜ Short (now s) at tag second ⌝ }
+    ensures { λ r. ⌜ FieldTold base (now (s .entry)) (readField (restOf base (now (s .entry)) at)) r ⌝ }
+{
+    let kind = tag % 8;
+    let start = at + 2;
+    if kind == 0 {
+        return FieldStep::Field {
+            number: (tag / 8) as u32,
+            value: WireValue::Varint { value: second },
+            next: start,
+        };
+    }
+    if kind != 2 {
+        return tagged_at(s, base, at, tag, at + 1);
+    }
+    let left = (s.len() - start) as u64;
+    if left < second {
+        return tagged_at(s, base, at, tag, at + 1);
+    }
+    let end = start + second as usize;
+    FieldStep::Field {
+        number: (tag / 8) as u32,
+        value: WireValue::Body { start, end },
+        next: end,
+    }
+}
+
+// The field at a place.
 pub fn field_at(s: &[u8], base: u32, at: usize) -> FieldStep
     ensures { λ r. ⌜ (at ≤ length (now (s .entry)) → FieldTold base (now (s .entry)) (readField (restOf base (now (s .entry)) at)) r) ⌝ }
 {
@@ -317,13 +359,68 @@ pub fn field_at(s: &[u8], base: u32, at: usize) -> FieldStep
             },
         };
     }
-    let byte = wide(s[at]);
-    if byte < 128 {
-        return tagged_at(s, base, at, byte, at + 1);
+    let tag = wide(s[at]);
+    if 128 <= tag {
+        return long_field_at(s, base, at);
     }
-    let tag = long_varint_at(s, base, at);
-    let Varint::Read { value, next } = tag else {
-        return FieldStep::Refused { error: tag.error() };
-    };
-    tagged_at(s, base, at, value, next)
+    let next = at + 1;
+    if s.len() <= next {
+        return tagged_at(s, base, at, tag, next);
+    }
+    let second = wide(s[next]);
+    if 128 <= second {
+        return tagged_at(s, base, at, tag, next);
+    }
+    short_field_at(s, base, at, tag, second)
+}
+
+// Where the field at a place ends, if its tag is one byte and so is the varint after it, and its number isn't `number`; else the place itself.
+fn short_end(s: &[u8], number: u32, at: usize) -> usize
+    ensures { λ r. ⌜ SkipTold (now (s .entry)) number at r ⌝ }
+{
+    if s.len() <= at {
+        return at;
+    }
+    let tag = wide(s[at]);
+    if 128 <= tag {
+        return at;
+    }
+    if tag / 8 == number as u64 {
+        return at;
+    }
+    let next = at + 1;
+    if s.len() <= next {
+        return at;
+    }
+    let second = wide(s[next]);
+    if 128 <= second {
+        return at;
+    }
+    let kind = tag % 8;
+    let start = at + 2;
+    if kind == 0 {
+        return start;
+    }
+    if kind != 2 {
+        return at;
+    }
+    let left = (s.len() - start) as u64;
+    if left < second {
+        return at;
+    }
+    start + second as usize
+}
+
+// The place after some fields from `at` on, none of which has the number `number`. It costs less than reading them one by one.
+pub fn skip_fields(s: &[u8], number: u32, at: usize) -> usize
+    ensures { λ r. ⌜ SkipTold (now (s .entry)) number at r ⌝ }
+{
+    let mut i = at;
+    loop {
+        let end = short_end(s, number, i);
+        if end <= i {
+            return i;
+        }
+        i = end;
+    }
 }

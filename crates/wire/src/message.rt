@@ -10,6 +10,10 @@ use super::FieldStep;
 use super::WireError;
 use super::WireValue;
 use super::field_at;
+use super::skip_fields;
+
+// No field whose tag is one byte has this number.
+const NO_NUMBER: u32 = 4294967295;
 
 pub enum Checked {
     Whole,
@@ -31,7 +35,7 @@ impl Checked {
 pub fn check_from(s: &[u8], base: u32, at: usize) -> Checked
     ensures { λ r. ⌜ CheckedTold (cut (restOf base (now (s .entry)) at)) r ⌝ }
 {
-    let mut i = at;
+    let mut i = skip_fields(s, NO_NUMBER, at);
     while i < s.len() {
         let step = field_at(s, base, i);
         let FieldStep::Field {
@@ -44,7 +48,7 @@ pub fn check_from(s: &[u8], base: u32, at: usize) -> Checked
                 error: step.error(),
             };
         };
-        i = next;
+        i = skip_fields(s, NO_NUMBER, next);
     }
     Checked::Whole
 }
@@ -65,7 +69,7 @@ pub enum Found {
 pub fn find(s: &[u8], base: u32, number: u32) -> Found
     ensures { λ r. ⌜ FoundTold base (now (s .entry)) number r ⌝ }
 {
-    let mut at = 0;
+    let mut at = skip_fields(s, number, 0);
     while at < s.len() {
         let step = field_at(s, base, at);
         let FieldStep::Field {
@@ -79,7 +83,7 @@ pub fn find(s: &[u8], base: u32, number: u32) -> Found
         if n == number {
             return Found::Value { value };
         }
-        at = next;
+        at = skip_fields(s, number, next);
     }
     Found::Nothing
 }
@@ -212,7 +216,7 @@ fn body_of(asked: u32, number: u32, value: WireValue) -> Piece
 pub fn next_body(s: &[u8], base: u32, number: u32, at: usize) -> Piece
     ensures { λ r. ⌜ NextTold base (now (s .entry)) number at r ⌝ }
 {
-    let mut i = at;
+    let mut i = skip_fields(s, number, at);
     while i < s.len() {
         let step = field_at(s, base, i);
         let FieldStep::Field {
@@ -227,7 +231,7 @@ pub fn next_body(s: &[u8], base: u32, number: u32, at: usize) -> Piece
         let Piece::Nothing = piece else {
             return piece;
         };
-        i = next;
+        i = skip_fields(s, number, next);
     }
     Piece::Nothing
 }

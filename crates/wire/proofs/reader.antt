@@ -1,0 +1,3 @@
+mod Held
+mod Looked
+mod Stepped
