@@ -13,11 +13,13 @@ pub mod WriteLaws
 pub mod ListLaws
 pub mod NameLaws
 pub mod StreamLaws
+pub mod AsciiLaws
 pub mod CompareLaws
 pub mod IndexLaws
 pub mod RecordLaws
 pub mod NoteLaws
 pub mod PartLaws
 pub mod LookupLaws
+pub mod ShortLaws
 pub mod UnwrapLaws
 pub mod PresentLaws

@@ -49,13 +49,19 @@ right-below (suc n) k h t =
     let e : n ≡ k = omega arith in
     subst (λ (m : ℕ). T (right m)) e (p .0)
 
-pub listed-right : (k : ℕ) → k < 44 → some (fromUtf8 (entry k)) ≡ predefinedText k
+listed-right : (k : ℕ) → k < 44 → some (fromUtf8 (entry k)) ≡ predefinedText k
 unfolding right
 listed-right k h = go (predefinedText k) (right-below 44 k h all-right)
   where
     go : (o : Option Text) → T (ifSome o false (same (fromUtf8 (entry k)))) → some (fromUtf8 (entry k)) ≡ o
     go none t = absurd t
     go (some u) t = ap some (same-true (fromUtf8 (entry k)) u (holds (same (fromUtf8 (entry k)) u) t))
+
+pub listed-part : (k : ℕ) → k < 44 → {a b : ℕ} → a ≡ getD starts k 0 → b ≡ getD starts (k + 1) 0 → some (fromUtf8 (partFrom a b predefinedList)) ≡ predefinedText k
+listed-part k h {a} {b} p q =
+    ap (λ (x : ℕ). some (fromUtf8 (partFrom x b predefinedList))) p
+    ∙ ap (λ (y : ℕ). some (fromUtf8 (partFrom (getD starts k 0) y predefinedList))) q
+    ∙ listed-right k h
 
 past : {A : Type 0} (xs : List A) (k : ℕ) → length xs ≤ k → none ≡ getElem? xs k
 past [] k h = refl

@@ -18,7 +18,7 @@ use Rattle.names.specs.Records as definition
 use Rattle.names.specs.Records.{decides, operated, textOf}
 use Rattle.names.specs.Names.{Names, recordAt, stringsFrom, endsFit, d2String, string}
 use Rattle.names.specs.Name.{sourceText, nameText}
-use Rattle.names.specs.Index.{Sums, RecordAt, IndexOf, foundIn, FoundBelow, FindTold, PlaceTold, DecidedIs, DecidedTold}
+use Rattle.names.specs.Index.{Sums, RecordAt, IndexOf, foundIn, FoundBelow, FindTold, PlaceTold, NamedTold, DecidedIs, DecidedTold}
 use Rattle.names.specs.RecordTold.{recordTold, RecordTold}
 use Rattle.names.specs.Steps.{plain, absentName, extentOf}
 use Rattle.names.specs.declared.name.Name.{Name}
@@ -79,24 +79,16 @@ module _ (bytes starts ends firsts : List ℕ) (count : ℕ) (records : List def
         let b = below in
         absurd (p (omega (arith, i .starts-long)) (omega (arith, i .ends-long)) (stands .ordered) (stands .inside))
 
-    module _ {start end : ℕ} (p : PlaceTold bytes starts ends k (extent.Part start end)) (read : Record) (r : RecordTold start (partFrom start end bytes) read)
-        {b : Bool} (d : (base : ℕ) (s : List ℕ) → b ≡ isSome (pieceTold base s (read .string)) || isSome (indexTold (read .predefined))) where
+    module _ {start end : ℕ} (p : PlaceTold bytes starts ends k (extent.Part start end)) (units : List ℕ) where
       here : RecordAt bytes start end the
       here = rw (p .0, p .1) stands
 
-      is : the ≡ recordTold start (partFrom start end bytes) read
-      is = here .is ∙ r .is (here .message) (here .cuts)
-
-      by-it : decides the ≡ b
-      by-it = ap decides is ∙ sym (d start (partFrom start end bytes))
-
-      pub string-decided : b ≡ true → {x : Option Text} → x ≡ textOf (recordTold start (partFrom start end bytes) read) → string names index ≡ ok x
+      pub string-named : (r : Decided) → NamedTold bytes start end r → DecidedIs bytes units names index r
       unfolding string
-      string-decided c e = rw (at, by-it, c) (ap ok (ap textOf is ∙ sym e))
-
-      pub string-undecided : b ≡ false → {x : Res (Option Text)} → d2 index ≡ x → string names index ≡ x
-      unfolding string
-      string-undecided c e = rw (at, by-it, c) e
+      string-named (decided.Yes name) n =
+          let h = n .is (here .message) (here .cuts) units in
+          rw (at, ap decides (here .is) ∙ h .0) (ap ok (ap textOf (here .is) ∙ h .1))
+      string-named decided.No n = rw (at, ap decides (here .is) ∙ n .is (here .message) (here .cuts) units)
 
 -- By whether a record decides.
 module _ (bytes starts ends firsts : List ℕ) (count index : ℕ) (r : Decided) (t : DecidedTold bytes starts ends firsts count index r)

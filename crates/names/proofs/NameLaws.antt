@@ -125,6 +125,14 @@ module _ (payload d2 : List ℕ) (n : Name) where
       let e : n .source ≡ 3 = omega arith in
       absurd (f e)
 
+  pub source-listed : n .source ≡ 2 → sourceText payload d2 n ≡ some (fromUtf8 (partFrom (n .start) (n .end) predefinedList))
+  unfolding sourceText
+  source-listed e = rw e
+
+  pub source-own : 0 < n .source → n .source ≤ 3 → (n .source ≡ 3 → ⊥) → (n .source ≡ 2 → ⊥)
+      → sourceText payload d2 n ≡ some (fromUtf8 (partFrom (n .start) (n .end) payload))
+  source-own g h f k = source-bytes g h f ∙ rw (ne-eqb (n .source) 2 k)
+
   pub source-there : 0 < n .source → n .source ≤ 3 → (t : Text) × (sourceText payload d2 n ≡ some t)
   source-there g h =
       below 3 (n .source) (λ l. (_, source-bytes g h λ e. omega arith)) λ l.

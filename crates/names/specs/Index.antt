@@ -1,6 +1,7 @@
 -- The index of the name table's records, one entry a record, and what look-ups in it tell.
 -- Assumes nothing.
 use mathlib.Core.Path.{_≡_}
+use mathlib.Core.Bool.{true, false}
 use mathlib.Core.List.{List, [], _∷_, map}
 use mathlib.Core.Option.{Option, none, some}
 use Prim.Native.Nat.{ℕ, _+_, _^_, _≤_, _<_}
@@ -11,10 +12,11 @@ use Rattle.wire.specs.Wire.{Message, cut}
 use Rattle.wire.specs.Messages.{messages}
 use Rattle.wire.specs.Told.{refusal}
 use Rattle.wire.specs.Asked.{bodies}
-use Rattle.names.specs.Records.{Record, recordOf}
+use Rattle.names.specs.Records.{Record, recordOf, decides, textOf, predefinedText}
 use Rattle.names.specs.Names.{StringTableTypes·record, recordsOf, recordAt, Names, string}
 use Rattle.names.specs.Name.{nameText}
 use Rattle.names.specs.Steps.{BytesName}
+use Rattle.names.specs.declared.name.Name.{Name}
 use Rattle.names.specs.declared.lookup.Decided.{Decided}
 use Rattle.names.specs.declared.lookup.Decided.the-variants as decided
 use Rattle.names.specs.Characters.{partFrom}
@@ -104,6 +106,21 @@ DecidedIs bytes units names index decided.No = string names index ≡ names .d2 
 abbrev pub DecidedBytes : Decided → Type 0
 DecidedBytes (decided.Yes name) = BytesName name
 DecidedBytes decided.No = Unit {0}
+
+-- a predefined string as a name
+pub record ListedTold (index : ℕ) (r : Name) : Type 0 where
+  pub bytes : BytesName r
+  pub is : (payload units : List ℕ) → nameText payload units r ≡ predefinedText index
+
+-- by a record: whether it decides, and its name
+abbrev pub NamedIs : List ℕ → List ℕ → Record → Decided → Type 0
+NamedIs bytes units r (decided.Yes name) = (decides r ≡ true) × (textOf r ≡ nameText bytes units name)
+NamedIs bytes units r decided.No = decides r ≡ false
+
+-- by the record whose message stands from start to end
+pub record NamedTold (bytes : List ℕ) (start end : ℕ) (r : Decided) : Type 0 where
+  pub made : DecidedBytes r
+  pub is : (m : Message) → cut (_from_ start (partFrom start end bytes)) ≡ ok m → (units : List ℕ) → NamedIs bytes units (recordOf m) r
 
 pub record DecidedTold (bytes starts ends firsts : List ℕ) (count index : ℕ) (r : Decided) : Type 0 where
   pub made : DecidedBytes r

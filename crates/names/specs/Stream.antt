@@ -4,8 +4,8 @@ use mathlib.Core.Bool.{Bool, true, false, _&&_, _||_}
 use mathlib.Core.Path.{_≡_}
 use mathlib.Core.List.{List, [], _∷_, _++_, map}
 use mathlib.Core.Option.{Option, none, some}
-use Prim.Native.Nat.{ℕ, _+_}
-use lib.Dec.{eqb}
+use Prim.Native.Nat.{ℕ, _+_, _≤_}
+use lib.Dec.{eqb, ltb}
 use lib.ListN.{length, drop}
 use lib.Seq.{sets}
 use Rattle.foundation.specs.Choices.{if_then_else_, ifSome}
@@ -49,6 +49,21 @@ withSlashes slashes c = if slashes then instead 0x2e 0x2f c else c
 
 unfoldable pub changed : Change → ℕ → ℕ
 changed h c = withSlashes (h .slashes) (withDots (h .dots) (instead (h .from) (h .to) c))
+
+-- of characters below 128 alone
+unfoldable pub isAscii : List ℕ → Bool
+isAscii [] = true
+isAscii (c ∷ cs) = ltb c 0x80 && isAscii cs
+
+-- a part that is there, of characters below 128 alone
+pub record PlainPart (s : List ℕ) (start end : ℕ) : Type 0 where
+  pub ordered : start ≤ end
+  pub inside : end ≤ length s
+  pub ascii : isAscii (partFrom start end s) ≡ true
+
+-- a character, if none is replaced
+abbrev pub shown : Bool → Bool → ℕ → ℕ
+shown dots slashes c = withSlashes slashes (withDots dots c)
 
 -- the text that operation 2 puts in front
 abbrev pub prefixOf : ℕ → Text

@@ -2,15 +2,17 @@
 ghost use mathlib.Core.Path.{_≡_};
 ghost use mathlib.Core.Bool.{true};
 ghost use mathlib.Core.List.{List};
-ghost use Prim.Native.Nat.{ℕ};
+ghost use Prim.Native.Nat.{ℕ, _^_, _≤_, _<_};
 ghost use lib.ListN.{length, getElem?};
 ghost use Rattle.names.specs.Records.{Record};
 ghost use Rattle.foundation.specs.Results.{ok};
 ghost use Rattle.names.specs.Name.{nameText};
 ghost use Rattle.names.specs.Names.{stringsFrom, endsFit, d2String, string};
-ghost use Rattle.names.specs.Index.{FindTold, IndexOf, PlaceTold, DecidedTold};
+ghost use Rattle.names.specs.Index.{FindTold, IndexOf, PlaceTold, ListedTold, NamedTold, DecidedTold};
 ghost use Rattle.names.specs.Steps.{extentOf};
+use super::name::Listed;
 use super::name::Name;
+use super::name::predefined;
 use super::records::record_in;
 use super::steps::Extent;
 use super::steps::absent;
@@ -117,6 +119,76 @@ pub enum Decided {
     No,
 }
 
+// The name that the record from `start` to `end` builds, if it decides.
+fn read_record(bytes: &[u8], start: usize, end: usize) -> Decided
+    requires { ⌜ (start ≤ end) × (end ≤ length (now bytes)) × (start < 2 ^ 32) ⌝ }
+    ensures { λ r. ⌜ NamedTold (now (bytes .entry)) start end r ⌝ }
+{
+    let read = record_in(&bytes[start..end], start as u32);
+    let text = read.string;
+    let predefined = read.predefined;
+    if decides(text, predefined) {
+        let name = record_name(bytes, start, read);
+        return Decided::Yes { name };
+    }
+    Decided::No
+}
+
+// A predefined string as a name, with no step.
+fn listed_name(index: u32) -> Name
+    ensures { λ r. ⌜ ListedTold index r ⌝ }
+{
+    let listed = predefined(index);
+    let Listed::Part { start, end } = listed else {
+        return absent();
+    };
+    Name {
+        source: 2,
+        start,
+        end,
+        from: 0,
+        to: 0,
+        operation: 0,
+        qualified: false,
+    }
+}
+
+// The tags of a record's fields 1 to 3, which are varints.
+const RANGE: u32 = 8;
+
+const PREDEFINED_INDEX: u32 = 16;
+
+const OPERATION: u32 = 24;
+
+// The same as `read_record`. Most records have no field, or one of two bytes: its tag and its number.
+fn record_at(bytes: &[u8], start: usize, end: usize) -> Decided
+    requires { ⌜ (start ≤ end) × (end ≤ length (now bytes)) × (start < 2 ^ 32) ⌝ }
+    ensures { λ r. ⌜ NamedTold (now (bytes .entry)) start end r ⌝ }
+{
+    let size = end - start;
+    if size == 0 {
+        return Decided::No;
+    }
+    if size == 2 {
+        let tag = crate::wide(bytes[start]);
+        let number = crate::wide(bytes[start + 1]);
+        if number < 128 {
+            if tag == PREDEFINED_INDEX {
+                return Decided::Yes {
+                    name: listed_name(number),
+                };
+            }
+            if tag == RANGE {
+                return Decided::No;
+            }
+            if tag == OPERATION {
+                return Decided::No;
+            }
+        }
+    }
+    read_record(bytes, start, end)
+}
+
 // The name that the record of an index builds, if it decides: it has a string or a predefined index, even if its text can't be built.
 pub fn by_record(
     bytes: &[u8],
@@ -136,14 +208,7 @@ pub fn by_record(
     let Extent::Part { start, end } = place else {
         return Decided::No;
     };
-    let read = record_in(&bytes[start..end], start as u32);
-    let text = read.string;
-    let predefined = read.predefined;
-    if decides(text, predefined) {
-        let name = record_name(bytes, start, read);
-        return Decided::Yes { name };
-    }
-    Decided::No
+    record_at(bytes, start, end)
 }
 
 // The string with an index, of the name table whose index stands in `starts`, `ends` and `firsts`; d2's strings end at `d2ends`.

@@ -38,7 +38,7 @@ pub const PREDEFINED: [u8; 878] =
     *b"kotlin/Anykotlin/Nothingkotlin/Unitkotlin/Throwablekotlin/Numberkotlin/Bytekotlin/Doublekotlin/Floatkotlin/Intkotlin/Longkotlin/Shortkotlin/Booleankotlin/Charkotlin/CharSequencekotlin/Stringkotlin/Comparablekotlin/Enumkotlin/Arraykotlin/ByteArraykotlin/DoubleArraykotlin/FloatArraykotlin/IntArraykotlin/LongArraykotlin/ShortArraykotlin/BooleanArraykotlin/CharArraykotlin/Cloneablekotlin/Annotationkotlin/collections/Iterablekotlin/collections/MutableIterablekotlin/collections/Collectionkotlin/collections/MutableCollectionkotlin/collections/Listkotlin/collections/MutableListkotlin/collections/Setkotlin/collections/MutableSetkotlin/collections/Mapkotlin/collections/MutableMapkotlin/collections/Map.Entrykotlin/collections/MutableMap.MutableEntrykotlin/collections/Iteratorkotlin/collections/MutableIteratorkotlin/collections/ListIteratorkotlin/collections/MutableListIterator";
 
 // Where each of them starts, and where the last ends.
-const STARTS: [usize; 45] = [
+const STARTS: [u16; 45] = [
     0,
     10,
     24,
@@ -91,6 +91,12 @@ pub enum Listed {
     Nothing,
 }
 
+fn wide(n: u16) -> usize
+    ensures { λ r. ⌜ r ≡ n ⌝ }
+{
+    n as usize
+}
+
 // The part of the list that a predefined string is.
 pub fn predefined(index: u32) -> Listed
     ensures { λ r. ⌜ listedText r ≡ predefinedText index ⌝ }
@@ -100,14 +106,15 @@ pub fn predefined(index: u32) -> Listed
     }
     let i = index as usize;
     let next = i + 1;
+    let starts = STARTS;
     Listed::Part {
-        start: STARTS[i],
-        end: STARTS[next],
+        start: wide(starts[i]),
+        end: wide(starts[next]),
     }
 }
 
 // The part of `s` from a place to another, as far as `s` goes.
-fn part_of(s: &[u8], start: usize, end: usize) -> &[u8]
+pub fn part_of(s: &[u8], start: usize, end: usize) -> &[u8]
     ensures { λ r. ⌜ now r ≡ partFrom start end (now (s .entry)) ⌝ }
 {
     if end <= start {

@@ -1,20 +1,22 @@
 // Names written: straight from their source into the text area, character by character.
 use crate::Character;
+use crate::ascii;
 use crate::name::Change;
 use crate::name::Name;
 use crate::name::PREDEFINED;
-use crate::name::base_part;
 use crate::name::change_of;
 use crate::name::character_of;
+use crate::name::part_of;
 ghost use mathlib.Core.Path.{_≡_};
+ghost use mathlib.Core.Bool.{true};
 ghost use Prim.Native.Nat.{_+_, _^_, _≤_, _<_};
 ghost use lib.ListN.{length};
 ghost use Rattle.names.specs.Characters.{fromUtf8, fromUtf16, utf8, partFrom};
-ghost use Rattle.names.specs.Name.{sourceText};
-ghost use Rattle.names.specs.Stream.{changedBytes, sourceBytes, nameBytes, PutText, prefixOf, printed, sameFrom, begins, PrefixTold, sameSource, sameName};
+ghost use Rattle.names.specs.Name.{predefinedList, sourceText};
+ghost use Rattle.names.specs.Stream.{changedBytes, sourceBytes, nameBytes, PutText, PlainPart, prefixOf, printed, sameFrom, begins, PrefixTold, sameSource, sameName};
 
-// The text of some bytes, each character changed. Answers the place after it.
-fn put_bytes(s: &[u8], change: Change, area: &mut [u8], at: usize) -> usize
+// The text of some bytes, each character changed, one by one. Answers the place after it.
+fn put_utf8(s: &[u8], change: Change, area: &mut [u8], at: usize) -> usize
     requires { ⌜ at + length (changedBytes change (fromUtf8 (now s))) < 2 ^ 64 ⌝ }
     ensures { λ r. ⌜ PutText (changedBytes change (fromUtf8 (now (s .entry)))) at r (now (area .entry)) (now (area .exit)) ⌝ }
 {
@@ -32,7 +34,7 @@ fn put_bytes(s: &[u8], change: Change, area: &mut [u8], at: usize) -> usize
 }
 
 // The same of units of d2.
-fn put_units(
+fn put_utf16(
     units: &[u16],
     start: usize,
     end: usize,
@@ -56,6 +58,67 @@ fn put_units(
     }
 }
 
+// The text of some bytes, each character changed: at once where it is made of characters below 128, none is replaced, and there is room
+// for all of it or, as in measuring, for none.
+fn put_bytes(s: &[u8], change: Change, area: &mut [u8], at: usize) -> usize
+    requires { ⌜ at + length (changedBytes change (fromUtf8 (now s))) < 2 ^ 64 ⌝ }
+    ensures { λ r. ⌜ PutText (changedBytes change (fromUtf8 (now (s .entry)))) at r (now (area .entry)) (now (area .exit)) ⌝ }
+{
+    if change.from == change.to {
+        if ascii::ascii_bytes(s) {
+            let next = at + s.len();
+            if area.len() <= at {
+                return next;
+            }
+            if next <= area.len() {
+                ascii::copy_bytes(s, change.dots, change.slashes, area, at);
+                return next;
+            }
+        }
+    }
+    put_utf8(s, change, area, at)
+}
+
+// Is a part of d2 there, and made of characters below 128?
+fn plain_units(units: &[u16], start: usize, end: usize) -> bool
+    ensures { λ r. ⌜ (r ≡ true → PlainPart (now (units .entry)) start end) ⌝ }
+{
+    if end < start {
+        return false;
+    }
+    if units.len() < end {
+        return false;
+    }
+    ascii::ascii_units(units, start, end)
+}
+
+// The same of units of d2.
+fn put_units(
+    units: &[u16],
+    start: usize,
+    end: usize,
+    change: Change,
+    area: &mut [u8],
+    at: usize,
+) -> usize
+    requires { ⌜ at + length (changedBytes change (fromUtf16 (partFrom start end (now units)))) < 2 ^ 64 ⌝ }
+    ensures { λ r. ⌜ PutText (changedBytes change (fromUtf16 (partFrom start end (now (units .entry))))) at r (now (area .entry)) (now (area .exit)) ⌝ }
+{
+    if change.from == change.to {
+        if plain_units(units, start, end) {
+            let next = at + (end - start);
+            if area.len() <= at {
+                return next;
+            }
+            if next <= area.len() {
+                ascii::copy_units(units, start, end, change.dots, change.slashes, area, at);
+                return next;
+            }
+        }
+    }
+    put_utf16(units, start, end, change, area, at)
+}
+
 // What operation 2 puts in front.
 fn put_prefix(operation: u8, slashes: bool, area: &mut [u8], at: usize) -> usize
     requires { ⌜ at + length (utf8 (printed slashes (prefixOf operation))) < 2 ^ 64 ⌝ }
@@ -70,6 +133,14 @@ fn put_prefix(operation: u8, slashes: bool, area: &mut [u8], at: usize) -> usize
     }
     sheet::put_all(area, at, b"kotlin.collections.");
     at + 19
+}
+
+// A part of the predefined list. The list stands in no function that writes other names, since each call copies it.
+fn put_listed(start: usize, end: usize, change: Change, area: &mut [u8], at: usize) -> usize
+    requires { ⌜ at + length (changedBytes change (fromUtf8 (partFrom start end predefinedList))) < 2 ^ 64 ⌝ }
+    ensures { λ r. ⌜ PutText (changedBytes change (fromUtf8 (partFrom start end predefinedList))) at r (now (area .entry)) (now (area .exit)) ⌝ }
+{
+    put_bytes(part_of(&PREDEFINED, start, end), change, area, at)
 }
 
 // The characters of a name's source, changed.
@@ -90,8 +161,10 @@ fn put_source(
     if source == 3 {
         return put_units(d2, start, end, change, area, at);
     }
-    let base = base_part(payload, &PREDEFINED, source, start, end);
-    put_bytes(base, change, area, at)
+    if source == 2 {
+        return put_listed(start, end, change, area, at);
+    }
+    put_bytes(part_of(payload, start, end), change, area, at)
 }
 
 // A name's text in UTF-8, as far as the area goes; an absent one has none. Answers the place after it.
@@ -209,6 +282,13 @@ fn skip_prefix(operation: u8, slashes: bool, text: &[u8]) -> Prefix
     Prefix::Missing
 }
 
+// The same of a part of the predefined list.
+fn same_listed(start: usize, end: usize, change: Change, text: &[u8], from: usize) -> bool
+    ensures { λ r. ⌜ r ≡ sameFrom change (fromUtf8 (partFrom start end predefinedList)) (now (text .entry)) from ⌝ }
+{
+    same_bytes(part_of(&PREDEFINED, start, end), change, text, from)
+}
+
 // Are the characters of a name's source, changed, what `text` holds from a place on?
 fn same_source(
     payload: &[u8],
@@ -227,8 +307,10 @@ fn same_source(
     if source == 3 {
         return same_units(d2, start, end, change, text, from);
     }
-    let base = base_part(payload, &PREDEFINED, source, start, end);
-    same_bytes(base, change, text, from)
+    if source == 2 {
+        return same_listed(start, end, change, text, from);
+    }
+    same_bytes(part_of(payload, start, end), change, text, from)
 }
 
 // Is the name there, and `text` its text? The bytes of `text` stand for characters of their number.

@@ -1,83 +1,61 @@
-use mathlib.Core.Path.{_∙_, sym}
-use Prim.Native.Nat.{_-_, _^_}
-use native.Mathlib.Omega.{arith}
-use lib.ListN.{length, drop}
-use Rattle.names.specs.Characters.{fromUtf8}
-use Rattle.names.proofs.CharacterLaws.{utf8-end, utf8-next, utf8-inside}
-use Rattle.names.proofs.StreamLaws.{Streaming, streaming-start, streaming-end, streaming-fits, streaming-next}
+use mathlib.Core.Path.{refl, sym, _∙_}
+use Rattle.names.specs.Stream.{shown}
+use Rattle.names.proofs.AsciiLaws.{bytes-bytes, shown-put, shown-past, shown-fits}
 use borrow.Author.Needs.{needs}
 use Rattle.names.proofs.stream.put_bytes.Statement.{statement}
 use Rattle.names.proofs.stream.put_bytes.Tie as tie
 use Rattle.names.proofs.stream.put_bytes.Reads as reads
 use Rattle.names.proofs.stream.put_bytes.Lts as lts
-use Rattle.names.proofs.name.character_of.Reads as character-of-reads
-use Rattle.names.proofs.put_character.Reads as put-character-reads
-use Rattle.names.proofs.utf8_at.Reads as utf8-at-reads
+use Rattle.names.proofs.ascii.ascii_bytes.Reads as ascii-bytes-reads
+use Rattle.names.proofs.ascii.copy_bytes.Reads as copy-bytes-reads
+use Rattle.names.proofs.stream.put_utf8.Reads as put-utf8-reads
 
-abbrev Inv-loop : tie.InvT-loop
-Inv-loop s change area₀ at i₀ to₀ area i to = Streaming change (fromUtf8 s) (fromUtf8 (drop i s)) at to area₀ area
+-- src/stream.rt:68:12
+ascii-bytes-requires : tie.Need-ascii-bytes-requires
+ascii-bytes-requires c κs = search needs
 
-abbrev μ-loop : tie.MeasureT-loop
-μ-loop s change area₀ at i₀ to₀ area i to = length s - i
+-- src/stream.rt:69:24
+add-next : tie.Need-add-next
+add-next c = let a = c .before .before .before .before .before .before .args in record { fits = shown-fits (shown (a .change .dots) (a .change .slashes)) (a .s .now) (a .at) (bytes-bytes (a .change) (c .before .before .if1 .taken) (a .s .now) (sym (c .before .ascii-bytes .ensures) ∙ c .if2 .taken)) refl _ (c .before .before .before .before .before .before .pre) }
 
--- src/stream.rt:18:5
-loop-holds : tie.Need-loop-holds Inv-loop μ-loop
-loop-holds c = streaming-start _ (fromUtf8 (c .before .before .args .s .now)) _ _
+-- src/stream.rt:71:17
+returns : tie.Need-returns
+returns c = let a = c .before .before .before .before .before .before .before .args in shown-past (shown (a .change .dots) (a .change .slashes)) (a .s .now) (a .at) (bytes-bytes (a .change) (c .before .before .before .if1 .taken) (a .s .now) (sym (c .before .before .ascii-bytes .ensures) ∙ c .before .if2 .taken)) refl (c .if3 .taken)
 
--- src/stream.rt:19:13
-utf8-at-requires : tie.Need-utf8-at-requires Inv-loop μ-loop
-utf8-at-requires c κs = search needs
+-- src/stream.rt:74:17
+copy-bytes-requires : tie.Need-copy-bytes-requires
+copy-bytes-requires c κs = (sym (c .before .before .before .before .ascii-bytes .ensures) ∙ c .before .before .before .if2 .taken, c .before .if4 .taken)
 
--- src/stream.rt:20:31
-enum-known-character : tie.Need-enum-known-character Inv-loop μ-loop
-enum-known-character c = search needs
+-- src/stream.rt:75:17
+same-length : tie.Need-same-length
+same-length c = search needs
 
--- src/stream.rt:21:13
-enum-told : tie.Need-enum-told Inv-loop μ-loop
-enum-told c = search needs
+-- src/stream.rt:75:17
+returns-2 : tie.Need-returns-2
+returns-2 c = let a = c .before .before .before .before .before .before .before .before .before .before .before .before .args in shown-put (shown (a .change .dots) (a .change .slashes)) (a .s .now) (a .at) (bytes-bytes (a .change) (c .before .before .before .before .before .before .before .before .if1 .taken) (a .s .now) (sym (c .before .before .before .before .before .before .before .ascii-bytes .ensures) ∙ c .before .before .before .before .before .before .if2 .taken)) refl (c .before .before .copy-bytes .ensures)
 
--- src/stream.rt:21:13
-same-length : tie.Need-same-length Inv-loop μ-loop
-same-length c = c .before .before .before .loop .inv .kept
+-- src/stream.rt:79:5
+put-utf8-requires : tie.Need-put-utf8-requires
+put-utf8-requires c κs = search needs
 
--- src/stream.rt:21:13
-returns : tie.Need-returns Inv-loop μ-loop
-returns c = streaming-end (c .before .before .before .loop .inv) (utf8-end _ _ (sym (c .before .before .utf8-at .ensures) ∙ c .enum-told .given .1))
+-- src/stream.rt:63:1
+same-length-2 : tie.Need-same-length-2
+same-length-2 c = search needs
 
--- src/stream.rt:23:51
-character-of-requires : tie.Need-character-of-requires Inv-loop μ-loop
-character-of-requires c κs = search needs
-
--- src/stream.rt:23:13
-put-character-requires : tie.Need-put-character-requires Inv-loop μ-loop
-put-character-requires c κs = search needs
-
--- src/stream.rt:24:9
-add-to : tie.Need-add-to Inv-loop μ-loop
-add-to c = record { fits = streaming-fits (c .before .before .before .before .before .before .before .before .before .loop .inv) _ (utf8-next _ _ (sym (c .before .before .before .before .before .before .before .before .utf8-at .ensures) ∙ c .before .before .before .before .before .before .character .given .1)) (c .before .before .before .character-of .ensures) (c .before .before .put-character .ensures) _ (c .before .before .before .before .before .before .before .before .before .before .before .before .pre) }
-
--- src/stream.rt:18:5
-loop-less : tie.Need-loop-less Inv-loop μ-loop
-loop-less c = let i = utf8-inside _ _ (sym (c .before .before .before .before .before .before .before .before .utf8-at .ensures) ∙ c .before .before .before .before .before .before .character .given .1) in omega arith
-
--- src/stream.rt:18:5
-loop-again : tie.Need-loop-again Inv-loop μ-loop
-loop-again c = streaming-next (c .before .before .before .before .before .before .before .before .before .loop .inv) _ (utf8-next _ _ (sym (c .before .before .before .before .before .before .before .before .utf8-at .ensures) ∙ c .before .before .before .before .before .before .character .given .1)) (c .before .before .before .character-of .ensures) (c .before .before .put-character .ensures)
+-- src/stream.rt:63:1
+returns-3 : tie.Need-returns-3
+returns-3 c = search needs
 
 pub put-bytes-spec : {M : Type 1} → statement M
 put-bytes-spec =
     tie.close
     (tie.spec
-    Inv-loop
-    μ-loop
-    loop-holds
-    utf8-at-requires
-    enum-known-character
-    enum-told
-    same-length
+    ascii-bytes-requires
+    add-next
     returns
-    character-of-requires
-    put-character-requires
-    add-to
-    loop-less
-    loop-again)
+    copy-bytes-requires
+    same-length
+    returns-2
+    put-utf8-requires
+    same-length-2
+    returns-3)
