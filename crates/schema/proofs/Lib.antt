@@ -11,3 +11,7 @@ pub mod NamedLaws
 pub mod ParseLaws
 pub mod EntryLaws
 pub mod TableLaws
+pub mod CountLaws
+pub mod ListLaws
+pub mod FoundLaws
+pub mod GivenLaws

@@ -27,7 +27,7 @@ use Rattle.sheet.specs.declared.State.{State}
 use Rattle.schema.specs.Declarations.{Types, Ty}
 use Rattle.schema.specs.Reading.{Read, pure, _>>=_, kept, Scope, allowance}
 use Rattle.schema.specs.Types.{maxDepth, resolveAt, typeIn, typeAt, declaredType}
-use Rattle.schema.specs.Told.{Lent, Scoped, Room, Ready, Spends, WalkedSpends, PickedSpends, WalkedTold, PickedTold}
+use Rattle.schema.specs.Told.{Lent, Scoped, Ready, Spends, WalkedSpends, PickedSpends, WalkedTold, PickedTold}
 use Rattle.schema.specs.TypesTold.{orNullable, rowsIn, pickedOf, EntryIs, EntryTold, ParseTold, ResolveTold, TypeInTold, DeclaredTold}
 use Rattle.schema.specs.declared.Stop.the-variants as stop
 use Rattle.schema.specs.declared.Walked.{Walked}
@@ -124,11 +124,11 @@ if-same false a = refl
 nothing : Read (Option Ty)
 nothing = pure none
 
-resolve-nothing : (c : Scope) (d i n : ℕ) → getElem? (c .table .types) i ≡ none → resolveAt (typeAt allowance c) c d i n ≡ ok (none, n)
+pub resolve-nothing : (c : Scope) (d i n : ℕ) → getElem? (c .table .types) i ≡ none → resolveAt (typeAt allowance c) c d i n ≡ ok (none, n)
 unfolding resolveAt nothing
 resolve-nothing c d i n h = rw h (ap (λ (m : Read (Option Ty)). m n) (if-same (ltb d maxDepth) nothing))
 
-resolve-deep : (c : Scope) (d i n : ℕ) → maxDepth ≤ d → resolveAt (typeAt allowance c) c d i n ≡ ok (none, n)
+pub resolve-deep : (c : Scope) (d i n : ℕ) → maxDepth ≤ d → resolveAt (typeAt allowance c) c d i n ≡ ok (none, n)
 unfolding resolveAt
 resolve-deep c d i n h = rw (le-ltb d maxDepth h)
 
@@ -140,11 +140,11 @@ from-first f i h = go (ltb f (2 ^ 32)) refl
     go true q = refl
     go false q = let g : 2 ^ 32 ≤ f = ltb-false f (2 ^ 32) q in sym (lt-leb f i (omega arith))
 
-resolve-entry : (e : Lent) (c : Scope) → Scoped e c → (d i n : ℕ) (m : Message) → d < maxDepth → i < 2 ^ 32 → getElem? (c .table .types) i ≡ some m
-    → resolveAt (typeAt allowance c) c d i n
-    ≡ Results._>>=_ (typeAt allowance c (d + 1) m n) (λ q. pure (some (orNullable (leb (e .tables .«first_nullable») i) (q .0))) (q .1))
+pub resolve-entry : (c : Scope) (first : ℕ) → c .table .firstNullable ≡ as32 first → (d i n : ℕ) (m : Message) → d < maxDepth → i < 2 ^ 32
+    → getElem? (c .table .types) i ≡ some m → resolveAt (typeAt allowance c) c d i n
+    ≡ Results._>>=_ (typeAt allowance c (d + 1) m n) (λ q. pure (some (orNullable (leb first i) (q .0))) (q .1))
 unfolding resolveAt
-resolve-entry e c o d i n m h k g = rw (lt-ltb d maxDepth h, g, o .nullable, from-first (e .tables .«first_nullable») i k)
+resolve-entry c first f d i n m h k g = rw (lt-ltb d maxDepth h, g, f, from-first first i k)
 
 module _ (e : Lent) (i left role : ℕ) (s : State) where
   pub resolve-none-left : left ≡ 0 → {S T : List ℕ} → ResolveTold e i left role s picked.Dropped S S T T
@@ -169,7 +169,7 @@ module _ (e : Lent) (i left role : ℕ) (s : State) where
               let deep : d < maxDepth = omega arith in
               let at : resolveAt (typeAt allowance c) c d i (s .types)
               ≡ Results._>>=_ (typeAt allowance c (d + 1) (j .0) (s .types)) (λ q. pure (some (orNullable n (q .0))) (q .1)) =
-              rw f (resolve-entry e c o d i (s .types) (j .0) deep k (j .1)) in
+              rw f (resolve-entry c (e .tables .«first_nullable») (o .nullable) d i (s .types) (j .0) deep k (j .1)) in
               picked-told _ _ (rowsIn role) (orNullable n) s w S S′ T T′ at (p .is c o (j .0) (j .2) (d + 1) (omega arith));
         } in
         subst (λ (y : Picked). ResolveTold e i left role s y S S′ T T′) (sym q) told

@@ -30,7 +30,7 @@ use Rattle.schema.specs.Written.{Room, cellLimit, signatureBy, initBy, h
 use Rattle.schema.specs.declared.rows.SignatureNames.{SignatureNames}
 
 -- A name's text is what is written of it.
-name-text : (payload d2 : List ℕ) (n : Name) → nameBytes payload d2 n false ≡ cellText (named (nameText payload d2 n))
+pub name-text : (payload d2 : List ℕ) (n : Name) → nameBytes payload d2 n false ≡ cellText (named (nameText payload d2 n))
 unfolding nameBytes
 name-text payload d2 n = go (nameText payload d2 n)
   where

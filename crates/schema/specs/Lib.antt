@@ -9,3 +9,6 @@ pub mod Counting
 pub mod Told
 pub mod TypesTold
 pub mod TableTold
+pub mod MembersTold
+pub mod FoundTold
+pub mod ListsTold

@@ -4,7 +4,7 @@ use mathlib.Core.Path.{_≡_}
 use mathlib.Core.Bool.{true}
 use mathlib.Core.List.{List}
 use mathlib.Core.Option.{Option, none, some}
-use Prim.Native.Nat.{ℕ, _+_, _*_, _^_, _≤_, _<_}
+use Prim.Native.Nat.{ℕ, _+_, _*_, _^_, _≤_}
 use lib.ListN.{length, getD, getElem?}
 use Rattle.foundation.specs.Results.{Res, ok, refused, Cause, tooManyTypes, _from_}
 use Rattle.wire.specs.Wire.{Message, cut}
@@ -95,7 +95,7 @@ abbrev pub typeLength : ℕ
 typeLength = 9
 
 -- The text and the records of all types that may still be entered can be counted.
-pub record Room (s : State) : Type 0 where
+pub record TypeRoom (s : State) : Type 0 where
   pub sheet : s .sheet + typeLength * s .types ≤ 2 ^ 62
   pub text : s .text + nameLimit * s .types ≤ 2 ^ 62
   pub types : s .types ≤ allowance
@@ -104,14 +104,7 @@ pub record Room (s : State) : Type 0 where
 pub record Ready (payload d2 : List ℕ) (s : State) : Type 0 where
   pub payload-short : length payload ≤ 32768
   pub d2-short : length d2 ≤ 32768
-  pub room : Room s
-
--- The same for a single name, with a place to count from.
-pub record Named (payload d2 : List ℕ) (s : State) : Type 0 where
-  pub payload-short : length payload ≤ 32768
-  pub d2-short : length d2 ≤ 32768
-  pub sheet : s .sheet < 2 ^ 63
-  pub text : s .text < 2 ^ 63
+  pub room : TypeRoom s
 
 -- A step that enters types writes no more than is counted for them.
 pub record Spends (s s′ : State) : Type 0 where

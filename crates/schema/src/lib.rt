@@ -4,9 +4,10 @@ use sheet::State;
 use wire::WireError;
 
 pub mod rows; // rows.rt: records written from values that are looked up
-pub mod name; // name.rt: names by the index in a field, and their cells
+pub mod name; // name.rt: names by the index in a field
 pub mod table; // table.rt: where the entries of the type table stand
 pub mod types; // types.rt: types, inline and by their index
+pub mod places; // places.rt: where the messages of types stand
 
 // The sizes of what is lent beside the slices: how many records the name table has, how many entries the type table, and from which of
 // these on all are nullable; 2^32 or more: none.
@@ -33,4 +34,22 @@ pub enum Picked {
     Kept { state: State },
     Dropped,
     Refused { stop: Stop },
+}
+
+// A list, and how many of it are kept.
+pub enum Listed {
+    Done { state: State, count: usize },
+    Refused { stop: Stop },
+}
+
+// Where the message of a type stands among the decoded bytes, whether it is nullable by its place in the type table, and what is left of
+// the depth there.
+pub enum Found {
+    Type {
+        start: usize,
+        end: usize,
+        nullable: bool,
+        left: usize,
+    },
+    Nothing,
 }

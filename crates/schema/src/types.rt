@@ -20,7 +20,7 @@ use crate::Stop;
 use crate::Tables;
 use crate::Walked;
 use crate::name::class_name_in;
-use crate::name::put_named;
+use crate::rows::put_named;
 use names::name::Name;
 use sheet::State;
 use sheet::put;
@@ -52,7 +52,7 @@ const MAX_DEPTH: usize = 64;
 
 const ARGUMENT_ROLE: u8 = 5;
 
-fn less(n: usize) -> usize
+pub fn less(n: usize) -> usize
     ensures { λ r. ⌜ r ≡ n - 1 ⌝ }
 {
     if n == 0 {
@@ -67,7 +67,7 @@ fn wide(n: u32) -> usize
     n as usize
 }
 
-fn picked(walked: Walked) -> Picked
+pub fn picked(walked: Walked) -> Picked
     ensures { λ r. ⌜ r ≡ pickedOf walked ⌝ }
 {
     match walked {
@@ -77,7 +77,7 @@ fn picked(walked: Walked) -> Picked
 }
 
 // A type is nullable by its own flag, or if it is said to be.
-fn is_nullable(msg: &[u8], base: u32, said: bool) -> bool
+pub fn is_nullable(msg: &[u8], base: u32, said: bool) -> bool
     ensures { λ r. ⌜ ((m : Message) → cut (_from_ base (now (msg .entry))) ≡ ok m → (said || flag Type·nullable m) ≡ r) ⌝ }
 {
     if said {
@@ -113,7 +113,7 @@ fn put_type(
 }
 
 // Where an entry of the type table stands, if there is one at the index.
-fn entry_at(payload: &[u8], starts: &[u32], ends: &[u32], count: usize, index: u32) -> Piece
+pub fn entry_at(payload: &[u8], starts: &[u32], ends: &[u32], count: usize, index: u32) -> Piece
     ensures { λ r. ⌜ EntryTold (now (payload .entry)) (now (starts .entry)) (now (ends .entry)) count index r ⌝ }
 {
     let i = wide(index);
@@ -137,6 +137,9 @@ fn entry_at(payload: &[u8], starts: &[u32], ends: &[u32], count: usize, index: u
     Piece::Body { start, end }
 }
 
+// `parse_at`, `arguments_at`, `type_in` and `resolve_at` are one cycle. What falls along it is one number of the depth left and the bytes left:
+// left * (1 + bytes of the payload) + bytes of the message. An inline type stands in a shorter message; a look-up, which may go to any entry,
+// takes one of the depth left (proofs/ParseLaws.antt, `work`).
 enum Arguments {
     Done { state: State, count: usize },
     Refused { stop: Stop },

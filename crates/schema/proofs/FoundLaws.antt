@@ -1,0 +1,308 @@
+-- Where types stand: what each answer tells, from what the calls told.
+-- Assumes nothing.
+use mathlib.Core.Path.{_≡_, refl, ap, sym, subst, _∙_}
+use mathlib.Core.Bool.{Bool, false}
+use mathlib.Core.List.{List, [], _∷_}
+use mathlib.Core.Option.{Option, none, some}
+use Prim.Native.Nat.{ℕ, _+_, _-_, _^_, _≤_, _<_}
+use native.Mathlib.Omega.{arith}
+use lib.Dec.{leb}
+use lib.ListN.{length, getElem?}
+use Rattle.foundation.specs.Results as Results
+use Rattle.foundation.specs.Results.{Res, ok, refused, _from_}
+use Rattle.wire.specs.Wire.{Message, cut}
+use Rattle.wire.specs.Messages.{index, message, messages, cutAll}
+use Rattle.wire.specs.Told.{restOf, bodyOf}
+use Rattle.wire.specs.Asked.{EmbeddedIs, EmbeddedInside, EmbeddedTold, indexTold, bodies, NextIs, NextTold, PieceInside, PieceAfter}
+use Rattle.wire.specs.declared.WireError.{WireError}
+use Rattle.wire.specs.declared.message.Piece.{Piece}
+use Rattle.wire.specs.declared.message.Piece.the-variants as piece
+use Rattle.wire.specs.declared.message.Indexed.{Indexed}
+use Rattle.wire.specs.declared.message.Indexed.the-variants as indexed
+use Rattle.wire.specs.declared.message.Embedded.{Embedded}
+use Rattle.wire.specs.declared.message.Embedded.the-variants as embedded
+use Rattle.wire.proofs.WalkLaws.{whole, ok-same}
+use Rattle.names.specs.Characters.{partFrom}
+use Rattle.names.proofs.PartLaws.{part-part, part-short}
+use Rattle.schema.specs.Fields.{Type·argument, Type·Argument·type, Type·Argument·type-id}
+use Rattle.schema.specs.Declarations.{Ty}
+use Rattle.schema.specs.Reading.{Read, pure, keep, kept, Scope, allowance}
+use Rattle.schema.specs.Types.{maxDepth, typeIn, argumentIn, typeAt, declaredType}
+use Rattle.schema.specs.Told.{EntryAt}
+use Rattle.schema.specs.TypesTold.{orNullable, EntryIs, EntryInside, EntryTold}
+use Rattle.schema.specs.FoundTold.{TableOf, FoundTold, FoundFalls, EntryFound, PlaceFound, firstOf, DeclaredFound, ArgumentFound}
+use Rattle.schema.specs.declared.Tables.{Tables}
+use Rattle.schema.specs.declared.Found.{Found}
+use Rattle.schema.specs.declared.Found.the-variants as found
+use Rattle.schema.proofs.TypeLaws.{resolve-nothing, resolve-deep, resolve-entry}
+use Rattle.schema.proofs.ListLaws.{First, cut-first}
+
+-- A reading that was accepted: what it was made of was.
+pub never-given : {A B : Type 0} {c : Results.Cause} {p : ℕ} {a : A} → _≡_ {A = Res A} (refused c p) (ok a) → B
+never-given e = let z : _≡_ {A = ℕ} 0 1 = cc in absurd (omega arith)
+
+pub bind-given : {A B : Type 0} (r : Res A) (f : A → Res B) {b : B} → Results._>>=_ r f ≡ ok b → (a : A) × (r ≡ ok a) × (f a ≡ ok b)
+bind-given (ok a) f e = (a, refl, e)
+bind-given (refused c p) f e = never-given e
+
+pub first-same : {A : Type 0} {a a′ : A} {n n′ : ℕ} → _≡_ {A = Res (A × ℕ)} (ok (a, n)) (ok (a′, n′)) → a ≡ a′
+first-same e = ap (λ q. q .0) (ok-same e)
+
+-- a type that is given, found
+given-found : (payload : List ℕ) (c : Scope) (start end : ℕ) (m : Message) → EntryAt payload start end m → (d : ℕ) {left : ℕ} → left ≡ maxDepth - d
+    → (nullable : Bool) (o : Option Ty) (l b : ℕ)
+    → Results._>>=_ (typeAt allowance c d m l) (λ q. pure (some (orNullable nullable (q .0))) (q .1)) ≡ ok (o, b)
+    → FoundTold payload c o (found.Type start end nullable left)
+given-found payload c start end m at d deep nullable o l b e =
+    let it = bind-given (typeAt allowance c d m l) (λ q. pure (some (orNullable nullable (q .0))) (q .1)) e in (
+      it .0 .0,
+      record { message = m; at = at; depth = d; deep = deep; before = l; after = it .0 .1; given = it .1 },
+      sym (first-same (it .2)),
+    )
+
+-- The type at an index.
+module _ (payload starts ends : List ℕ) (tables : Tables) (i left : ℕ) where
+  pub entry-none-left : left ≡ 0 → EntryFound payload starts ends tables i left found.Nothing
+  entry-none-left h = record {
+    inside = tt;
+    falls = tt;
+    is = λ c t d deep o l b e. sym (first-same (sym (resolve-deep c d i l (omega arith)) ∙ e));
+  }
+
+  module _ {x : Piece} (t : EntryTold payload starts ends (tables .types) i x) where
+    there : {y : Piece} → x ≡ y → (c : Scope) → TableOf payload starts ends tables c → EntryIs payload (getElem? (c .table .types) i) y
+    there g c o = subst (EntryIs payload (getElem? (c .table .types) i)) g (t .is (c .table .types) (o .entries))
+
+    pub entry-nowhere : x ≡ piece.Nothing → EntryFound payload starts ends tables i left found.Nothing
+    entry-nowhere g = record {
+      inside = tt;
+      falls = tt;
+      is = λ c s d deep o l b e. sym (first-same (sym (resolve-nothing c d i l (there g c s)) ∙ e));
+    }
+
+    pub entry-there : length payload ≤ 32768 → (left ≡ 0 → ⊥) → i < 2 ^ 32 → {a b : ℕ} → x ≡ piece.Body a b
+        → EntryFound payload starts ends tables i left (found.Type a b (leb (tables .«first_nullable») i) (left - 1))
+    entry-there short h k {a} {b} g =
+        let inside = subst (EntryInside payload) g (t .inside) in
+        record {
+          inside = inside;
+          falls = (omega arith, omega arith);
+          is = λ c s d deep o l n e.
+              let m = there g c s in
+              let at : EntryAt payload a b (m .0) = record { ordered = inside .0; inside = inside .1; cuts = m .2 } in
+              let shallow : d < maxDepth = omega arith in
+              given-found payload c a b (m .0) at (d + 1) (omega arith) (leb (tables .«first_nullable») i) o l n
+              (sym (resolve-entry c (tables .«first_nullable») (s .nullable) d i l (m .0) shallow k (m .1)) ∙ e);
+        }
+
+-- The walk from a message goes as far as from the start at least.
+falls-more : (left start end start′ end′ : ℕ) → end - start ≤ end′ - start′ → (r : Found) → FoundFalls left start end r → FoundFalls left start′ end′ r
+falls-more left start end start′ end′ h (found.Type a b n l) f = (f .0, omega (arith, f .1))
+falls-more left start end start′ end′ h found.Nothing f = tt
+
+-- a message inside another
+part-at : (payload : List ℕ) (start end a b : ℕ) → start ≤ end → end ≤ length payload → a ≤ b → b ≤ length (partFrom start end payload) → (m : Message)
+    → cut (bodyOf start (partFrom start end payload) a b) ≡ ok m → EntryAt payload (start + a) (start + b) m
+part-at payload start end a b p q h k m e = record {
+  ordered = omega arith;
+  inside = omega (arith, part-short payload start end);
+  cuts = ap (λ (l : List ℕ). cut (_from_ (start + a) l)) (sym (part-part payload start end a b h k)) ∙ e;
+}
+
+-- The type in a message.
+module _ (payload starts ends : List ℕ) (tables : Tables) (start end inline byIndex left : ℕ) (ordered : start ≤ end) (inside : end ≤ length payload)
+    {x : Embedded} (t : EmbeddedTold start (partFrom start end payload) inline x) where
+  here : {y : Embedded} → x ≡ y → (m : Message) → EntryAt payload start end m → EmbeddedIs start (partFrom start end payload) inline m y
+  here g m at = subst (EmbeddedIs start (partFrom start end payload) inline m) g (t .is m (at .cuts))
+
+  pub place-in : {a b : ℕ} → x ≡ embedded.Inline a b → (a ≤ b) × (start + b ≤ end) × (0 < a)
+  place-in g =
+      let i = subst (EmbeddedInside (partFrom start end payload)) g (t .inside) in
+      (i .0, omega (arith, i .1, part-short payload start end), i .2)
+
+  pub place-inline : {a b : ℕ} → x ≡ embedded.Inline a b
+      → PlaceFound payload starts ends tables start end inline byIndex left (found.Type (start + a) (start + b) false left)
+  unfolding typeIn
+  place-inline {a} {b} g =
+      let i = subst (EmbeddedInside (partFrom start end payload)) g (t .inside) in
+      let p = place-in g in
+      record {
+        inside = (omega arith, omega arith);
+        falls = (omega arith, omega arith);
+        is = λ c s m at d deep o l n e.
+            let it = here g m at in
+            given-found payload c (start + a) (start + b) (it .0) (part-at payload start end a b ordered inside (i .0) (i .1) (it .0) (it .1)) d deep false o l n
+            (rw (it .2) at e);
+      }
+
+  pub place-refused : {error : WireError} → x ≡ embedded.Refused error
+      → PlaceFound payload starts ends tables start end inline byIndex left found.Nothing
+  unfolding typeIn
+  place-refused g = record { inside = tt; falls = tt; is = λ c s m at d deep o l n e. never-given (rw (here g m at) at e) }
+
+  module _ (g : x ≡ embedded.Nothing) {y : Indexed}
+      (i : (m : Message) → cut (_from_ start (partFrom start end payload)) ≡ ok m → index byIndex m ≡ indexTold y) where
+    pub place-nowhere : y ≡ indexed.Nothing → PlaceFound payload starts ends tables start end inline byIndex left found.Nothing
+    unfolding typeIn
+    place-nowhere h = record {
+      inside = tt;
+      falls = tt;
+      is = λ c s m at d deep o l n e. sym (first-same (rw (here g m at, i m (at .cuts), h) at e));
+    }
+
+    pub place-indexed : {k : ℕ} → y ≡ indexed.At k → {r : Found} → EntryFound payload starts ends tables k left r
+        → PlaceFound payload starts ends tables start end inline byIndex left r
+    unfolding typeIn
+    place-indexed h {r} f = record {
+      inside = f .inside;
+      falls = falls-more left 0 0 start end (omega arith) r (f .falls);
+      is = λ c s m at d deep o l n e. f .is c s d deep o l n (rw (here g m at, i m (at .cuts), h) at e);
+    }
+
+-- A declaration's own type, at depth 0.
+pub declared-found : {payload starts ends : List ℕ} {tables : Tables} {start end inline byIndex : ℕ} {r : Found}
+    → PlaceFound payload starts ends tables start end inline byIndex maxDepth r → DeclaredFound payload starts ends tables start end inline byIndex r
+unfolding declaredType
+declared-found p = record { inside = p .inside; falls = p .falls; is = λ c s m at o l n e. p .is c s m at 0 refl o l n e }
+
+-- What is kept of a message and of those after it, where it is given.
+record Kept (f : Message → Read (Option Ty)) (m : Message) (ms : List Message) (n : ℕ) (ts : List Ty) : Type 0 where
+  it : Option Ty
+  between : ℕ
+  others : List Ty
+  after : ℕ
+  first : f m n ≡ ok (it, between)
+  later : kept f ms between ≡ ok (others, after)
+  are : ts ≡ keep it others
+
+kept-given : (f : Message → Read (Option Ty)) (m : Message) (ms : List Message) (n : ℕ) (ts : List Ty) (b : ℕ) → kept f (m ∷ ms) n ≡ ok (ts, b) → Kept f m ms n ts
+unfolding kept
+kept-given f m ms n ts b e =
+    let p = bind-given (f m n) (λ r. Results._>>=_ (kept f ms (r .1)) λ q. pure (keep (r .0) (q .0)) (q .1)) e in
+    let q = bind-given (kept f ms (p .0 .1)) (λ q. pure (keep (p .0 .0) (q .0)) (q .1)) (p .2) in
+    record {
+      it = p .0 .0;
+      between = p .0 .1;
+      others = q .0 .0;
+      after = q .0 .1;
+      first = p .1;
+      later = q .1;
+      are = sym (first-same (q .2));
+    }
+
+-- The walk over the arguments: none before the place is kept, so that what is kept from here on is what is kept of all.
+pub record Passed (f : Message → Read (Option Ty)) (base : ℕ) (msg : List ℕ) (at : ℕ) (ts : List Ty) : Type 0 where
+  pub rest : Message
+  pub others : List Message
+  pub cuts : cut (restOf base msg at) ≡ ok rest
+  pub many : cutAll (bodies Type·argument rest) ≡ ok others
+  pub before : ℕ
+  pub after : ℕ
+  pub given : kept f others before ≡ ok (ts, after)
+
+module _ (f : Message → Read (Option Ty)) (base : ℕ) (msg : List ℕ) (at : ℕ) (ts : List Ty) (g : Passed f base msg at ts) {x : Piece}
+    (t : NextTold base msg Type·argument at x) where
+  next-is : {y : Piece} → x ≡ y → NextIs base msg Type·argument (g .rest) y
+  next-is e = subst (NextIs base msg Type·argument (g .rest)) e (t .is (g .rest) (g .cuts))
+
+  passed-all : x ≡ piece.Nothing → ts ≡ []
+  unfolding cutAll kept
+  passed-all e =
+      let none-left : g .others ≡ [] = ok-same (sym (g .many) ∙ ap cutAll (next-is e)) in
+      sym (first-same (ap (λ (ms : List Message). kept f ms (g .before)) (sym none-left) ∙ g .given))
+
+  module _ {a b : ℕ} (e : x ≡ piece.Body a b) where
+    next : First (bodyOf base msg a b) (bodies Type·argument (next-is e .0)) (g .others)
+    next = cut-first (bodyOf base msg a b) (bodies Type·argument (next-is e .0)) (g .others) (ap cutAll (sym (next-is e .2)) ∙ g .many)
+
+    next-given : Kept f (next .first) (next .others) (g .before) ts
+    next-given =
+        kept-given f (next .first) (next .others) (g .before) ts (g .after)
+        (ap (λ (ms : List Message). kept f ms (g .before)) (sym (next .are)) ∙ g .given)
+
+    passed-kept : {ty : Ty} → next-given .it ≡ some ty → firstOf ts ≡ some ty
+    passed-kept h = ap firstOf (next-given .are) ∙ ap (λ (o : Option Ty). firstOf (keep o (next-given .others))) h
+
+    passed-dropped : next-given .it ≡ none → Passed f base msg b ts
+    passed-dropped h =
+        let same : next-given .others ≡ ts = sym (next-given .are ∙ ap (λ (o : Option Ty). keep o (next-given .others)) h) in
+        record {
+          rest = next-is e .0;
+          others = next .others;
+          cuts = next-is e .1;
+          many = next .many;
+          before = next-given .between;
+          after = next-given .after;
+          given = next-given .later ∙ ap (λ (l : List Ty). ok (l, next-given .after)) same;
+        }
+
+-- The loop over the arguments.
+pub record Seeking (payload starts ends : List ℕ) (tables : Tables) (start end left at : ℕ) : Type 0 where
+  pub passed : (c : Scope) → TableOf payload starts ends tables c → (m : Message) → EntryAt payload start end m → (ms : List Message)
+      → messages Type·argument m ≡ ok ms → (d : ℕ) → left ≡ maxDepth - d → (ts : List Ty) (l b : ℕ)
+      → kept (argumentIn (typeAt allowance c) c d) ms l ≡ ok (ts, b)
+      → Passed (argumentIn (typeAt allowance c) c d) start (partFrom start end payload) at ts
+
+module _ (payload starts ends : List ℕ) (tables : Tables) (start end left : ℕ) where
+  pub seeking-start : Seeking payload starts ends tables start end left 0
+  unfolding messages
+  seeking-start = record {
+    passed = λ c s m at ms h d deep ts l b e. record {
+      rest = m;
+      others = ms;
+      cuts = ap cut (whole start (partFrom start end payload)) ∙ at .cuts;
+      many = h;
+      before = l;
+      after = b;
+      given = e;
+    };
+  }
+
+  module _ (at : ℕ) (g : Seeking payload starts ends tables start end left at) {x : Piece} (t : NextTold start (partFrom start end payload) Type·argument at x) where
+    pub seeking-end : x ≡ piece.Nothing → ArgumentFound payload starts ends tables start end left found.Nothing
+    seeking-end q = record {
+      inside = tt;
+      falls = tt;
+      is = λ c s m a ms h d deep ts l b e.
+          ap firstOf (passed-all (argumentIn (typeAt allowance c) c d) start (partFrom start end payload) at ts (g .passed c s m a ms h d deep ts l b e) t q);
+    }
+
+    module _ {a b : ℕ} (q : x ≡ piece.Body a b) (ordered : start ≤ end) (inside : end ≤ length payload) where
+      piece-inside : (a ≤ b) × (b ≤ length (partFrom start end payload)) × (0 < a)
+      piece-inside = subst (PieceInside (partFrom start end payload)) q (t .inside)
+
+      pub seeking-in : (a ≤ b) × (start + b ≤ end) × (at < b)
+      seeking-in = (piece-inside .0, omega (arith, piece-inside, part-short payload start end), subst (PieceAfter at) q (t .later))
+
+      module _ {r : Found} (p : PlaceFound payload starts ends tables (start + a) (start + b) Type·Argument·type Type·Argument·type-id left r) where
+        -- what the place says of the next argument
+        argument-found : (c : Scope) → TableOf payload starts ends tables c → (d : ℕ) → left ≡ maxDepth - d → (ts : List Ty)
+            (k : Passed (argumentIn (typeAt allowance c) c d) start (partFrom start end payload) at ts)
+            → FoundTold payload c (next-given (argumentIn (typeAt allowance c) c d) start (partFrom start end payload) at ts k t q .it) r
+        unfolding argumentIn
+        argument-found c s d deep ts k =
+            let f = argumentIn (typeAt allowance c) c d in
+            let n = next f start (partFrom start end payload) at ts k t q in
+            let i = next-given f start (partFrom start end payload) at ts k t q in
+            p .is c s (n .first) (part-at payload start end a b ordered inside (piece-inside .0) (piece-inside .1) (n .first) (n .cuts)) d deep (i .it) (k .before) (i .between) (i .first)
+
+        pub seeking-kept : {u v : ℕ} {nullable : Bool} {w : ℕ} → r ≡ found.Type u v nullable w → ArgumentFound payload starts ends tables start end left r
+        seeking-kept {u} {v} {nullable} {w} e = record {
+          inside = p .inside;
+          falls = falls-more left (start + a) (start + b) start end (omega (arith, seeking-in)) r (p .falls);
+          is = λ c s m h ms i d deep ts l n j.
+              let f = argumentIn (typeAt allowance c) c d in
+              let k = g .passed c s m h ms i d deep ts l n j in
+              let it = subst (FoundTold payload c (next-given f start (partFrom start end payload) at ts k t q .it)) e (argument-found c s d deep ts k) in
+              let told : FoundTold payload c (firstOf ts) (found.Type u v nullable w) = (it .0, it .1, passed-kept f start (partFrom start end payload) at ts k t q (it .2)) in
+              subst (FoundTold payload c (firstOf ts)) (sym e) told;
+        }
+
+        pub seeking-on : r ≡ found.Nothing → Seeking payload starts ends tables start end left b
+        seeking-on e = record {
+          passed = λ c s m h ms i d deep ts l n j.
+              let f = argumentIn (typeAt allowance c) c d in
+              let k = g .passed c s m h ms i d deep ts l n j in
+              passed-dropped f start (partFrom start end payload) at ts k t q
+              (subst (FoundTold payload c (next-given f start (partFrom start end payload) at ts k t q .it)) e (argument-found c s d deep ts k));
+        }
