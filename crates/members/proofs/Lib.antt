@@ -1,0 +1,7 @@
+pub mod SignatureLaws
+pub mod FlagLaws
+pub mod OptionalLaws
+pub mod ReceiverLaws
+pub mod PropertyLaws
+pub mod ParameterLaws
+pub mod CallableLaws

@@ -1,0 +1,5 @@
+pub mod OptionalTold
+pub mod SignaturesTold
+pub mod CallablesTold
+pub mod PropertiesTold
+pub mod ParametersTold

@@ -1,0 +1,19 @@
+-- What is told of a declaration's own type, which may not be there.
+-- Assumes nothing.
+use mathlib.Core.Path.{_≡_}
+use mathlib.Core.List.{List}
+use Prim.Native.Nat.{ℕ}
+use Rattle.foundation.specs.Results.{ok, _from_}
+use Rattle.wire.specs.Wire.{Message, cut}
+use Rattle.sheet.specs.declared.State.{State}
+use Rattle.schema.specs.Reading.{Scope}
+use Rattle.schema.specs.Types.{declaredType}
+use Rattle.schema.specs.Rows.{typeRows}
+use Rattle.schema.specs.Told.{Lent, Scoped, WalkedSpends, WalkedTold}
+use Rattle.schema.specs.declared.Walked.{Walked}
+
+-- the type and its rows, or nothing and none
+pub record OptionalTold (e : Lent) (msg : List ℕ) (base inline indexed role : ℕ) (s : State) (r : Walked) (S S′ T T′ : List ℕ) : Type 0 where
+  pub spends : WalkedSpends s r
+  pub is : (c : Scope) → Scoped e c → (m : Message) → cut (_from_ base msg) ≡ ok m
+      → WalkedTold (declaredType c inline indexed m (s .types)) (typeRows role) s r S S′ T T′

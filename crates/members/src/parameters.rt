@@ -1,0 +1,278 @@
+// Value parameters: a name, whether a default is declared, a type and the type of vararg elements. The definitions: specs/Members.antt,
+// `parameterIn`; what the readers tell: specs/ParametersTold.antt, specs/MembersTold.antt.
+ghost use mathlib.Core.Path.{_≡_};
+ghost use Prim.Native.Nat.{_+_, _*_, _≤_};
+ghost use lib.ListN.{length};
+ghost use Rattle.foundation.specs.Results.{ok, _from_};
+ghost use Rattle.wire.specs.Wire.{cut, Message};
+ghost use Rattle.schema.specs.Fields.{ValueParameter·flags};
+ghost use Rattle.schema.specs.Members.{bitOf, smallFlagsIn, parameterIn};
+ghost use Rattle.schema.specs.Rows.{parameterRows};
+ghost use Rattle.schema.specs.Told.{lent, Ready};
+ghost use Rattle.schema.specs.MembersTold.{Affords, parameterCost, MemberTold, ListTold};
+ghost use Rattle.schema.specs.ListsTold.{ListAtTold};
+ghost use Rattle.members.specs.ParametersTold.{ParameterTypesTold};
+use crate::flags::OMITTED_SMALL;
+use crate::flags::flags_in;
+use crate::optional::optional_type;
+use names::name::is_there;
+use schema::Listed;
+use schema::Picked;
+use schema::Stop;
+use schema::Tables;
+use schema::Walked;
+use schema::name::name_in;
+use schema::rows::put_parameter;
+use schema::types::picked;
+use sheet::State;
+use wire::message::Checked;
+use wire::message::Piece;
+use wire::message::check_messages;
+use wire::message::next_body;
+
+// Field numbers of metadata.proto's ValueParameter.
+const FLAGS: u32 = 1;
+
+const NAME: u32 = 2;
+
+const TYPE: u32 = 3;
+
+const VARARG_TYPE: u32 = 4;
+
+const TYPE_ID: u32 = 5;
+
+const VARARG_TYPE_ID: u32 = 6;
+
+const PARAMETER_ROLE: u8 = 3;
+
+const VARARG_ROLE: u8 = 4;
+
+// Does a parameter declare a default?
+fn declares_default(msg: &[u8], base: u32) -> bool
+    ensures { λ r. ⌜ ((m : Message) → cut (_from_ base (now (msg .entry))) ≡ ok m → bitOf 1 (smallFlagsIn ValueParameter·flags m) ≡ r) ⌝ }
+{
+    let flags = flags_in(msg, base, FLAGS, OMITTED_SMALL);
+    flags / 2 % 2 == 1
+}
+
+// A parameter's type, and that of its vararg elements.
+fn parameter_types(
+    msg: &[u8],
+    base: u32,
+    payload: &[u8],
+    d2: &[u16],
+    ends: &[u32],
+    starts: &[u32],
+    stops: &[u32],
+    firsts: &[u64],
+    entry_starts: &[u32],
+    entry_ends: &[u32],
+    tables: Tables,
+    state: State,
+    sheet: &mut [u8],
+    text: &mut [u8],
+) -> Walked
+    requires { ⌜ Ready (now payload) (now d2) state × (base + length (now msg) ≤ length (now payload)) ⌝ }
+    ensures { λ r. ⌜ ParameterTypesTold (lent (now (payload .entry)) (now (d2 .entry)) (now (ends .entry)) (now (starts .entry)) (now (stops .entry)) (now (firsts .entry)) (now («entry_starts» .entry)) (now («entry_ends» .entry)) tables) (now (msg .entry)) base state r (now (sheet .entry)) (now (sheet .exit)) (now (text .entry)) (now (text .exit)) ⌝ }
+{
+    let own = optional_type(
+        msg,
+        base,
+        TYPE,
+        TYPE_ID,
+        PARAMETER_ROLE,
+        payload,
+        d2,
+        ends,
+        starts,
+        stops,
+        firsts,
+        entry_starts,
+        entry_ends,
+        tables,
+        state,
+        sheet,
+        text,
+    );
+    let Walked::Done { state: next } = own else {
+        return own;
+    };
+    optional_type(
+        msg,
+        base,
+        VARARG_TYPE,
+        VARARG_TYPE_ID,
+        VARARG_ROLE,
+        payload,
+        d2,
+        ends,
+        starts,
+        stops,
+        firsts,
+        entry_starts,
+        entry_ends,
+        tables,
+        next,
+        sheet,
+        text,
+    )
+}
+
+// A parameter. One without a name is skipped before anything inside it is read.
+pub fn parameter_in(
+    msg: &[u8],
+    base: u32,
+    payload: &[u8],
+    d2: &[u16],
+    ends: &[u32],
+    starts: &[u32],
+    stops: &[u32],
+    firsts: &[u64],
+    entry_starts: &[u32],
+    entry_ends: &[u32],
+    tables: Tables,
+    state: State,
+    sheet: &mut [u8],
+    text: &mut [u8],
+) -> Picked
+    requires { ⌜ Affords (now payload) (now d2) parameterCost state × (base + length (now msg) ≤ length (now payload)) ⌝ }
+    ensures { λ r. ⌜ MemberTold parameterIn parameterRows parameterCost (lent (now (payload .entry)) (now (d2 .entry)) (now (ends .entry)) (now (starts .entry)) (now (stops .entry)) (now (firsts .entry)) (now («entry_starts» .entry)) (now («entry_ends» .entry)) tables) (now (msg .entry)) base state r (now (sheet .entry)) (now (sheet .exit)) (now (text .entry)) (now (text .exit)) ⌝ }
+{
+    let name = name_in(
+        msg,
+        base,
+        NAME,
+        payload,
+        ends,
+        starts,
+        stops,
+        firsts,
+        tables.records,
+    );
+    if !is_there(name) {
+        return Picked::Dropped;
+    }
+    let default = declares_default(msg, base);
+    let head = put_parameter(payload, d2, name, default, state, sheet, text);
+    picked(parameter_types(
+        msg,
+        base,
+        payload,
+        d2,
+        ends,
+        starts,
+        stops,
+        firsts,
+        entry_starts,
+        entry_ends,
+        tables,
+        head,
+        sheet,
+        text,
+    ))
+}
+
+// The parameters in a field, one after the other. All of them are cut.
+fn parameters_at(
+    msg: &[u8],
+    base: u32,
+    number: u32,
+    payload: &[u8],
+    d2: &[u16],
+    ends: &[u32],
+    starts: &[u32],
+    stops: &[u32],
+    firsts: &[u64],
+    entry_starts: &[u32],
+    entry_ends: &[u32],
+    tables: Tables,
+    state: State,
+    sheet: &mut [u8],
+    text: &mut [u8],
+) -> Listed
+    requires { ⌜ Affords (now payload) (now d2) (parameterCost * length (now msg)) state × (base + length (now msg) ≤ length (now payload)) ⌝ }
+    ensures { λ r. ⌜ ListAtTold parameterIn parameterRows (parameterCost * length (now (msg .entry))) (lent (now (payload .entry)) (now (d2 .entry)) (now (ends .entry)) (now (starts .entry)) (now (stops .entry)) (now (firsts .entry)) (now («entry_starts» .entry)) (now («entry_ends» .entry)) tables) (now (msg .entry)) base number state r (now (sheet .entry)) (now (sheet .exit)) (now (text .entry)) (now (text .exit)) ⌝ }
+{
+    let mut at = 0;
+    let mut count: usize = 0;
+    let mut next = state;
+    loop {
+        let piece = next_body(msg, base, number, at);
+        let Piece::Body { start, end } = piece else {
+            return Listed::Done { state: next, count };
+        };
+        at = end;
+        let parameter = parameter_in(
+            &msg[start..end],
+            base + start as u32,
+            payload,
+            d2,
+            ends,
+            starts,
+            stops,
+            firsts,
+            entry_starts,
+            entry_ends,
+            tables,
+            next,
+            sheet,
+            text,
+        );
+        match parameter {
+            Picked::Kept { state: after } => {
+                next = after;
+                count += 1;
+            }
+            Picked::Dropped => {}
+            Picked::Refused { stop } => return Listed::Refused { stop },
+        }
+    }
+}
+
+// The parameters in a field, all cut before the first is read.
+pub fn parameters_in(
+    msg: &[u8],
+    base: u32,
+    number: u32,
+    payload: &[u8],
+    d2: &[u16],
+    ends: &[u32],
+    starts: &[u32],
+    stops: &[u32],
+    firsts: &[u64],
+    entry_starts: &[u32],
+    entry_ends: &[u32],
+    tables: Tables,
+    state: State,
+    sheet: &mut [u8],
+    text: &mut [u8],
+) -> Listed
+    requires { ⌜ Affords (now payload) (now d2) (parameterCost * length (now msg)) state × (base + length (now msg) ≤ length (now payload)) ⌝ }
+    ensures { λ r. ⌜ ListTold parameterIn parameterRows (parameterCost * length (now (msg .entry))) (lent (now (payload .entry)) (now (d2 .entry)) (now (ends .entry)) (now (starts .entry)) (now (stops .entry)) (now (firsts .entry)) (now («entry_starts» .entry)) (now («entry_ends» .entry)) tables) (now (msg .entry)) base number state r (now (sheet .entry)) (now (sheet .exit)) (now (text .entry)) (now (text .exit)) ⌝ }
+{
+    let checked = check_messages(msg, base, number);
+    let Checked::Whole = checked else {
+        return Listed::Refused {
+            stop: Stop::Wire {
+                error: checked.error(),
+            },
+        };
+    };
+    parameters_at(
+        msg,
+        base,
+        number,
+        payload,
+        d2,
+        ends,
+        starts,
+        stops,
+        firsts,
+        entry_starts,
+        entry_ends,
+        tables,
+        state,
+        sheet,
+        text,
+    )
+}
