@@ -4,3 +4,10 @@ pub mod TextLaws
 pub mod TableLaws
 pub mod ListedLaws
 pub mod PartLaws
+pub mod ErasedLaws
+pub mod ErasedWalk
+pub mod GivenLaws
+pub mod JoinLaws
+pub mod DefaultLaws
+pub mod FunctionLaws
+pub mod ClosedLaws

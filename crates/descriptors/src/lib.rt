@@ -7,6 +7,10 @@ ghost use Rattle.foundation.specs.Texts.{same};
 ghost use Rattle.descriptors.specs.Erasure.{letter};
 ghost use Rattle.descriptors.specs.Told.{Means, CanBe, listedName, MeansRow, primitiveAt, PutText, PutPart, rowText, boxedAt, PrintsAs};
 
+pub mod erased; // erased.rt: the part of a type at its position
+pub mod defaults; // defaults.rt: default descriptors
+pub mod closed; // closed.rt: constructors and functions, each closed by its default descriptor
+
 // What a class name means. A primitive and a class are numbers: `primitiveAt`, `classAt`.
 pub enum Meaning {
     Primitive { primitive: usize },
@@ -36,6 +40,12 @@ pub enum Printed {
     ClassItself,
     // It has no descriptor.
     Nothing,
+}
+
+// Some text was written, or a needed type has no descriptor.
+pub enum Part {
+    Written { size: usize },
+    Absent,
 }
 
 fn wide(byte: u8) -> usize

@@ -1,0 +1,162 @@
+-- What a reading has given, taken apart into what its steps gave.
+-- Assumes nothing.
+use mathlib.Core.Path.{_≡_, refl, sym, ap, subst, _∙_}
+use mathlib.Core.Bool.{Bool, true, false}
+use mathlib.Core.List.{List, [], _∷_}
+use mathlib.Core.Option.{Option, none, some}
+use Prim.Native.Nat.{ℕ}
+use native.Mathlib.Omega.{arith}
+use Rattle.foundation.specs.Choices.{isSome, IfSome}
+use Rattle.foundation.specs.Results.{Res, ok, refused}
+use Rattle.foundation.specs.Texts.{Text, ascii}
+use Rattle.foundation.proofs.ResultLaws.{Gives, gives-ok}
+use Rattle.wire.specs.Wire.{Message}
+use Rattle.wire.specs.Messages.{messages}
+use Rattle.wire.proofs.WalkLaws.{ok-same}
+use Rattle.schema.specs.Fields.{
+  Constructor·value-parameter,
+  Constructor·constructor-signature,
+  Function·name,
+  Function·return-type,
+  Function·receiver-type,
+  Function·value-parameter,
+  Function·return-type-id,
+  Function·receiver-type-id,
+  Function·method-signature,
+  ValueParameter·name,
+  ValueParameter·type,
+  ValueParameter·vararg-element-type,
+  ValueParameter·type-id,
+  ValueParameter·vararg-element-type-id,
+}
+use Rattle.schema.specs.Declarations.{Parameter, Constructor, Function}
+use Rattle.schema.specs.Reading.{Read, lift, keep, kept, Scope, nameIn}
+use Rattle.schema.specs.Types.{declaredType}
+use Rattle.schema.specs.Members.{named, signatureIn, parameterIn, listIn, constructorIn, functionIn}
+use Rattle.schema.proofs.Fine.{Reads, reads-pure, reads-bind, reads-weaken}
+use Rattle.descriptors.specs.PartsTold.{Gave, TypeGiven, ParameterGiven, FunctionGiven}
+
+-- a reading gives what it gave
+reads-self : {A : Type 0} (m : Read A) → Reads (Gave m) m
+reads-self {A} m = record { at = λ l. go l (m l) refl }
+  where
+    go : (l : ℕ) (r : Res (A × ℕ)) → m l ≡ r → Gives (λ q. Gave m (q .0)) r
+    go l (ok q) e = record { before = l; after = q .1; is = e }
+    go l (refused c p) e = tt
+
+pub gave-reads : {A : Type 0} (P : A → Type 0) {m : Read A} {a : A} → Reads P m → Gave m a → P a
+gave-reads P r g = gives-ok (λ q. P (q .0)) (g .is) (r .at (g .before))
+
+-- what is read once there is a name
+reads-named : {A : Type 0} {Q : Option A → Type 0} {read : Text → Read A} (o : Option Text) → (o ≡ none → Q none)
+    → ((t : Text) → o ≡ some t → Reads (λ a. Q (some a)) (read t)) → Reads Q (named o read)
+reads-named none p h = reads-pure (p refl)
+reads-named (some t) p h = reads-bind (h t refl) λ a q. reads-pure q
+
+-- A list: its messages are cut, then what is kept of them.
+gave-lift : {A : Type 0} (r : Res A) {a : A} → Gave (lift r) a → r ≡ ok a
+gave-lift {A} (ok b) g = ap ok (ap (λ (q : A × ℕ). q .0) (ok-same (g .is)))
+gave-lift (refused c p) g = let e = g .is in let z : _≡_ {A = ℕ} 0 1 = cc in absurd (omega arith)
+
+module _ {A : Type 0} (f : Message → Read (Option A)) where
+  pub record ListGiven (n : ℕ) (m : Message) (xs : List A) : Type 0 where
+    pub all : List Message
+    pub cuts : messages n m ≡ ok all
+    pub given : Gave (kept f all) xs
+
+  list-reads : (n : ℕ) (m : Message) → Reads (ListGiven n m) (listIn f n m)
+  unfolding listIn
+  list-reads n m =
+      reads-bind (reads-self (lift (messages n m))) λ ms g.
+      reads-weaken (reads-self (kept f ms)) λ xs k. record { all = ms; cuts = gave-lift (messages n m) g; given = k }
+
+  pub list-given : (n : ℕ) (m : Message) {xs : List A} → Gave (listIn f n m) xs → ListGiven n m xs
+  list-given n m g = gave-reads (ListGiven n m) (list-reads n m) g
+
+  -- the first of them, and the others
+  pub record FirstGiven (m : Message) (ms : List Message) (xs : List A) : Type 0 where
+    pub one : Option A
+    pub others : List A
+    pub first : Gave (f m) one
+    pub later : Gave (kept f ms) others
+    pub are : xs ≡ keep one others
+
+  first-reads : (m : Message) (ms : List Message) → Reads (FirstGiven m ms) (kept f (m ∷ ms))
+  unfolding kept
+  first-reads m ms =
+      reads-bind (reads-self (f m)) λ a g.
+      reads-bind (reads-self (kept f ms)) λ xs h. reads-pure (record { one = a; others = xs; first = g; later = h; are = refl })
+
+  pub first-given : (m : Message) (ms : List Message) {xs : List A} → Gave (kept f (m ∷ ms)) xs → FirstGiven m ms xs
+  first-given m ms g = gave-reads (FirstGiven m ms) (first-reads m ms) g
+
+  none-reads : Reads (λ xs. xs ≡ []) (kept f [])
+  unfolding kept
+  none-reads = reads-pure refl
+
+  pub none-given : {xs : List A} → Gave (kept f []) xs → xs ≡ []
+  none-given g = gave-reads (λ xs. xs ≡ []) none-reads g
+
+-- A parameter is skipped without a name; with one its type is read.
+abbrev ParameterRead : Scope → Message → Option Parameter → Type 0
+ParameterRead c m none = Gave (nameIn c ValueParameter·name m) none
+ParameterRead c m (some p) = (t : Text) × Gave (nameIn c ValueParameter·name m) (some t) × TypeGiven ValueParameter·type ValueParameter·type-id c m (p .type)
+
+parameter-reads : (c : Scope) (m : Message) → Reads (ParameterRead c m) (parameterIn c m)
+unfolding parameterIn
+parameter-reads c m =
+    reads-bind (reads-self (nameIn c ValueParameter·name m)) λ o g.
+    reads-named o (λ e. subst (Gave (nameIn c ValueParameter·name m)) e g) λ t e.
+    reads-bind (reads-self (declaredType c ValueParameter·type ValueParameter·type-id m)) λ type h.
+    reads-bind (reads-self (declaredType c ValueParameter·vararg-element-type ValueParameter·vararg-element-type-id m)) λ vararg v.
+    reads-pure (t, subst (Gave (nameIn c ValueParameter·name m)) e g, h)
+
+module _ (c : Scope) (m : Message) (n : Option Text) (h : (l : ℕ) → nameIn c ValueParameter·name m l ≡ ok (n, l)) where
+  same-name : {t : Option Text} → Gave (nameIn c ValueParameter·name m) t → n ≡ t
+  same-name g = ap (λ (q : Option Text × ℕ). q .0) (ok-same (sym (h (g .before)) ∙ g .is))
+
+  pub parameter-skipped : (o : Option Parameter) → ParameterGiven c m o → isSome n ≡ false → o ≡ none
+  parameter-skipped none g e = refl
+  parameter-skipped (some p) g e =
+      let q = gave-reads (ParameterRead c m) (parameter-reads c m) g in
+      let s : isSome n ≡ true = rw (same-name (q .1)) in
+      let z : _≡_ {A = Bool} true false = sym s ∙ e in cc
+
+  pub parameter-kept : (o : Option Parameter) → ParameterGiven c m o → isSome n ≡ true
+      → (p : Parameter) × (o ≡ some p) × TypeGiven ValueParameter·type ValueParameter·type-id c m (p .type)
+  parameter-kept none g e =
+      let q = gave-reads (ParameterRead c m) (parameter-reads c m) g in
+      let s : isSome n ≡ false = rw (same-name q) in
+      let y : _≡_ {A = Bool} true false = sym e ∙ s in let z : _≡_ {A = ℕ} 0 1 = cc in absurd (omega arith)
+  parameter-kept (some p) g e =
+      let q = gave-reads (ParameterRead c m) (parameter-reads c m) g in (p, refl, q .2)
+
+-- A constructor's parameters.
+abbrev pub ConstructorGiven : Scope → Message → Constructor → Type 0
+ConstructorGiven c m d = Gave (listIn (parameterIn c) Constructor·value-parameter m) (d .parameters)
+
+constructor-reads : (c : Scope) (m : Message) → Reads (IfSome (ConstructorGiven c m)) (constructorIn c m)
+unfolding constructorIn
+constructor-reads c m =
+    reads-bind (reads-self (listIn (parameterIn c) Constructor·value-parameter m)) λ parameters p.
+    reads-bind (reads-self (signatureIn c (some (ascii "<init>")) Constructor·constructor-signature m)) λ signature s. reads-pure p
+
+pub constructor-given : (c : Scope) (m : Message) (d : Constructor) (l b : ℕ) → constructorIn c m l ≡ ok (some d, b) → ConstructorGiven c m d
+constructor-given c m d l b e =
+    gave-reads (IfSome (ConstructorGiven c m)) {a = some d} (constructor-reads c m) (record { before = l; after = b; is = e })
+
+-- What is read of a function.
+function-reads : (c : Scope) (m : Message) → Reads (IfSome (FunctionGiven c m)) (functionIn c m)
+unfolding functionIn
+function-reads c m =
+    reads-bind (reads-self (nameIn c Function·name m)) λ o g.
+    reads-named o (λ e. tt) λ name e.
+    reads-bind (reads-self (listIn (parameterIn c) Function·value-parameter m)) λ parameters p.
+    reads-bind (reads-self (declaredType c Function·receiver-type Function·receiver-type-id m)) λ receiver r.
+    reads-bind (reads-self (signatureIn c (some name) Function·method-signature m)) λ signature s.
+    reads-bind (reads-self (declaredType c Function·return-type Function·return-type-id m)) λ returned t.
+    reads-pure (record { parameters = p; receiver = r; returned = t; flags = refl; hasReceiver = refl })
+
+pub function-given : (c : Scope) (m : Message) (f : Function) (l b : ℕ) → functionIn c m l ≡ ok (some f, b) → FunctionGiven c m f
+function-given c m f l b e =
+    gave-reads (IfSome (FunctionGiven c m)) {a = some f} (function-reads c m) (record { before = l; after = b; is = e })
