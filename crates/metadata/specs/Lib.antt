@@ -2,3 +2,8 @@ pub mod Refusals
 pub mod Read
 pub mod Walk
 pub mod Promises
+pub mod Told
+pub mod PayloadTold
+pub mod BodyTold
+pub mod DecodeTold
+pub mod ReadTold

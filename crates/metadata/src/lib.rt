@@ -1,1 +1,229 @@
-// The public entries of the reader: see specs/. Their code is yet to come.
+// The reader of Kotlin class metadata: from the parts of an annotation to a sheet of records and its text, in two lent areas. `read` is
+// the public entry; its contract says number, detail, both lengths, the type count and every byte of both areas, for any input.
+ghost use mathlib.Core.Path.{_≡_};
+ghost use Prim.Native.Nat.{_≤_};
+ghost use lib.ListN.{length};
+ghost use Rattle.metadata.specs.Read.{nothingRead, answered, read};
+ghost use Rattle.metadata.specs.Told.{input};
+ghost use Rattle.metadata.specs.DecodeTold.{told, Kept, readingOf, readingBy};
+ghost use Rattle.metadata.specs.ReadTold.{toldBy};
+use decode::Core;
+use decode::decode_in;
+use decode::start;
+use inputs::Fault;
+use inputs::fault_of;
+use inputs::kind_of;
+use names::steps::absent;
+use outcome::Outcome;
+use outcome::fault_refusal;
+use outcome::refused;
+use schema::rows::put_head;
+use schema::rows::put_head_counts;
+
+pub mod inputs; // inputs.rt: refusals 1 to 4, the metadata kind
+pub mod payload; // payload.rt: the name table and the type table indexed
+pub mod body; // body.rt: a body's rows
+pub mod outcome; // outcome.rt: numbers and details of refusals
+pub mod decode; // decode.rt: the measuring walk, then both areas
+pub mod lent; // lent.rt: `read` on lent scratch
+pub mod exported; // exported.rt: the function of the static library
+
+// Number and detail of a refusal (0 and 0: accepted), both lengths, the types entered, and the version as it came.
+pub struct Answer {
+    pub number: u64,
+    pub detail: u64,
+    pub sheet: usize,
+    pub text: usize,
+    pub types: usize,
+    pub version: [i32; 3],
+}
+
+// Metadata kinds 3 and 4: the head alone.
+fn head_alone(kind: u8, sheet: &mut [u8], text: &mut [u8]) -> Outcome
+    ensures { λ r. ⌜ answered (now (sheet .entry)) (now (text .entry)) kind nothingRead ≡ told r (now (sheet .exit)) (now (text .exit)) ⌝ }
+{
+    if sheet.len() < 20 {
+        return refused(12, 0);
+    }
+    let payload = [0u8; 0];
+    let d2 = [0u16; 0];
+    let head = put_head(&payload, &d2, kind, absent(), 6, start(), sheet, text);
+    put_head_counts(sheet, head.sheet, 0, 0, 0);
+    Outcome {
+        number: 0,
+        detail: 0,
+        sheet: 20,
+        text: 0,
+        types: 0,
+    }
+}
+
+// A d1 of 1,024 units at most, as most classes have: a frame of 21 KB.
+fn read_small(
+    kind: u8,
+    d1: &[u16],
+    d2: &[u16],
+    ends: &[u32],
+    sheet: &mut [u8],
+    text: &mut [u8],
+) -> Outcome
+    requires { ⌜ Kept (now d1) (now d2) (now ends) × (length (now d1) ≤ 1024) ⌝ }
+    ensures { λ r. ⌜ answered (now (sheet .entry)) (now (text .entry)) kind (readingOf kind (now (d1 .entry)) (now (d2 .entry)) (now (ends .entry))) ≡ told r (now (sheet .exit)) (now (text .exit)) ⌝ }
+{
+    let mut bytes = [0u8; 1024];
+    let mut starts = [0u32; 512];
+    let mut stops = [0u32; 512];
+    let mut firsts = [0u64; 513];
+    let mut entry_starts = [0u32; 512];
+    let mut entry_ends = [0u32; 512];
+    let mut scratch_sheet = [0u8; 4096];
+    let mut scratch_text = [0u8; 4096];
+    let core = decode_in(
+        kind,
+        d1,
+        d2,
+        ends,
+        &mut bytes,
+        &mut starts,
+        &mut stops,
+        &mut firsts,
+        &mut entry_starts,
+        &mut entry_ends,
+        &mut scratch_sheet,
+        &mut scratch_text,
+        sheet,
+        text,
+    );
+    match core {
+        Core::Answered { outcome } => outcome,
+        Core::NoRoom => refused(0, 0),
+    }
+}
+
+// Any d1.
+fn read_large(
+    kind: u8,
+    d1: &[u16],
+    d2: &[u16],
+    ends: &[u32],
+    sheet: &mut [u8],
+    text: &mut [u8],
+) -> Outcome
+    requires { ⌜ Kept (now d1) (now d2) (now ends) ⌝ }
+    ensures { λ r. ⌜ answered (now (sheet .entry)) (now (text .entry)) kind (readingOf kind (now (d1 .entry)) (now (d2 .entry)) (now (ends .entry))) ≡ told r (now (sheet .exit)) (now (text .exit)) ⌝ }
+{
+    let mut bytes = [0u8; 32768];
+    let mut starts = [0u32; 16384];
+    let mut stops = [0u32; 16384];
+    let mut firsts = [0u64; 16385];
+    let mut entry_starts = [0u32; 16384];
+    let mut entry_ends = [0u32; 16384];
+    let mut scratch_sheet = [0u8; 32768];
+    let mut scratch_text = [0u8; 32768];
+    let core = decode_in(
+        kind,
+        d1,
+        d2,
+        ends,
+        &mut bytes,
+        &mut starts,
+        &mut stops,
+        &mut firsts,
+        &mut entry_starts,
+        &mut entry_ends,
+        &mut scratch_sheet,
+        &mut scratch_text,
+        sheet,
+        text,
+    );
+    match core {
+        Core::Answered { outcome } => outcome,
+        Core::NoRoom => refused(0, 0),
+    }
+}
+
+// A kind that carries declarations, in the frame that is enough.
+fn read_any(
+    kind: u8,
+    d1: &[u16],
+    d2: &[u16],
+    ends: &[u32],
+    sheet: &mut [u8],
+    text: &mut [u8],
+) -> Outcome
+    requires { ⌜ Kept (now d1) (now d2) (now ends) ⌝ }
+    ensures { λ r. ⌜ answered (now (sheet .entry)) (now (text .entry)) kind (readingOf kind (now (d1 .entry)) (now (d2 .entry)) (now (ends .entry))) ≡ told r (now (sheet .exit)) (now (text .exit)) ⌝ }
+{
+    if d1.len() <= 1024 {
+        return read_small(kind, d1, d2, ends, sheet, text);
+    }
+    read_large(kind, d1, d2, ends, sheet, text)
+}
+
+// What the host has kept to, of a metadata kind.
+fn read_kind(
+    kind: u8,
+    d1: &[u16],
+    d2: &[u16],
+    ends: &[u32],
+    sheet: &mut [u8],
+    text: &mut [u8],
+) -> Outcome
+    requires { ⌜ Kept (now d1) (now d2) (now ends) × (1 ≤ kind) × (kind ≤ 5) ⌝ }
+    ensures { λ r. ⌜ answered (now (sheet .entry)) (now (text .entry)) kind (readingBy kind (now (d1 .entry)) (now (d2 .entry)) (now (ends .entry))) ≡ told r (now (sheet .exit)) (now (text .exit)) ⌝ }
+{
+    if kind == 3 {
+        return head_alone(kind, sheet, text);
+    }
+    if kind == 4 {
+        return head_alone(kind, sheet, text);
+    }
+    read_any(kind, d1, d2, ends, sheet, text)
+}
+
+// The answer without the version.
+fn outcome_of(
+    k: i32,
+    version: [i32; 3],
+    d1: &[u16],
+    d2: &[u16],
+    ends: &[u32],
+    sheet: &mut [u8],
+    text: &mut [u8],
+) -> Outcome
+    ensures { λ r. ⌜ read (now (sheet .entry)) (now (text .entry)) (input k version (now (d1 .entry)) (now (d2 .entry)) (now (ends .entry))) ≡ told r (now (sheet .exit)) (now (text .exit)) ⌝ }
+{
+    let fault = fault_of(d1, d2, ends, version);
+    let Fault::Nothing = fault else {
+        return fault_refusal(fault);
+    };
+    read_kind(kind_of(k), d1, d2, ends, sheet, text)
+}
+
+fn answer_of(outcome: Outcome, version: [i32; 3]) -> Answer
+    ensures { λ r. ⌜ (r .number ≡ outcome .number) × (r .detail ≡ outcome .detail) × (r .sheet ≡ outcome .sheet) × (r .text ≡ outcome .text) × (r .types ≡ outcome .types) × (r .version ≡ version) ⌝ }
+{
+    Answer {
+        number: outcome.number,
+        detail: outcome.detail,
+        sheet: outcome.sheet,
+        text: outcome.text,
+        types: outcome.types,
+        version,
+    }
+}
+
+// Reads the metadata of one class: k, mv, d1's units, d2's units and where its strings end; writes sheet and text into the two areas.
+pub fn read(
+    k: i32,
+    version: [i32; 3],
+    d1: &[u16],
+    d2: &[u16],
+    ends: &[u32],
+    sheet: &mut [u8],
+    text: &mut [u8],
+) -> Answer
+    ensures { λ r. ⌜ (read (now (sheet .entry)) (now (text .entry)) (input k version (now (d1 .entry)) (now (d2 .entry)) (now (ends .entry))) ≡ toldBy r (now (sheet .exit)) (now (text .exit))) × (r .version ≡ version) ⌝ }
+{
+    answer_of(outcome_of(k, version, d1, d2, ends, sheet, text), version)
+}

@@ -1,0 +1,16 @@
+-- What is promised of an accepted answer holds of what the code answers: `read`'s contract (src/lib.rt) gives the equation.
+-- Assumes nothing.
+use mathlib.Core.Path.{_≡_, ap, subst, _∙_}
+use mathlib.Core.List.{List}
+use Prim.Native.Nat.{ℕ}
+use Rattle.names.specs.WellFormed.{Units}
+use Rattle.metadata.specs.Read as definition
+use Rattle.metadata.specs.Read.{Input, read}
+use Rattle.metadata.specs.Promises.{Promised}
+use Rattle.metadata.specs.ReadTold.{toldBy}
+use Rattle.metadata.specs.declared.Answer.{Answer}
+use Rattle.metadata.proofs.Promised.{promised}
+
+pub answer-promised : (S T : List ℕ) (i : Input) (r : Answer) (S′ T′ : List ℕ) → read S T i ≡ toldBy r S′ T′ → Units (i .d2) → r .number ≡ 0
+    → Promised i (toldBy r S′ T′)
+answer-promised S T i r S′ T′ e u z = subst (Promised i) e (promised S T i u (ap (λ (a : definition.Answer). a .number) e ∙ z))

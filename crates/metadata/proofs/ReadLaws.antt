@@ -1,0 +1,234 @@
+-- The whole reading: faults, kinds, the head alone.
+-- Assumes nothing.
+use mathlib.Core.Path.{_≡_, refl, ap, sym, subst, _∙_}
+use mathlib.Core.Bool.{Bool, true, false, _&&_, _||_}
+use mathlib.Core.List.{List, [], _∷_, _++_}
+use mathlib.Core.Option.{Option, none, some}
+use Prim.Native.Nat.{ℕ, _+_, _-_, _^_, _≤_, _<_, min}
+use native.Mathlib.Nat.{zero-add, add-zero}
+use native.Mathlib.Omega.{arith}
+use borrow.Author.Tests.{ltb-false, leb-true, lt-ltb, le-ltb, le-leb, eq-eqb, ne-eqb}
+use denote.Enum.Declared.{tagOf}
+use types.Run.{OneOf, miss}
+use lib.Dec.{eqb, leb, ltb}
+use lib.IntN.{ℤ, pos, negsuc}
+use lib.ListN.{length, take, drop}
+use lib.Seq.{sets}
+use lib.Signed.{ltZ}
+use mir.Facts.{toZ-ofZ}
+use mir.Syntax.{w32}
+use mir.Val.{SFits, ofZ, toZ}
+use Rattle.foundation.specs.Choices.{if_then_else_, ifSome}
+use Rattle.foundation.specs.Results.{Res, ok, refused, Cause, d1TooLong, d2TooLong, stringEnds, newerVersion, sheetTooLong}
+use Rattle.foundation.proofs.ChoiceLaws.{if-ind, and-left, and-right}
+use Rattle.foundation.specs.Texts.{Text}
+use Rattle.encoding.specs.Encoding.{unitLimit}
+use Rattle.names.specs.Name.{nameText}
+use Rattle.names.specs.Names.{endsFit}
+use Rattle.names.specs.Steps.{absentName}
+use Rattle.names.specs.declared.name.Name.{Name}
+use Rattle.sheet.specs.Rows.{Row, row, sheetFrom, texts, bodyBytes, bodyText}
+use Rattle.sheet.specs.Put.{PutHead, PutRows, past}
+use Rattle.sheet.specs.declared.State.{State}
+use Rattle.sheet.proofs.PutLaws.{put-sheet, put-none, put-front}
+use Rattle.sheet.proofs.RowLaws.{rowsLength, bodyLength, sheet-length}
+use Rattle.schema.specs.Declarations.{Declarations}
+use Rattle.schema.specs.Reading.{allowance}
+use Rattle.schema.specs.Written as written
+use Rattle.schema.specs.Written.{headCells, headCounts}
+use Rattle.schema.proofs.RecordLaws.{head-put}
+use Rattle.schema.proofs.WrittenLaws.{head-room, head-small}
+use Rattle.metadata.specs.Refusals.{numberOf, detailOf}
+use Rattle.metadata.specs.Read as definition
+use Rattle.metadata.specs.Read.{Input, kindOf, carriesDeclarations, stringLimit, supportedMajor, major, laterFault, faultOf, headAlone, nothingRead, reading, declarationRows, sheetWritten, answered, read}
+use Rattle.metadata.specs.Told.{input, faultTold}
+use Rattle.metadata.specs.DecodeTold.{told, RefusedAs, Kept, start, CoreTold, readingOf, readingBy}
+use Rattle.metadata.specs.ReadTold.{toldBy, toldIn}
+use Rattle.metadata.specs.declared.Answer.{Answer}
+use Rattle.metadata.specs.declared.inputs.Fault.{Fault}
+use Rattle.metadata.specs.declared.inputs.Fault.the-variants as fault
+use Rattle.metadata.specs.declared.outcome.Outcome.{Outcome}
+use Rattle.metadata.specs.declared.decode.Core.{Core}
+use Rattle.metadata.specs.declared.decode.Core.the-variants as core
+use Rattle.metadata.proofs.inputs.Fault.{the-type}
+use Rattle.metadata.proofs.BodyLaws.{no-name}
+use Rattle.metadata.proofs.OutcomeLaws.{refused-as}
+
+kind-bounds : (k : ℤ) → (1 ≤ kindOf k) × (kindOf k ≤ 5)
+kind-bounds (pos m) =
+    if-ind (λ (n : ℕ). (1 ≤ n) × (n ≤ 5)) (leb 1 m && leb m 5)
+    (λ t. (leb-true 1 m (and-left (leb 1 m) (leb m 5) t), leb-true m 5 (and-right (leb 1 m) (leb m 5) t)))
+    (λ t. (omega arith, omega arith))
+kind-bounds (negsuc m) = (omega arith, omega arith)
+
+pub kind-within : {r : ℕ} (k : ℤ) → r ≡ kindOf k → (1 ≤ r) × (r ≤ 5)
+kind-within k e = rw e (kind-bounds k)
+
+pub carries : (kind : ℕ) → 1 ≤ kind → kind ≤ 5 → (kind ≡ 3 → ⊥) → (kind ≡ 4 → ⊥) → carriesDeclarations kind ≡ true
+carries kind h i f g = go (eqb kind 1) refl (eqb kind 2) refl
+  where
+    go : (a : Bool) → eqb kind 1 ≡ a → (b : Bool) → eqb kind 2 ≡ b → (eqb kind 1 || (eqb kind 2 || eqb kind 5)) ≡ true
+    go true p b q = rw p
+    go false p true q = rw (p, q)
+    go false p false q =
+        let n : kind ≡ 5 = omega (arith, borrow.Author.Tests.eqb-false kind 1 p, borrow.Author.Tests.eqb-false kind 2 q, f, g) in
+        rw (p, q, eq-eqb kind 5 n)
+
+-- of a choice that gives none
+if-none : (t : Bool) (c : Cause) (x : Option Cause) → (if t then some c else x) ≡ none → (t ≡ false) × (x ≡ none)
+if-none true c x e = let z : _≡_ {A = ℕ} 0 1 = cc in absurd (omega arith)
+if-none false c x e = (refl, e)
+
+else-none : (t : Bool) (c : Cause) (x : Option Cause) → (if t then x else some c) ≡ none → t ≡ true
+else-none true c x e = refl
+else-none false c x e = let z : _≡_ {A = ℕ} 0 1 = cc in absurd (omega arith)
+
+or-false : (a b : Bool) → (a || b) ≡ false → a ≡ false
+or-false true b e = let z : _≡_ {A = ℕ} 0 1 = cc in absurd (omega arith)
+or-false false b e = refl
+
+-- without a fault the host has kept to its limits
+pub fault-kept : (i : Input) → faultOf i ≡ none → Kept (i .d1) (i .d2) (i .ends)
+unfolding faultOf laterFault
+fault-kept i e =
+    let version = if ltZ supportedMajor (major i) then some newerVersion else none in
+    let strings = if endsFit 0 (i .ends) (length (i .d2)) then version else some stringEnds in
+    let a = if-none (ltb unitLimit (length (i .d1))) d1TooLong (laterFault i) e in
+    let b = if-none (ltb unitLimit (length (i .d2)) || ltb stringLimit (length (i .ends))) d2TooLong strings (a .1) in
+    record {
+      bytes-short = ltb-false unitLimit (length (i .d1)) (a .0);
+      d2-short = ltb-false unitLimit (length (i .d2)) (or-false (ltb unitLimit (length (i .d2))) (ltb stringLimit (length (i .ends))) (b .0));
+      fit = else-none (endsFit 0 (i .ends) (length (i .d2))) stringEnds version (b .1);
+    }
+
+-- the `else` of no fault
+pub fault-some : (f : Fault) → OneOf (0 ∷ 1 ∷ 2 ∷ 3 ∷ []) (tagOf the-type f) → (c : Cause) × (faultTold f ≡ some c)
+fault-some fault.D1TooLong h = (_, refl)
+fault-some fault.D2TooLong h = (_, refl)
+fault-some fault.StringEnds h = (_, refl)
+fault-some fault.NewerVersion h = (_, refl)
+fault-some fault.Nothing h = absurd (miss (0 ∷ 1 ∷ 2 ∷ 3 ∷ []) 4 tt h)
+
+module _ (S T : List ℕ) (k : ℤ) (mv : List ℤ) (d1 d2 ends : List ℕ) where
+  pub read-fault : (f : Fault) {r : Outcome} → faultOf (input k mv d1 d2 ends) ≡ faultTold f → OneOf (0 ∷ 1 ∷ 2 ∷ 3 ∷ []) (tagOf the-type f)
+      → ((c : Cause) → faultTold f ≡ some c → RefusedAs c r) → read S T (input k mv d1 d2 ends) ≡ told r S T
+  unfolding read reading
+  read-fault f e h g = let s = fault-some f h in rw (e, s .1) (g (s .0) (s .1) S T)
+
+  module _ (f : Fault) (e : faultOf (input k mv d1 d2 ends) ≡ faultTold f) (g : f ≡ fault.Nothing) where
+    no-fault-is : faultOf (input k mv d1 d2 ends) ≡ none
+    no-fault-is = e ∙ ap faultTold g
+
+    pub kept-is : Kept d1 d2 ends
+    kept-is = fault-kept (input k mv d1 d2 ends) no-fault-is
+
+    pub read-kind-is : {kind : ℕ} → kind ≡ kindOf k → {r : Outcome} (S′ T′ : List ℕ) → answered S T kind (readingBy kind d1 d2 ends) ≡ told r S′ T′
+        → read S T (input k mv d1 d2 ends) ≡ told r S′ T′
+    unfolding read reading
+    read-kind-is {kind} q {r} S′ T′ h = rw no-fault-is (subst (λ (n : ℕ). answered S T n (readingBy n d1 d2 ends) ≡ told r S′ T′) q h)
+
+-- By the kind.
+module _ (S S′ T T′ : List ℕ) (kind : ℕ) (d1 d2 ends : List ℕ) {r : Outcome} where
+  pub kind-alone : (n : ℕ) → carriesDeclarations n ≡ false → kind ≡ n → answered S T kind nothingRead ≡ told r S′ T′
+      → answered S T kind (readingBy kind d1 d2 ends) ≡ told r S′ T′
+  kind-alone n c e h = rw (ap carriesDeclarations e ∙ c) h
+
+  pub kind-carries : 1 ≤ kind → kind ≤ 5 → (kind ≡ 3 → ⊥) → (kind ≡ 4 → ⊥) → answered S T kind (readingOf kind d1 d2 ends) ≡ told r S′ T′
+      → answered S T kind (readingBy kind d1 d2 ends) ≡ told r S′ T′
+  kind-carries a b f g h = rw (carries kind a b f g) h
+
+-- The head alone.
+abbrev alone : ℕ → List Row
+alone kind = declarationRows kind headAlone
+
+alone-length : (kind : ℕ) → length (sheetFrom 0 (alone kind)) ≡ 20
+unfolding declarationRows rowsLength bodyLength
+alone-length kind = sheet-length 0 (alone kind)
+
+alone-text : (kind : ℕ) → texts (alone kind) ≡ []
+unfolding declarationRows texts bodyText
+alone-text kind = refl
+
+no-rows : (s : State) (S T : List ℕ) → PutRows [] (s .types) s s S S T T
+unfolding sheetFrom texts
+no-rows s S T = put-none s S T
+
+alone-rows : (kind : ℕ) {b : ℕ} {s s′ : State} {S S′ T T′ : List ℕ} → PutRows (row 1 (headCells kind none 6 ++ headCounts 0 0 0) ∷ []) b s s′ S S′ T T′
+    → PutRows (alone kind) b s s′ S S′ T T′
+unfolding declarationRows
+alone-rows kind p = p
+
+module _ (kind : ℕ) (S T : List ℕ) where
+  alone-answer : answered S T kind nothingRead ≡ sheetWritten S T (alone kind) 0
+  unfolding definition.written
+  alone-answer = rw (alone-text kind, le-ltb (min (length T) 65534) 0 (omega arith))
+
+  pub alone-over : length S < 20 → {r : Outcome} → r ≡ record { number = 12; detail = 0; sheet = 0; text = 0; types = 0 }
+      → answered S T kind nothingRead ≡ told r S T
+  unfolding sheetWritten numberOf detailOf
+  alone-over h e = alone-answer ∙ rw (alone-length kind, lt-ltb (length S) 20 h) (refused-as e sheetTooLong refl refl S T)
+
+  pub alone-done : (n : Name) → n ≡ absentName → (payload d2 : List ℕ) {s s₁ : State} → s ≡ start → {S₁ S₂ T₁ : List ℕ}
+      → PutHead 1 (headCells kind (nameText payload d2 n) 6) (s .types) s s₁ S S₁ T T₁
+      → ((o : ℕ) → S₂ ≡ sets S₁ (s₁ .sheet) (bodyBytes o (headCounts 0 0 0))) → 20 ≤ length S
+      → answered S T kind nothingRead ≡ told (record { number = 0; detail = 0; sheet = 20; text = 0; types = 0 }) S₂ T₁
+  unfolding sheetWritten
+  alone-done n e payload d2 {s} {s₁} f {S₁} {S₂} {T₁} p q h =
+      let name = ap (nameText payload d2) e ∙ no-name payload d2 in
+      let p₁ = subst (λ (o : Option Text). PutHead 1 (headCells kind o 6) (s .types) s s₁ S S₁ T T₁) name p in
+      let p₂ = subst (λ (x : State). PutHead 1 (headCells kind none 6) (x .types) x s₁ S S₁ T T₁) f p₁ in
+      let w : PutRows (alone kind) (s₁ .types) start (past 6 s₁) S S₂ T T₁ = alone-put p₂ q in
+      let l = alone-length kind in
+      let t : length (texts (alone kind)) ≡ 0 = ap length (alone-text kind) in
+      let x = put-front w (omega arith) (omega arith) in
+      alone-answer ∙ rw (le-ltb (length S) (length (sheetFrom 0 (alone kind))) (omega arith)) (rw (x .0, x .1, l, t))
+    where
+      alone-put : {s₁ : State} {S₁ S₂ T₁ : List ℕ} → PutHead 1 (headCells kind none 6) allowance start s₁ S S₁ T T₁
+          → ((o : ℕ) → S₂ ≡ sets S₁ (s₁ .sheet) (bodyBytes o (headCounts 0 0 0))) → PutRows (alone kind) (s₁ .types) start (past 6 s₁) S S₂ T T₁
+      alone-put {s₁} {S₁} {S₂} {T₁} p q = alone-rows kind (head-put kind none 6 0 0 0 [] p (no-rows (past 6 s₁) S₁ T₁) q)
+
+-- where the head ends
+pub alone-ends : (kind : ℕ) (n : Name) (payload d2 : List ℕ) → length payload ≤ 32768 → length d2 ≤ 32768 → {s s₁ : State} {S S₁ T T₁ : List ℕ} → s ≡ start
+    → PutHead 1 (headCells kind (nameText payload d2 n) 6) (s .types) s s₁ S S₁ T T₁ → s₁ .sheet ≤ 2 ^ 63
+alone-ends kind n payload d2 a b {s} e p =
+    let r : written.Room 0 payload d2 s = subst (written.Room 0 payload d2) (sym e) (record { payload = a; d2 = b; places = omega arith }) in
+    omega (arith, head-room (headCells kind (nameText payload d2 n) 6) (head-small r kind n 6) r 1 p .places)
+
+pub start-room : (payload d2 : List ℕ) → length payload ≤ 32768 → length d2 ≤ 32768 → {s : State} → s ≡ start → written.Room (2 ^ 61) payload d2 s
+start-room payload d2 a b e = subst (written.Room (2 ^ 61) payload d2) (sym e) (record { payload = a; d2 = b; places = omega arith })
+
+-- An answer from a frame.
+module _ (kind : ℕ) (x : Res (Declarations × ℕ)) (room : Type 0) (y : Core) (S S′ T T′ : List ℕ) (t : CoreTold kind x room y S S′ T T′) where
+  pub core-answered : {r : Outcome} → y ≡ core.Answered r → answered S T kind x ≡ told r S′ T′
+  core-answered e = subst (λ (z : Core). CoreTold kind x room z S S′ T T′) e t
+
+  core-lacks : y ≡ core.NoRoom → (room → ⊥) × (S′ ≡ S) × (T′ ≡ T)
+  core-lacks e = subst (λ (z : Core). CoreTold kind x room z S S′ T T′) e t
+
+  pub core-never : {A : Type 0} → room → y ≡ core.NoRoom → A
+  core-never h e = absurd (core-lacks e .0 h)
+
+  -- as if nothing had been done
+  pub core-again : y ≡ core.NoRoom → {r : Outcome} (S₁ T₁ : List ℕ) → answered S′ T′ kind x ≡ told r S₁ T₁ → answered S T kind x ≡ told r S₁ T₁
+  core-again e S₁ T₁ h =
+      let c = core-lacks e in
+      ap (λ (l : List ℕ). answered l T kind x) (sym (c .1)) ∙ ap (λ (l : List ℕ). answered S′ l kind x) (sym (c .2)) ∙ h
+
+-- The answer with its version.
+pub answer-is : (a : definition.Answer) (r : Outcome) (b : Answer) (S T : List ℕ) → a ≡ told r S T → b .number ≡ r .number → b .detail ≡ r .detail
+    → b .sheet ≡ r .sheet → b .text ≡ r .text → b .types ≡ r .types → a ≡ toldBy b S T
+answer-is a r b S T e n d s t y = e ∙ rw (n, d, s, t, y)
+
+-- The answer as five numbers, of signed ones that came as bits.
+abbrev back : ℤ → ℤ
+back z = toZ w32 (ofZ w32 z)
+
+pub exported-is : (S T : List ℕ) (k major minor patch : ℤ) (d1 d2 ends : List ℕ) → SFits w32 k → SFits w32 major → SFits w32 minor → SFits w32 patch
+    → (r : Answer) (S′ T′ : List ℕ)
+    → read S T (input (back k) (back major ∷ back minor ∷ back patch ∷ []) d1 d2 ends) ≡ toldBy r S′ T′
+    → read S T (input k (major ∷ minor ∷ patch ∷ []) d1 d2 ends)
+    ≡ toldIn (r .number ∷ r .detail ∷ r .sheet ∷ r .text ∷ r .types ∷ []) S′ T′
+exported-is S T k major minor patch d1 d2 ends f g h i r S′ T′ e =
+    let p : input k (major ∷ minor ∷ patch ∷ []) d1 d2 ends ≡ input (back k) (back major ∷ back minor ∷ back patch ∷ []) d1 d2 ends =
+    rw (toZ-ofZ f, toZ-ofZ g, toZ-ofZ h, toZ-ofZ i) in
+    ap (read S T) p ∙ e
