@@ -1,0 +1,7 @@
+pub mod InputLaws
+pub mod SignedLaws
+pub mod OutputLaws
+pub mod Examples
+pub mod TakenLaws
+pub mod KeptLaws
+pub mod AnswerLaws

@@ -1,0 +1,6 @@
+pub mod Input
+pub mod Pieces
+pub mod Line
+pub mod Wrote
+pub mod Taken
+pub mod Program
