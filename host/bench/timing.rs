@@ -1,0 +1,123 @@
+//! Medians of repeated rounds.
+
+use harness::expected::expected;
+use harness::input::Input;
+use harness::limits::{Areas, AREA};
+use harness::reader::Reader;
+use original::class::Class;
+use original::sheet::Sheet;
+use std::hint::black_box;
+use std::time::Instant;
+
+pub struct Timing {
+    pub reader: Reader,
+    clear: bool,
+    sheet: Vec<u8>,
+    text: Vec<u8>,
+    number: u64,
+}
+
+/// A round takes about this long, and the median is of so many rounds.
+const ROUND: f64 = 0.02;
+const ROUNDS: usize = 11;
+
+impl Timing {
+    pub fn new(reader: Reader, clear: bool) -> Self {
+        Self { reader, clear, sheet: vec![0; AREA], text: vec![0; AREA], number: 0 }
+    }
+
+    pub fn clearing(&self) -> &'static str {
+        if self.clear {
+            "cleared before each call"
+        } else {
+            "not cleared"
+        }
+    }
+
+    pub fn reader(&mut self, input: &Input, count: u64) {
+        for _ in 0..count {
+            if self.clear {
+                self.sheet.fill(0);
+                self.text.fill(0);
+            }
+            let mut answer = [0; 5];
+            self.reader.call(black_box(input), &mut self.sheet, &mut self.text, &mut answer);
+            self.number = black_box(answer[0]);
+        }
+    }
+
+    pub fn original(&self, input: &Input, count: u64) {
+        let class = Class::new(input.k, input.mv, &input.d1, input.strings());
+        for _ in 0..count {
+            drop(black_box(class.decode()));
+        }
+    }
+
+    /// Times a set of inputs and prints a line.
+    pub fn set(&mut self, words: &str, inputs: &[Input]) {
+        if inputs.is_empty() {
+            return;
+        }
+        let bytes: usize = inputs.iter().map(|input| input.d1.len() + input.d2.len()).sum();
+        let prepared: Vec<Class> =
+            inputs.iter().map(|input| Class::new(input.k, input.mv, &input.d1, input.strings())).collect();
+        let mut reader = || inputs.iter().for_each(|input| self.reader(input, 1));
+        let mut decode = || prepared.iter().for_each(|class| drop(black_box(class.decode())));
+        let mut sheet = || {
+            for class in &prepared {
+                drop(black_box(class.decode().map(|metadata| Sheet::of(&metadata))));
+            }
+        };
+        let [read, decode, sheet] = medians([&mut reader, &mut decode, &mut sheet]);
+        let number = self.number;
+        let each = |seconds: f64| seconds * 1e9 / inputs.len() as f64;
+        println!(
+            "{words} ({}, {bytes} bytes{}): reader {:.0} ns a class, {:.2} ns a byte, {:.1} MB/s; Rust's decode {:.0} ns, ratio {:.2}; with its sheet {:.0} ns",
+            count(inputs.len()),
+            if inputs.len() == 1 { answer(&inputs[0], number) } else { String::new() },
+            each(read),
+            read * 1e9 / bytes as f64,
+            bytes as f64 / read / 1e6,
+            each(decode),
+            read / decode,
+            each(sheet)
+        );
+    }
+}
+
+fn count(count: usize) -> String {
+    if count == 1 {
+        "1 class".to_string()
+    } else {
+        format!("{count} classes")
+    }
+}
+
+/// The answer that was timed, and that it was right.
+fn answer(input: &Input, number: u64) -> String {
+    let right = expected(input, Areas::PROGRAM).whole.answer;
+    let wrong = if right.number == number { "" } else { " WRONG" };
+    format!(", answer {number}{wrong}, {} types, sheet {}", right.types, right.sheet)
+}
+
+/// Seconds of one run of each, as the median of some rounds. The rounds take turns, so that a busy machine slows all.
+fn medians<const N: usize>(mut runs: [&mut dyn FnMut(); N]) -> [f64; N] {
+    let time = |run: &mut dyn FnMut(), times: usize| {
+        let start = Instant::now();
+        (0..times).for_each(|_| run());
+        start.elapsed().as_secs_f64() / times as f64
+    };
+    let first: Vec<f64> = runs.iter_mut().map(|run| time(run, 1)).collect();
+    let rounds = if first.iter().any(|seconds| *seconds > 0.5) { 3 } else { ROUNDS };
+    let mut measured = vec![Vec::new(); N];
+    for _ in 0..rounds {
+        for (place, run) in runs.iter_mut().enumerate() {
+            let times = (ROUND / first[place].max(1e-9)).clamp(1.0, 1e6) as usize;
+            measured[place].push(time(run, times));
+        }
+    }
+    std::array::from_fn(|place| {
+        measured[place].sort_by(f64::total_cmp);
+        measured[place][rounds / 2]
+    })
+}

@@ -1,0 +1,225 @@
+//! Runs over numbered inputs, what they count, and the differences that they show.
+
+use crate::options::{Mode, Options};
+use harness::answer::Whole;
+use harness::exhaustive::Exhaustive;
+use harness::expected::{expected, Basis};
+use harness::input::{hex, Input};
+use harness::limits::Areas;
+use harness::random::Random;
+use harness::reader::{Caller, Reader, LARGEST};
+use harness::{corpus, damage, made, shapes, shrink};
+use std::time::Instant;
+
+/// Where inputs come from.
+pub struct Source {
+    classes: Vec<Input>,
+    exhaustive: Exhaustive,
+}
+
+impl Default for Source {
+    fn default() -> Self {
+        Self { classes: corpus::classes(), exhaustive: Exhaustive::default() }
+    }
+}
+
+/// Small areas serve short contents and are quicker to fill.
+const SMALL: Areas = Areas { sheet: 600, text: 600 };
+
+impl Source {
+    /// The input with this number of a mode's run, and the areas to read it into.
+    pub fn input(&self, mode: Mode, seed: u64, number: u64) -> Option<(Input, Vec<Areas>)> {
+        let mut random = Random::of(seed, number);
+        Some(match mode {
+            Mode::Exhaustive => (self.exhaustive.input(seed + number)?, vec![SMALL]),
+            Mode::Made => (self.made(&mut random), vec![Areas::PROGRAM]),
+            Mode::Damaged => (self.damaged(&mut random, number), vec![Areas::PROGRAM]),
+            Mode::Boundaries => {
+                let input = if random.once_in(4) { self.made(&mut random) } else { shapes::input(&mut random) };
+                let areas = around(&input);
+                (input, areas)
+            }
+        })
+    }
+
+    fn made(&self, random: &mut Random) -> Input {
+        if random.once_in(400) {
+            return shapes::input(random);
+        }
+        made::input(random)
+    }
+
+    /// The real classes as they are first, then damaged copies of them and of made inputs.
+    fn damaged(&self, random: &mut Random, number: u64) -> Input {
+        if let Some(class) = self.classes.get(number as usize) {
+            return class.clone();
+        }
+        let mut one = || match self.classes.len() {
+            0 => made::input(random),
+            count if random.once_in(2) => self.classes[random.below(count)].clone(),
+            _ => made::input(random),
+        };
+        let (input, other) = (one(), one());
+        damage::damaged(random, &input, &other)
+    }
+}
+
+/// Areas that are just long enough, one byte short in either or in both, empty, and longer than any text may be.
+fn around(input: &Input) -> Vec<Areas> {
+    let large = Areas { sheet: LARGEST, text: LARGEST };
+    let answer = expected(input, large).whole.answer;
+    if answer.number != 0 {
+        return vec![large, Areas::PROGRAM, Areas { sheet: 0, text: 0 }];
+    }
+    let (sheet, text) = (answer.sheet as usize, answer.text as usize);
+    let lengths = [
+        (sheet, text),
+        (sheet - 1, text),
+        (sheet, text.saturating_sub(1)),
+        (sheet - 1, text.saturating_sub(1)),
+        (sheet + 1, text + 1),
+        (19, text),
+        (sheet, 0),
+        (0, 0),
+    ];
+    let some = lengths.map(|(sheet, text)| Areas { sheet, text });
+    some.into_iter().chain([large, Areas::PROGRAM]).collect()
+}
+
+/// What a run saw.
+#[derive(Default)]
+pub struct Seen {
+    pub calls: u64,
+    numbers: [u64; 13],
+    by_limits: u64,
+    by_second: u64,
+    too_much: u64,
+    pub differences: u64,
+    disagreements: u64,
+}
+
+pub struct Run {
+    pub reader: Reader,
+    caller: Caller,
+    pub seen: Seen,
+    show: usize,
+}
+
+impl Run {
+    pub fn new(reader: Reader, show: usize) -> Self {
+        Self { reader, caller: Caller::default(), seen: Seen::default(), show }
+    }
+
+    /// Reads one input into areas of these lengths, and holds the answer to what it must be.
+    pub fn check(&mut self, input: &Input, areas: Areas) -> Whole {
+        let expected = expected(input, areas);
+        self.seen.calls += 1;
+        self.seen.numbers[expected.whole.answer.number as usize] += 1;
+        match expected.basis {
+            Basis::Original => {}
+            Basis::Limits => self.seen.by_limits += 1,
+            Basis::Second => self.seen.by_second += 1,
+            Basis::TooMuch => self.seen.too_much += 1,
+        }
+        if expected.disagreement.is_some() {
+            self.seen.disagreements += 1;
+            if self.seen.disagreements as usize <= self.show {
+                self.tell_disagreement(input, areas);
+            }
+        }
+        let difference = self.caller.difference(self.reader, input, areas, &expected.whole);
+        if difference.is_some() {
+            self.seen.differences += 1;
+            if self.seen.differences as usize <= self.show {
+                self.tell_difference(input, areas);
+            }
+        }
+        expected.whole
+    }
+
+    fn tell_difference(&mut self, input: &Input, areas: Areas) {
+        let (reader, caller) = (self.reader, &mut self.caller);
+        let mut difference = |input: &Input| {
+            let wanted = expected(input, areas).whole;
+            caller.difference(reader, input, areas, &wanted)
+        };
+        let small = shrink::shrink(input, &mut |input| difference(input).is_some());
+        println!("difference: {}", difference(&small).unwrap_or_default());
+        tell(&small, areas);
+    }
+
+    fn tell_disagreement(&self, input: &Input, areas: Areas) {
+        let differs = |input: &Input| expected(input, areas).disagreement;
+        let small = shrink::shrink(input, &mut |input| differs(input).is_some());
+        println!("the second reading differs from the Rust: {}", differs(&small).unwrap_or_default());
+        tell(&small, areas);
+    }
+}
+
+/// Units of d1 that are shown beside the whole input.
+const UNITS_SHOWN: usize = 200;
+
+fn tell(input: &Input, areas: Areas) {
+    println!("  areas {} {}", areas.sheet, areas.text);
+    println!("  input {}", hex(&input.to_bytes()));
+    println!("  the Rust {}", expected(input, areas).whole.line());
+    let mut units: Vec<String> = input.d1.iter().take(UNITS_SHOWN).map(|unit| format!("{unit:02x}")).collect();
+    if input.d1.len() > UNITS_SHOWN {
+        units.push(format!("and {} more", input.d1.len() - UNITS_SHOWN));
+    }
+    let strings = if harness::limits::before_reading(input).is_some_and(|number| number < 4) {
+        format!("{:?} ends {:?}", input.d2, input.ends)
+    } else {
+        format!("{:?}", input.strings().map(String::from_utf16_lossy).collect::<Vec<_>>())
+    };
+    println!("  k {} mv {:?} d1 {} d2 {strings}", input.k, input.mv, units.join(" "));
+}
+
+pub fn modes(modes: &[Mode], options: &Options) -> bool {
+    let source = Source::default();
+    println!("reader: {}; seed {}", options.reader.name(), options.seed);
+    let mut fine = true;
+    for mode in modes {
+        // Where all modes are run, those with many and long calls get fewer inputs.
+        let fewer = modes.len() > 1 && *mode == Mode::Boundaries;
+        let count = if fewer { options.count / 20 } else { options.count };
+        fine &= one_mode(&source, *mode, count, options);
+    }
+    fine
+}
+
+fn one_mode(source: &Source, mode: Mode, count: u64, options: &Options) -> bool {
+    let start = Instant::now();
+    let mut run = Run::new(options.reader, options.show);
+    let mut inputs = 0;
+    for number in 0..count {
+        let Some((input, areas)) = source.input(mode, options.seed, number) else {
+            break;
+        };
+        inputs += 1;
+        for areas in areas {
+            run.check(&input, areas);
+        }
+    }
+    let seen = &run.seen;
+    let refused: Vec<String> =
+        (1..13).filter(|n| seen.numbers[*n] > 0).map(|n| format!("{n}: {}", seen.numbers[n])).collect();
+    println!(
+        "{}: {inputs} inputs, {} calls in {:.1} s; accepted {}, refused {}",
+        mode.name(),
+        seen.calls,
+        start.elapsed().as_secs_f64(),
+        seen.numbers[0],
+        if refused.is_empty() { "none".to_string() } else { refused.join(", ") }
+    );
+    println!(
+        "  held to the Rust {}, to the limits {}, to the second reading {} (10, ranges) and {} (memory); differences {}, second reading against the Rust {}",
+        seen.calls - seen.by_limits - seen.by_second - seen.too_much,
+        seen.by_limits,
+        seen.by_second,
+        seen.too_much,
+        seen.differences,
+        seen.disagreements
+    );
+    seen.differences == 0 && seen.disagreements == 0
+}

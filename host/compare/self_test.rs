@@ -1,0 +1,39 @@
+//! Whether the comparison finds mistakes: each is planted in the stand-in by itself.
+
+use crate::options::{Mode, Options};
+use crate::run::{Run, Source};
+use harness::reader::Reader;
+use harness::second::Mistake;
+
+pub fn run(options: &Options) -> bool {
+    let source = Source::default();
+    let mut missed = 0;
+    for mistake in Mistake::ALL {
+        let found = [Mode::Made, Mode::Damaged, Mode::Boundaries]
+            .into_iter()
+            .map(|mode| (mode, found_after(&source, mode, *mistake, options)));
+        let found: Vec<String> =
+            found.filter_map(|(mode, after)| Some(format!("{} {}", mode.name(), after?))).collect();
+        let shown = if found.is_empty() { "NOT FOUND".to_string() } else { found.join(", ") };
+        missed += usize::from(found.is_empty());
+        println!("{mistake:?} ({}): {shown}", mistake.words());
+    }
+    println!("{} mistakes, {missed} not found", Mistake::ALL.len());
+    missed == 0
+}
+
+/// After how many inputs of a mode a mistake shows, if it does.
+fn found_after(source: &Source, mode: Mode, mistake: Mistake, options: &Options) -> Option<u64> {
+    let mut run = Run::new(Reader::StandIn(mistake), 0);
+    let count = if mode == Mode::Boundaries { options.count / 20 } else { options.count };
+    for number in 0..count {
+        let (input, areas) = source.input(mode, options.seed, number)?;
+        for areas in areas {
+            run.check(&input, areas);
+        }
+        if run.seen.differences > 0 {
+            return Some(number + 1);
+        }
+    }
+    None
+}

@@ -1,0 +1,199 @@
+//! Declarations in reading order. Names are kept as indices; whether a name is there decides what is kept.
+
+use super::mistakes::{planted, Mistake};
+use super::names::Names;
+use super::types::{Type, Types};
+use super::wire::{Message, Refused};
+
+pub struct Class {
+    pub kind: u8,
+    pub name: Option<u32>,
+    pub flags: u64,
+    pub constructors: Vec<Constructor>,
+    pub functions: Vec<Function>,
+    pub properties: Vec<Property>,
+    pub types: u64,
+}
+
+pub struct Parameter {
+    pub name: u32,
+    pub default: bool,
+    pub ty: Option<Type>,
+    pub vararg: Option<Type>,
+}
+
+pub struct Constructor {
+    pub flags: u64,
+    pub signature: Option<Signature>,
+    pub parameters: Vec<Parameter>,
+}
+
+pub struct Function {
+    pub name: u32,
+    pub flags: u64,
+    pub signature: Option<Signature>,
+    pub has_receiver: bool,
+    pub parameters: Vec<Parameter>,
+    pub receiver: Option<Type>,
+    pub returned: Option<Type>,
+}
+
+pub struct Property {
+    pub name: u32,
+    pub flags: u64,
+    pub has_receiver: bool,
+    pub getter_default: bool,
+    pub setter_default: bool,
+    pub field: Option<Signature>,
+    pub getter: Option<Signature>,
+    pub setter: Option<Signature>,
+    pub receiver: Option<Type>,
+    pub ty: Option<Type>,
+}
+
+/// A signature whose name and descriptor are both usable.
+#[derive(Clone, Copy)]
+pub struct Signature {
+    pub name: SignatureName,
+    pub descriptor: u32,
+}
+
+#[derive(Clone, Copy)]
+pub enum SignatureName {
+    Index(u32),
+    Init,
+}
+
+const OMITTED: u64 = 6;
+const DEFAULT_VALUE: u64 = 2;
+const NOT_DEFAULT: u64 = 64;
+
+pub fn class(body: &Message<'_>, kind: u8, names: &Names<'_>) -> Result<Class, Refused> {
+    let mut types = Types::of(body)?;
+    let is_class = kind == 1;
+    let (function_field, property_field) = if is_class { (9, 10) } else { (3, 4) };
+    let constructors = if is_class || planted(Mistake::PackageConstructors) { body.messages(8)? } else { Vec::new() };
+    let constructors =
+        constructors.iter().map(|message| constructor(message, names, &mut types)).collect::<Result<_, _>>()?;
+    let functions = body
+        .messages(function_field)?
+        .iter()
+        .filter_map(|message| function(message, names, &mut types).transpose())
+        .collect::<Result<_, _>>()?;
+    let properties = body
+        .messages(property_field)?
+        .iter()
+        .filter_map(|message| property(message, names, &mut types).transpose())
+        .collect::<Result<_, _>>()?;
+    Ok(Class {
+        kind,
+        name: body.index(3).filter(|_| is_class),
+        flags: if is_class { body.number(1).unwrap_or(OMITTED) } else { OMITTED },
+        constructors,
+        functions,
+        properties,
+        types: types.entered,
+    })
+}
+
+/// An index that leads to a string.
+fn usable(message: &Message<'_>, field: u32, names: &Names<'_>) -> Option<u32> {
+    message.index(field).filter(|index| names.has(*index))
+}
+
+fn signature(message: &Message<'_>, names: &Names<'_>, instead: Option<SignatureName>) -> Option<Signature> {
+    let own = usable(message, 1, names).map(SignatureName::Index);
+    Some(Signature { name: own.or(instead)?, descriptor: usable(message, 2, names)? })
+}
+
+fn parameters<'a>(
+    owner: &Message<'a>,
+    field: u32,
+    names: &Names<'_>,
+    types: &mut Types<'a>,
+) -> Result<Vec<Parameter>, Refused> {
+    let mut parameters = Vec::new();
+    for message in &owner.messages(field)? {
+        let Some(name) = usable(message, 2, names) else {
+            continue;
+        };
+        parameters.push(Parameter {
+            name,
+            default: message.number(1).unwrap_or(0) & DEFAULT_VALUE != 0,
+            ty: types.declared(message, 3, 5)?,
+            vararg: types.declared(message, 4, 6)?,
+        });
+    }
+    Ok(parameters)
+}
+
+fn constructor<'a>(message: &Message<'a>, names: &Names<'_>, types: &mut Types<'a>) -> Result<Constructor, Refused> {
+    let parameters = parameters(message, 2, names, types)?;
+    let recorded = message.message(100)?;
+    Ok(Constructor {
+        flags: message.number(1).unwrap_or(OMITTED),
+        signature: recorded.and_then(|recorded| signature(&recorded, names, Some(SignatureName::Init))),
+        parameters,
+    })
+}
+
+fn has_receiver(message: &Message<'_>, receiver: &Option<Type>, index: u32) -> bool {
+    if planted(Mistake::ReceiverByVarint) {
+        return receiver.is_some() || message.index(index).is_some();
+    }
+    receiver.is_some() || message.first(index).is_some()
+}
+
+fn function<'a>(message: &Message<'a>, names: &Names<'_>, types: &mut Types<'a>) -> Result<Option<Function>, Refused> {
+    let Some(name) = usable(message, 2, names) else {
+        if planted(Mistake::SkippedRead) {
+            message.messages(6)?;
+        }
+        return Ok(None);
+    };
+    let parameters = parameters(message, 6, names, types)?;
+    let receiver = types.declared(message, 5, 8)?;
+    let recorded = message.message(100)?;
+    let returned = types.declared(message, 3, 7)?;
+    Ok(Some(Function {
+        name,
+        flags: message.number(9).unwrap_or(OMITTED),
+        signature: recorded.and_then(|recorded| signature(&recorded, names, Some(SignatureName::Index(name)))),
+        has_receiver: has_receiver(message, &receiver, 8),
+        parameters,
+        receiver,
+        returned,
+    }))
+}
+
+fn property<'a>(message: &Message<'a>, names: &Names<'_>, types: &mut Types<'a>) -> Result<Option<Property>, Refused> {
+    let Some(name) = usable(message, 2, names) else {
+        return Ok(None);
+    };
+    let recorded = message.message(100)?;
+    let part = |field| recorded.as_ref().map_or(Ok(None), |recorded| recorded.message(field));
+    let field = match part(1) {
+        Err(refused) if planted(Mistake::FieldRefuses) => return Err(refused),
+        field => field.ok().flatten(),
+    };
+    let receiver = types.declared(message, 5, 10)?;
+    let getter = part(3)?;
+    let setter = part(4)?;
+    let ty = types.declared(message, 3, 9)?;
+    let instead = planted(Mistake::AccessorFallsBack).then_some(SignatureName::Index(name));
+    let accessor = |part: Option<Message<'_>>| part.and_then(|part| signature(&part, names, instead));
+    let omitted = if planted(Mistake::AccessorFlagsSix) { 70 } else { 0 };
+    let is_default = |field| message.number(field).unwrap_or(omitted) & NOT_DEFAULT == 0;
+    Ok(Some(Property {
+        name,
+        flags: message.number(11).unwrap_or(OMITTED),
+        has_receiver: has_receiver(message, &receiver, 10),
+        getter_default: is_default(7),
+        setter_default: is_default(8),
+        field: field.and_then(|field| signature(&field, names, None)),
+        getter: accessor(getter),
+        setter: accessor(setter),
+        receiver,
+        ty,
+    }))
+}

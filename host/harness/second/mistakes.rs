@@ -1,0 +1,82 @@
+//! Mistakes that can be planted in the stand-in, to see that a comparison finds them.
+
+use std::cell::Cell;
+
+macro_rules! mistakes {
+    ($($name:ident: $words:literal,)*) => {
+        #[derive(Debug, Clone, Copy, PartialEq, Eq)]
+        pub enum Mistake {
+            None,
+            $($name,)*
+        }
+
+        impl Mistake {
+            pub const ALL: &'static [Mistake] = &[$(Mistake::$name,)*];
+
+            pub fn words(self) -> &'static str {
+                match self {
+                    Mistake::None => "none",
+                    $(Mistake::$name => $words,)*
+                }
+            }
+        }
+    };
+}
+
+mistakes! {
+    TenthByteWhole: "a tenth byte above 1 refuses as oversized",
+    EleventhMissing: "ten continued bytes at the end refuse as oversized",
+    FieldAfterType: "the wire type is tested before the field's size",
+    LastOccurrence: "the last occurrence of a number counts",
+    MessageSkips: "`message` skips occurrences of another wire type",
+    PackedOnly: "packed values are read, single ones aren't joined",
+    IndexCut: "an index above 32 bits is cut",
+    RangeNone: "range 0 serves no index",
+    FallsToStrings: "a record that fails falls back to d2",
+    PredefinedFirst: "the predefined index goes before the string",
+    BadByteEach: "each bad byte of UTF-8 becomes one U+FFFD",
+    SubstringBeforeUtf8: "a substring's places count before bad UTF-8 is replaced",
+    SubstringError: "an error in field 4 makes the name absent",
+    ReplaceOnce: "only the first occurrence of a character is replaced",
+    OperationKeepsSlash: "operation 1 leaves slashes",
+    OperationCut: "an operation is cut to 32 bits",
+    StripsEither: "qualified_name drops L and ; each for itself",
+    SurrogateAcross: "surrogates are joined across strings",
+    LocalFirst: "an error in table field 5 is given before the records'",
+    NullableAfter: "entries after first_nullable are nullable, not that one",
+    InlineDepth: "inline arguments are tested against the depth",
+    DepthOneMore: "a lookup at depth 64 yields a type",
+    TypesOneMore: "the type count is one too large from four on",
+    TypesTooMany: "2,049 types are read",
+    TypesBeforeCut: "the 2,049th type refuses before its fields are cut",
+    SkippedRead: "a nameless function's parameters are cut",
+    ReceiverByVarint: "a receiver's index field counts as a varint only",
+    FieldRefuses: "a broken field message refuses",
+    AccessorFallsBack: "an accessor without a name takes the property's",
+    AccessorFlagsSix: "omitted accessor flags are 6",
+    PropertyReadingOrder: "a property's texts stand in the order of reading",
+    ReturnBeforeReceiver: "the return type stands before the receiver",
+    PackageConstructors: "a package has constructors",
+    BoxedArrays: "IntArray's element is boxed",
+    UnitNullable: "Unit? returned is a class",
+    UnitElement: "Unit as an array's element in return position is V",
+    ArrayFirstField: "Array's element is the first argument, kept or not",
+    SuspendNeedsReturn: "a suspending function needs its return type",
+    TextLimit: "65,535 bytes of text are accepted",
+    SheetBeforeText: "12 is tested before 11",
+    PastTheText: "a byte past the text is written",
+    TouchesWhenRefused: "a refusal touches the sheet",
+    DetailLeft: "a refusal 7 has a detail",
+}
+
+thread_local! {
+    static PLANTED: Cell<Mistake> = const { Cell::new(Mistake::None) };
+}
+
+pub fn plant(mistake: Mistake) {
+    PLANTED.set(mistake);
+}
+
+pub fn planted(mistake: Mistake) -> bool {
+    PLANTED.get() == mistake
+}

@@ -1,0 +1,143 @@
+//! A second reading, written from the specification and not from the original.
+//!
+//! It tells beforehand whether the original can be run on an input (a payload can make it enter types, copy
+//! records or build texts without end), it settles refusal 10 where the original has none, and it stands in for
+//! the library where that isn't built. As a stand-in it can be given a planted mistake, which a comparison must
+//! find.
+
+mod descriptors;
+mod members;
+mod mistakes;
+mod names;
+mod sheet;
+mod types;
+mod wire;
+
+pub use mistakes::Mistake;
+
+use crate::answer::{Answer, Whole};
+use crate::input::Input;
+use crate::limits::{self, Areas};
+use mistakes::planted;
+use wire::Refused;
+
+/// What the second reading gives for one input.
+pub struct Reading {
+    /// The answer with areas that are as large as can be, or the refusal.
+    pub whole: Whole,
+    /// All texts together; the text of `whole` holds them only up to the limit.
+    pub text_total: u64,
+    /// Bytes that the original's copies of name records take, about.
+    pub record_bytes: u64,
+    /// What the ranges of the name records sum to.
+    pub ranges: u64,
+}
+
+/// The reading apart from the areas.
+pub fn read(input: &Input) -> Reading {
+    let mut reading = Reading { whole: Whole::default(), text_total: 0, record_bytes: 0, ranges: 0 };
+    if let Some(number) = limits::before_reading(input) {
+        reading.whole = Whole::refused(number, 0);
+        return reading;
+    }
+    let kind = if (1..=5).contains(&input.k) { input.k as u8 } else { 1 };
+    if !limits::reads_payload(input.k) {
+        let mut out = sheet::Writer::default();
+        out.head_alone(kind);
+        reading.accept(out, 0);
+        return reading;
+    }
+    let bytes = match decode(&input.d1) {
+        Ok(bytes) => bytes,
+        Err(whole) => {
+            reading.whole = whole;
+            return reading;
+        }
+    };
+    if let Err(refused) = payload(&bytes, input, kind, &mut reading) {
+        let (number, detail) = refused.number();
+        reading.whole = Whole::refused(number, detail);
+    }
+    reading
+}
+
+fn payload(bytes: &[u8], input: &Input, kind: u8, reading: &mut Reading) -> Result<(), Refused> {
+    let mut at = 0;
+    let table = wire::delimited(bytes, &mut at)?;
+    let strings: Vec<&[u16]> = input.strings().collect();
+    let names = names::Names::of(table, &strings, reading)?;
+    let body = wire::cut(&bytes[at..])?;
+    let class = members::class(&body, kind, &names)?;
+    let mut out = sheet::Writer::default();
+    out.class(&class, &names);
+    reading.accept(out, class.types);
+    Ok(())
+}
+
+impl Reading {
+    fn accept(&mut self, out: sheet::Writer, types: u64) {
+        self.text_total = out.text_total;
+        let types = if planted(Mistake::TypesOneMore) && types > 3 { types + 1 } else { types };
+        self.whole = Whole {
+            answer: Answer { number: 0, detail: 0, sheet: out.bytes.len() as u64, text: out.text_total, types },
+            sheet: out.bytes,
+            text: out.text,
+        };
+    }
+
+    /// The answer with these areas.
+    pub fn into_areas(self, areas: Areas) -> Whole {
+        let Answer { number, sheet, text, .. } = self.whole.answer;
+        if number != 0 {
+            return self.whole;
+        }
+        if planted(Mistake::SheetBeforeText) && sheet > areas.sheet as u64 {
+            return Whole::refused(12, 0);
+        }
+        if planted(Mistake::TextLimit) && text == limits::TEXT + 1 && areas.text as u64 >= text {
+            return self.whole;
+        }
+        match limits::after_reading(sheet, text, areas) {
+            Some(number) => Whole::refused(number, 0),
+            None => self.whole,
+        }
+    }
+}
+
+/// The payload's bytes from d1's units.
+pub fn decode(units: &[u16]) -> Result<Vec<u8>, Whole> {
+    let Some(&first) = units.first() else {
+        return Err(Whole::refused(5, 0));
+    };
+    let units = if first == 0 { &units[1..] } else { units };
+    if let Some(unit) = units.iter().find(|unit| **unit > 255) {
+        return Err(Whole::refused(6, u64::from(*unit)));
+    }
+    if first == 0 {
+        return Ok(units.iter().map(|unit| *unit as u8).collect());
+    }
+    let bit = |place: usize| (units[place / 7] >> (place % 7)) & 1;
+    let byte = |number: usize| (0..8).map(|place| bit(8 * number + place) << place).sum::<u16>() as u8;
+    Ok((0..7 * units.len() / 8).map(byte).collect())
+}
+
+/// The stand-in: the same call as the library's, with a planted mistake or none.
+#[allow(clippy::too_many_arguments)]
+pub fn stand_in(mistake: Mistake, input: &Input, sheet: &mut [u8], text: &mut [u8], answer: &mut [u64; 5]) {
+    mistakes::plant(mistake);
+    let areas = Areas { sheet: sheet.len(), text: text.len() };
+    let whole = read(input).into_areas(areas);
+    sheet[..whole.sheet.len()].copy_from_slice(&whole.sheet);
+    text[..whole.text.len()].copy_from_slice(&whole.text);
+    *answer = whole.answer.to_array();
+    if planted(Mistake::PastTheText) && whole.text.len() > 8 && whole.text.len() < text.len() {
+        text[whole.text.len()] = 0;
+    }
+    if planted(Mistake::TouchesWhenRefused) && whole.answer.number == 7 && !sheet.is_empty() {
+        sheet[0] = 1;
+    }
+    if planted(Mistake::DetailLeft) && whole.answer.number == 7 {
+        answer[1] = 1;
+    }
+    mistakes::plant(Mistake::None);
+}

@@ -1,0 +1,157 @@
+//! Records and texts, by the specification's table.
+
+use super::descriptors;
+use super::members::{Class, Constructor, Function, Parameter, Property, Signature, SignatureName};
+use super::mistakes::{planted, Mistake};
+use super::names::Names;
+use super::types::Type;
+use crate::limits::TEXT;
+
+/// Sheet and text so far. Text past the limit is counted and not kept: such a sheet is refused.
+#[derive(Default)]
+pub struct Writer {
+    pub bytes: Vec<u8>,
+    pub text: Vec<u8>,
+    pub text_total: u64,
+}
+
+impl Writer {
+    pub fn head_alone(&mut self, kind: u8) {
+        self.bytes.extend([1, kind]);
+        self.text(None);
+        self.number(6, 8);
+        self.number(0, 6);
+    }
+
+    pub fn class(&mut self, class: &Class, names: &Names<'_>) {
+        self.bytes.extend([1, class.kind]);
+        self.text(class.name.and_then(|index| names.qualified(index)));
+        self.number(class.flags, 8);
+        self.number(class.constructors.len() as u64, 2);
+        self.number(class.functions.len() as u64, 2);
+        self.number(class.properties.len() as u64, 2);
+        for constructor in &class.constructors {
+            self.constructor(constructor, names);
+        }
+        for function in &class.functions {
+            self.function(function, names);
+        }
+        for property in &class.properties {
+            self.property(property, names);
+        }
+    }
+
+    fn constructor(&mut self, constructor: &Constructor, names: &Names<'_>) {
+        self.bytes.push(2);
+        self.number(constructor.flags, 8);
+        self.signature(constructor.signature, names);
+        self.number(constructor.parameters.len() as u64, 2);
+        self.parameters(&constructor.parameters, names);
+        self.bytes.push(7);
+        self.text(descriptors::of_constructor(constructor, names));
+    }
+
+    fn function(&mut self, function: &Function, names: &Names<'_>) {
+        self.bytes.push(3);
+        self.text(names.string(function.name));
+        self.number(function.flags, 8);
+        self.signature(function.signature, names);
+        self.number(u64::from(function.has_receiver), 1);
+        self.number(function.parameters.len() as u64, 2);
+        self.parameters(&function.parameters, names);
+        if planted(Mistake::ReturnBeforeReceiver) {
+            self.declared(1, &function.returned, names);
+            self.declared(2, &function.receiver, names);
+        } else {
+            self.declared(2, &function.receiver, names);
+            self.declared(1, &function.returned, names);
+        }
+        self.bytes.push(7);
+        self.text(descriptors::of_function(function, names));
+    }
+
+    fn property(&mut self, property: &Property, names: &Names<'_>) {
+        self.bytes.push(4);
+        self.text(names.string(property.name));
+        self.number(property.flags, 8);
+        for bit in [property.has_receiver, property.getter_default, property.setter_default] {
+            self.number(u64::from(bit), 1);
+        }
+        self.signature(property.field, names);
+        if planted(Mistake::PropertyReadingOrder) {
+            self.swapped_accessors(property, names);
+        } else {
+            self.signature(property.getter, names);
+            self.signature(property.setter, names);
+        }
+        self.declared(2, &property.receiver, names);
+        self.declared(1, &property.ty, names);
+    }
+
+    /// A planted mistake: the setter's texts first.
+    fn swapped_accessors(&mut self, property: &Property, names: &Names<'_>) {
+        let mut later = Writer::default();
+        std::mem::swap(&mut later.text, &mut self.text);
+        later.text_total = self.text_total;
+        later.signature(property.setter, names);
+        let setter = std::mem::take(&mut later.bytes);
+        later.signature(property.getter, names);
+        self.bytes.extend(&later.bytes);
+        self.bytes.extend(setter);
+        self.text = later.text;
+        self.text_total = later.text_total;
+    }
+
+    fn parameters(&mut self, parameters: &[Parameter], names: &Names<'_>) {
+        for parameter in parameters {
+            self.bytes.push(5);
+            self.text(names.string(parameter.name));
+            self.number(u64::from(parameter.default), 1);
+            self.declared(3, &parameter.ty, names);
+            self.declared(4, &parameter.vararg, names);
+        }
+    }
+
+    fn declared(&mut self, role: u64, ty: &Option<Type>, names: &Names<'_>) {
+        if let Some(ty) = ty {
+            self.ty(role, ty, names);
+        }
+    }
+
+    fn ty(&mut self, role: u64, ty: &Type, names: &Names<'_>) {
+        self.bytes.push(6);
+        self.number(role, 1);
+        self.number(u64::from(ty.nullable), 1);
+        self.text(ty.name.and_then(|index| names.qualified(index)));
+        self.number(ty.arguments.len() as u64, 2);
+        for argument in &ty.arguments {
+            self.ty(5, argument, names);
+        }
+    }
+
+    fn signature(&mut self, signature: Option<Signature>, names: &Names<'_>) {
+        self.text(signature.and_then(|signature| match signature.name {
+            SignatureName::Index(index) => names.string(index),
+            SignatureName::Init => Some("<init>".to_string()),
+        }));
+        self.text(signature.and_then(|signature| names.string(signature.descriptor)));
+    }
+
+    /// A ref, and the text behind it.
+    fn text(&mut self, text: Option<String>) {
+        let Some(text) = text else {
+            self.number(0xffff_ffff, 4);
+            return;
+        };
+        self.number(self.text_total, 2);
+        self.number(text.len() as u64, 2);
+        self.text_total += text.len() as u64;
+        if self.text_total <= TEXT {
+            self.text.extend(text.bytes());
+        }
+    }
+
+    fn number(&mut self, number: u64, width: usize) {
+        self.bytes.extend(&number.to_le_bytes()[..width]);
+    }
+}

@@ -1,0 +1,86 @@
+//! Writes inputs with the original's answer lines, for a program that replays them. See host/README.md.
+
+mod examples;
+
+use harness::answer::Whole;
+use harness::expected::{expected, Basis};
+use harness::input::Input;
+use harness::limits::Areas;
+use harness::random::Random;
+use harness::{corpus, damage, made, shapes};
+use std::path::Path;
+
+/// Of each answer's number, at most so many made and damaged inputs.
+const OF_EACH: usize = 40;
+const LONGEST: usize = 400;
+
+fn main() {
+    let Some(folder) = std::env::args().nth(1) else {
+        eprintln!("vectors FOLDER    writes made, limits and classes, each as .bin and .lines");
+        std::process::exit(2);
+    };
+    let folder = Path::new(&folder);
+    std::fs::create_dir_all(folder).expect("a folder to write to");
+    write(folder, "made", &made_inputs());
+    write(folder, "limits", &examples::limits());
+    let classes = corpus::classes();
+    if classes.is_empty() {
+        println!("classes: none, no file of real classes in {}", corpus::folder().display());
+        return;
+    }
+    let lines = write(folder, "classes", &classes);
+    let given = std::fs::read_to_string(corpus::folder().join("classes.lines")).unwrap_or_default();
+    assert_eq!(lines, given, "the Rust's lines aren't those beside the real classes");
+    println!("classes: the Rust's lines are those that stand beside them");
+}
+
+/// The answer of an input that a replay may hold: the original's, a limit's, or the 2,049th type.
+fn answer(input: &Input) -> Option<Whole> {
+    let expected = expected(input, Areas::PROGRAM);
+    assert!(expected.disagreement.is_none(), "the second reading differs from the Rust");
+    let settled = match expected.basis {
+        Basis::Original | Basis::Limits => true,
+        Basis::Second => expected.whole.answer.number == 10,
+        Basis::TooMuch => false,
+    };
+    settled.then_some(expected.whole)
+}
+
+fn write(folder: &Path, name: &str, inputs: &[Input]) -> String {
+    let answers: Vec<Whole> = inputs.iter().map(|input| answer(input).expect("an input that is settled")).collect();
+    let lines: String = answers.iter().map(|whole| whole.line() + "\n").collect();
+    std::fs::write(folder.join(format!("{name}.bin")), corpus::join(inputs)).expect("a file written");
+    std::fs::write(folder.join(format!("{name}.lines")), &lines).expect("a file written");
+    let accepted = answers.iter().filter(|whole| whole.answer.number == 0).count();
+    println!("{name}: {} inputs, {accepted} accepted", inputs.len());
+    lines
+}
+
+/// Examples, and short inputs of every kind, with a limit on how many have the same answer's number.
+fn made_inputs() -> Vec<Input> {
+    let mut inputs = examples::marked_examples();
+    let mut seen = [0; 13];
+    for number in 0..4000 {
+        let mut random = Random::of(2026, number);
+        let input = match number % 8 {
+            0..=3 => made::input(&mut random),
+            4..=5 => shapes::input(&mut random),
+            _ => {
+                let (one, other) = (made::input(&mut random), made::input(&mut random));
+                damage::damaged(&mut random, &one, &other)
+            }
+        };
+        let short = input.d1.len() <= LONGEST && input.d2.len() <= LONGEST && input.ends.len() <= LONGEST;
+        let Some(whole) = answer(&input).filter(|whole| short && whole.sheet.len() <= 4 * LONGEST) else {
+            continue;
+        };
+        let place = whole.answer.number as usize;
+        // Accepted inputs show most, so more of them are kept.
+        let most = if place == 0 { 6 * OF_EACH } else { OF_EACH };
+        if seen[place] < most {
+            seen[place] += 1;
+            inputs.push(input);
+        }
+    }
+    inputs
+}

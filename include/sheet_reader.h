@@ -1,0 +1,126 @@
+/* The sheet reader as a C function: the metadata of one compiled Kotlin class in, a call sheet out. docs/MANUAL.md tells all of it.
+ *
+ * Build the archive with `rt staticlib metadata`, and link target/staticlib/libmetadata.a (x86-64 Linux). It needs no other library,
+ * allocates nothing, keeps nothing between calls and may be called from several threads at once.
+ */
+#ifndef SHEET_READER_H
+#define SHEET_READER_H
+
+#include <stddef.h>
+#include <stdint.h>
+
+#ifdef __cplusplus
+extern "C" {
+#endif
+
+/* What sheet_read puts into answer. */
+enum {
+    SHEET_NUMBER = 0,       /* 0: read; 1 to 12: refused, see below */
+    SHEET_DETAIL = 1,       /* of 6 the unit, of 8 the wire type, else 0 */
+    SHEET_LENGTH = 2,       /* bytes of the sheet, 0 if refused */
+    SHEET_TEXT_LENGTH = 3,  /* bytes of the text, 0 if refused */
+    SHEET_TYPES = 4,        /* type records on the sheet, 0 if refused */
+    SHEET_ANSWER = 5        /* how many numbers answer has */
+};
+
+/* Refusals, in the order in which they are tested. Both areas are then as they were. */
+enum {
+    SHEET_READ = 0,
+    SHEET_D1_TOO_LONG = 1,         /* more than SHEET_UNIT_LIMIT units */
+    SHEET_D2_TOO_LONG = 2,         /* more than SHEET_UNIT_LIMIT units or SHEET_STRING_LIMIT strings */
+    SHEET_STRING_ENDS = 3,         /* they fall, or the last (0 if there are none) isn't d2's count */
+    SHEET_NEWER_VERSION = 4,       /* major above 2 */
+    SHEET_EMPTY = 5,               /* d1 has no units */
+    SHEET_NOT_A_BYTE = 6,          /* a unit of d1 is above 255; detail: the first such unit */
+    SHEET_TRUNCATED = 7,           /* something runs past its message, or a field number past 32 bits */
+    SHEET_WIRE_TYPE = 8,           /* detail: the wire type */
+    SHEET_OVERSIZED_VARINT = 9,    /* a varint has an eleventh byte */
+    SHEET_TOO_MANY_TYPES = 10,     /* more than SHEET_TYPE_LIMIT */
+    SHEET_TEXT_TOO_LONG = 11,      /* longer than text_size or SHEET_TEXT_LIMIT: lend SHEET_TEXT_LIMIT bytes */
+    SHEET_SHEET_TOO_LONG = 12      /* longer than sheet_size: lend more; SHEET_LONGEST is always enough */
+};
+
+enum {
+    SHEET_UNIT_LIMIT = 32768,
+    SHEET_STRING_LIMIT = 4096,
+    SHEET_TYPE_LIMIT = 2048,
+    SHEET_TEXT_LIMIT = 65534,
+    SHEET_LONGEST = 411644
+};
+
+/* Reads one class.
+ *
+ *   k, major, minor, patch   of the annotation kotlin.Metadata: k (1 if it is absent) and mv (0 for each number that is absent)
+ *   d1, d1_count             the UTF-16 units of all strings of d1, one after the other
+ *   d2, d2_count             the same of d2
+ *   ends, ends_count         for each string of d2, how many units of d2 stand before its end
+ *   sheet, sheet_size        the area for the sheet
+ *   text, text_size          the area for the text
+ *   answer                   SHEET_ANSWER numbers, always written
+ *
+ * Counts are of elements, sizes of bytes. What is handed in may hold anything: there is no input that the function doesn't answer.
+ *
+ * What the caller owes, of the memory alone:
+ *   - every pointer is aligned for its type and not NULL, also where the count is 0: then hand over the address of any object of that type;
+ *   - d1, d2 and ends are readable over their counts, sheet, text and answer are writable over theirs, and nothing else writes to any of
+ *     them until the call returns;
+ *   - sheet, text and answer overlap neither each other nor d1, d2 or ends. (d1, d2 and ends are only read; they may overlap each other.)
+ *
+ * Stack: 512 KiB for classes as compilers write them, 4 MiB for the deepest input (2,048 types nested in one another).
+ *
+ * What the caller gets: if answer[SHEET_NUMBER] is 0, the sheet stands in the first answer[SHEET_LENGTH] bytes of its area and the text in the
+ * first answer[SHEET_TEXT_LENGTH] bytes of its own. All other bytes of both areas are as they were; after a refusal all of them are.
+ */
+void sheet_read(int32_t k, int32_t major, int32_t minor, int32_t patch,
+                const uint16_t *d1, size_t d1_count,
+                const uint16_t *d2, size_t d2_count,
+                const uint32_t *ends, size_t ends_count,
+                uint8_t *sheet, size_t sheet_size,
+                uint8_t *text, size_t text_size,
+                uint64_t answer[SHEET_ANSWER]);
+
+/* The sheet: records one after the other. The first byte of a record is its kind, which fixes its length. Numbers are little-endian.
+ * A ref is the offset of a text in the text area, 2 bytes, and its length, 2 bytes; FFFFFFFF hex is no text. Texts are UTF-8, without a 0
+ * at their end. Offsets below count from the record's first byte; the width of a number stands after it.
+ *
+ *   kind                  bytes   cells
+ *   1 head                20      1 metadata kind 1, 2 class name ref, 6 flags 8, 14 constructors 2, 16 functions 2, 18 properties 2
+ *   2 constructor         19      1 flags 8, 9 signature name ref, 13 descriptor ref, 17 parameters 2
+ *   3 function            24      1 name ref, 5 flags 8, 13 signature name ref, 17 descriptor ref, 21 receiver 1, 22 parameters 2
+ *   4 property            40      1 name ref, 5 flags 8, 13 receiver 1, 14 getter default 1, 15 setter default 1, then six refs:
+ *                                 16 field, 20 its descriptor, 24 getter, 28 its descriptor, 32 setter, 36 its descriptor
+ *   5 parameter            6      1 name ref, 5 default 1
+ *   6 type                 9      1 role 1, 2 nullable 1, 3 name ref, 7 arguments 2
+ *   7 default descriptor   5      1 descriptor ref
+ *
+ *   sheet        head, constructors, functions, properties: as many of each as the head says
+ *   constructor  2, parameters, 7
+ *   function     3, parameters, type of role 2 if any, type of role 1 if any, 7
+ *   property     4, type of role 2 if any, type of role 1 if any
+ *   parameter    5, type of role 3 if any, type of role 4 if any
+ *   type         6, its arguments: types of role 5
+ */
+enum {
+    SHEET_HEAD = 1,
+    SHEET_CONSTRUCTOR = 2,
+    SHEET_FUNCTION = 3,
+    SHEET_PROPERTY = 4,
+    SHEET_PARAMETER = 5,
+    SHEET_TYPE = 6,
+    SHEET_DEFAULT = 7
+};
+
+/* roles of types */
+enum {
+    SHEET_RETURNED = 1, /* or a property's type */
+    SHEET_RECEIVER = 2,
+    SHEET_PARAMETER_TYPE = 3,
+    SHEET_VARARG_ELEMENT = 4,
+    SHEET_ARGUMENT = 5
+};
+
+#ifdef __cplusplus
+}
+#endif
+
+#endif
