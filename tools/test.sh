@@ -1,0 +1,86 @@
+#!/usr/bin/env bash
+# class_input.py and sheet_text.py on the examples: each sheet in words is examples/NAME.txt, and the inputs' hashes are those that are noted.
+set -eu
+cd "$(dirname "$0")/.."
+here=$(mktemp -d)
+trap 'rm -rf "$here"' EXIT
+failed=0
+same() { # what, expected file, given file
+    if ! cmp -s "$2" "$3"; then echo "$1: differs from $2"; failed=1; fi
+}
+refused() { # words that must be said, command ..
+    local words=$1; shift
+    if "$@" > "$here/out" 2>&1; then echo "accepted: $*"; failed=1; fi
+    if ! grep -q -- "$words" "$here/out"; then echo "not said, '$words': $*"; failed=1; fi
+}
+
+for line in examples/*.line; do
+    name=${line%.line}
+    python3 -B tools/sheet_text.py "$line" > "$here/text"
+    same "sheet_text" "$name.txt" "$here/text"
+    python3 -B tools/class_input.py "$name.class" > "$here/input"
+    (cd examples; sha256sum < "$here/input" | sed "s/-/$(basename "$name")/") >> "$here/hashes"
+done
+same "class_input" examples/inputs.sha256 "$here/hashes"
+
+# a jar: one entry, and all of them
+python3 -B - "$here/till.jar" <<'P'
+import sys, zipfile
+with zipfile.ZipFile(sys.argv[1], 'w') as jar:
+    for name in ('Line', 'Sale'):
+        jar.write(f'examples/{name}.class', f'till/{name}.class')
+    jar.writestr('till/note.txt', 'no class')
+P
+python3 -B tools/class_input.py examples/Sale.class > "$here/sale"
+python3 -B tools/class_input.py "$here/till.jar" till/Sale.class > "$here/entry"
+same "an entry of a jar" "$here/sale" "$here/entry"
+python3 -B tools/class_input.py --list "$here/till.jar" > "$here/list"
+printf 'till/Line.class\ntill/Sale.class\n' > "$here/names"
+same "--list" "$here/names" "$here/list"
+python3 -B tools/class_input.py --all "$here/till.jar" | tail -c "$(stat -c %s "$here/sale")" > "$here/last"
+same "--all" "$here/sale" "$here/last"
+
+# what is refused, and in which words
+head -c 400 examples/Sale.class > "$here/cut.class"
+refused 'ends in the middle' python3 -B tools/class_input.py "$here/cut.class"
+refused 'does not begin as a class file' python3 -B tools/class_input.py examples/Till.kt
+refused 'no item named' python3 -B tools/class_input.py "$here/till.jar" till/Nothing.class
+say() { echo "$1" | python3 -B tools/sheet_text.py; }
+for number in 1 2 3 4 5 6 7 8 9 10 11 12; do refused 'What to do: ' say "$number 0 - -"; done
+refused 'the unit: 256' say '6 256 - -'
+refused 'ends before what it announces' say input
+refused 'no refusal 13' say '13 0 - -'
+refused 'cut short' say '0 0 0102ffffffff -'
+refused 'no count announced' say '0 0 0102ffffffff060000000000000000000000000007ffffffff -'
+refused 'was announced' say '0 0 0102ffffffff0600000000000000000001000000 -'
+
+# ./read: with a program that knows one answer, and with the real one where it is built
+printf '#!/bin/sh\ncat examples/Sale.line\n' > "$here/knows_sale"
+printf '#!/bin/sh\necho 7 0 - -\n' > "$here/refuses"
+chmod +x "$here/knows_sale" "$here/refuses"
+SHEET_READER=$here/knows_sale ./read examples/Sale.class > "$here/text"
+same "./read" examples/Sale.txt "$here/text"
+SHEET_READER=$here/knows_sale ./read --line "$here/till.jar" till/Sale.class > "$here/text"
+same "./read --line" examples/Sale.line "$here/text"
+SHEET_READER=$here/refuses refused 'truncated' ./read examples/Sale.class
+SHEET_READER=$here/refuses refused '7 0 - -' ./read --line examples/Sale.class
+refused 'usage' ./read
+if [ -x target/bin/sheet_reader ]; then
+    for line in examples/*.line; do
+        SHEET_READER=target/bin/sheet_reader ./read "${line%.line}.class" > "$here/text"
+        same "sheet_reader" "${line%.line}.txt" "$here/text"
+    done
+else
+    echo 'tools: sheet_reader itself skipped, it is not built'
+fi
+
+# real classes, where a corpus and Debian's Kotlin are there
+corpus=${SHEET_CORPUS:-../shared/corpus/classes.bin}
+jar=/usr/share/java/kotlin-stdlib.jar
+if [ -e "$corpus" ] && [ -e "$jar" ]; then
+    python3 tools/reproduce.py "$corpus" "$jar" || { echo 'no input of the corpus is made'; failed=1; }
+else
+    echo 'tools: real classes skipped, no corpus or no kotlin-stdlib.jar'
+fi
+
+if [ "$failed" = 0 ]; then echo 'tools: ok'; else exit 1; fi
