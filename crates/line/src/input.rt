@@ -42,7 +42,7 @@ fn two_in(piece: &[u8], base: usize, at: usize) -> usize
     byte_in(piece, base, at) + 256 * byte_in(piece, base, at + 1)
 }
 
-// What the piece gives of a number in 4 bytes.
+// What the piece gives of a number in 4 bytes. Its place is far from the largest, so that it can be added to.
 pub fn four_in(piece: &[u8], base: usize, at: usize) -> usize
     requires { ⌜ at < 2 ^ 50 ⌝ }
     ensures { λ r. ⌜ (r ≡ numberIn 4 (now (piece .entry)) base at) × (r < 2 ^ 32) ⌝ }
@@ -50,7 +50,7 @@ pub fn four_in(piece: &[u8], base: usize, at: usize) -> usize
     two_in(piece, base, at) + 65536 * two_in(piece, base, at + 2)
 }
 
-// The counts of the input up to this piece, from those up to the piece before.
+// The counts of the input up to this piece, from those up to the piece before, each a number of 4 bytes.
 pub fn counts_in(piece: &[u8], base: usize, before: Counts) -> Counts
     requires { ⌜ CountsFit before ⌝ }
     ensures { λ r. ⌜ r ≡ countsIn (now (piece .entry)) base before ⌝ }
@@ -61,7 +61,7 @@ pub fn counts_in(piece: &[u8], base: usize, before: Counts) -> Counts
     Counts { d1, d2, ends }
 }
 
-// The place after the input.
+// The place after the input, whose counts are numbers of 4 bytes, so that it fits.
 pub fn input_end(counts: Counts) -> usize
     requires { ⌜ CountsFit counts ⌝ }
     ensures { λ r. ⌜ r ≡ inputEnd counts ⌝ }
@@ -80,7 +80,7 @@ pub fn signed(n: u32) -> i32
     }
 }
 
-// The signed number at a place.
+// The signed number at a place, far from the largest, so that it can be added to.
 pub fn signed_at(bytes: &[u8], at: usize) -> i32
     requires { ⌜ at < 2 ^ 50 ⌝ }
     ensures { λ r. ⌜ r ≡ signedOf (numberAt 4 (now (bytes .entry)) at) ⌝ }

@@ -8,7 +8,7 @@ ghost use lib.Seq.{sets};
 ghost use Rattle.names.specs.Characters.{partFrom};
 ghost use Rattle.names.specs.Stream.{instead, withDots, withSlashes, isAscii, shown};
 
-// Is every unit from `start` to `end` below 128?
+// Is every unit from `start` to `end` below 128? The caller has clipped the end, so that no unit is tested for being there.
 pub fn ascii_units(units: &[u16], start: usize, end: usize) -> bool
     requires { ⌜ end ≤ length (now units) ⌝ }
     ensures { λ r. ⌜ r ≡ isAscii (partFrom start end (now (units .entry))) ⌝ }
@@ -60,7 +60,7 @@ fn shown(dots: bool, slashes: bool, c: u8) -> u8
     with_dots(dots, c)
 }
 
-// Units below 128, where there is room for all of them.
+// Units below 128, where there is room for all of them: tested once before, so that no byte is.
 pub fn copy_units(
     units: &[u16],
     start: usize,
@@ -82,7 +82,7 @@ pub fn copy_units(
     }
 }
 
-// Bytes below 128, where there is room for all of them.
+// Bytes below 128, where there is room for all of them: tested once before, so that no byte is.
 pub fn copy_bytes(s: &[u8], dots: bool, slashes: bool, area: &mut [u8], at: usize)
     requires { ⌜ (isAscii (now s) ≡ true) × (at + length (now s) ≤ length (now area)) ⌝ }
     ensures { λ _. ⌜ now (area .exit) ≡ sets (now (area .entry)) at (map (shown dots slashes) (now (s .entry))) ⌝ }

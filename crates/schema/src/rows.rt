@@ -309,7 +309,7 @@ pub fn put_parameter(
     put_flag(default, named, sheet)
 }
 
-// Kind 7 for a constructor or function without a default descriptor.
+// Kind 7 for a constructor or function without a default descriptor. It requires that the place after it can be counted.
 pub fn put_default_absent(state: State, sheet: &mut [u8]) -> State
     requires { ⌜ state .sheet ≤ 2 ^ 61 ⌝ }
     ensures { λ r. ⌜ ((T : List ℕ) → PutRows (row 7 (ref none ∷ []) ∷ []) (state .types) state r (now (sheet .entry)) (now (sheet .exit)) T T) ⌝ }
@@ -324,7 +324,7 @@ pub fn put_default_absent(state: State, sheet: &mut [u8]) -> State
     }
 }
 
-// Kind 7 around a descriptor of `size` bytes that is written where the text ends.
+// Kind 7 around a descriptor of `size` bytes that is written where the text ends. It requires that both places after it can be counted.
 pub fn put_default(size: usize, state: State, sheet: &mut [u8]) -> State
     requires { ⌜ state .sheet + state .text + size ≤ 2 ^ 61 ⌝ }
     ensures { λ r. ⌜ ((d T T′ : List ℕ) → length d ≡ size → T′ ≡ sets T (state .text) d → PutRows (row 7 (ref (some d) ∷ []) ∷ []) (state .types) state r (now (sheet .entry)) (now (sheet .exit)) T T′) ⌝ }
