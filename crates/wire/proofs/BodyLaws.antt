@@ -7,7 +7,7 @@ use mathlib.Core.Option.{Option, some}
 use Prim.Native.Nat.{ℕ, zero, suc, _+_, _-_, _%_, _/_, _≤_, _<_, _^_}
 use native.Mathlib.Nat.{sub-zero}
 use native.Mathlib.Omega.{arith}
-use borrow.Author.Tests.{eqb-true, eqb-false, ltb-false}
+use borrow.Author.Tests.{eq-eqb, eqb-true, eqb-false, ltb-false}
 use lib.Dec.{eqb, ltb}
 use lib.ListN.{length, take, drop, length-drop}
 use lib.Seq.{length-take-le, take-nil}
@@ -37,7 +37,7 @@ use Rattle.wire.specs.Wire.{
 }
 use Rattle.wire.specs.Messages.{values, cutOption, message, bodiesOf, cutAll, messages}
 use Rattle.wire.specs.Told.{refusal, restOf, bodyOf, valueOf, FieldTold}
-use Rattle.wire.specs.Asked.{CheckedTold, pieceOf, pieceTold, PieceInside, PieceAfter, BytesTold, EmbeddedTold, bodies, pieceIf, NextIs, NextTold}
+use Rattle.wire.specs.Asked.{CheckedTold, FoundAt, pieceOf, pieceIn, pieceTold, PieceInside, PieceAfter, PieceBegins, BytesTold, EmbeddedTold, bodies, pieceIf, NextIs, NextTold}
 use Rattle.wire.specs.declared.WireError.{WireError}
 use Rattle.wire.specs.declared.WireValue.{WireValue}
 use Rattle.wire.specs.declared.WireValue.the-variants as wire
@@ -45,6 +45,8 @@ use Rattle.wire.specs.declared.FieldStep.{FieldStep}
 use Rattle.wire.specs.declared.FieldStep.the-variants as step
 use Rattle.wire.specs.declared.message.Checked.{Checked}
 use Rattle.wire.specs.declared.message.Checked.the-variants as checked
+use Rattle.wire.specs.declared.message.Found.{Found}
+use Rattle.wire.specs.declared.message.Found.the-variants as found
 use Rattle.wire.specs.declared.message.Piece.{Piece}
 use Rattle.wire.specs.declared.message.Piece.the-variants as piece
 use Rattle.wire.specs.declared.message.Embedded.{Embedded}
@@ -183,6 +185,35 @@ module _ (k base : ℕ) (s : List ℕ) (at : ℕ) where
               begins = omega (arith, body-later base s i e g′);
             } in
             subst (NextTold base s k at) (sym z) told
+
+-- of a piece by the places asked from
+next-is : (k base : ℕ) (s : List ℕ) (m rest : Message) → bodies k m ≡ bodies k rest → (r : Piece) → NextIs base s k rest r → NextIs base s k m r
+next-is k base s m rest e (piece.Body a b) n = (n .0, n .1, e ∙ n .2)
+next-is k base s m rest e piece.Nothing n = e ∙ n
+
+after-earlier : (at i : ℕ) → at ≤ i → (r : Piece) → PieceAfter i r → PieceAfter at r
+after-earlier at i h (piece.Body a b) p = omega arith
+after-earlier at i h piece.Nothing p = tt
+
+begins-earlier : (at i : ℕ) → at ≤ i → (r : Piece) → PieceBegins i r → PieceBegins at r
+begins-earlier at i h (piece.Body a b) p = omega arith
+begins-earlier at i h piece.Nothing p = tt
+
+module _ (k base : ℕ) (s : List ℕ) where
+  pub next-on : (at i : ℕ) → at ≤ i → Bodies k base s at i → {r : Piece} → NextTold base s k i r → NextTold base s k at r
+  next-on at i h o {r} t = record {
+    is = λ m w. next-is k base s m (o m w .0) (o m w .2) r (t .is (o m w .0) (o m w .1));
+    inside = t .inside;
+    later = after-earlier at i h r (t .later);
+    begins = begins-earlier at i h r (t .begins);
+  }
+
+  -- the piece in what was found at the place
+  pub next-here : (i : ℕ) (f : Found) → FoundAt s k i f → {x : Piece} {a b : ℕ} → x ≡ pieceIn f → x ≡ piece.Body a b → NextTold base s k i x
+  next-here i (found.Value v) (h, next, e) q z =
+      bodies-here k base s i i (bodies-start k base s i) {r = step.Field k v next} (e base) h {n = k} {v = v} next refl
+      (q ∙ ap (λ (t : Bool). if t then pieceOf v else piece.Nothing) (sym (eq-eqb k k refl))) (omega arith) z
+  next-here i found.Nothing t q z = let z : _≡_ {A = ℕ} 0 1 = cc in absurd (omega arith)
 
 -- a part of a slice from its start to an end, from a place on
 drop-take : (a e : ℕ) (l : List ℕ) → a ≤ e → drop a (take e l) ≡ take (e - a) (drop a l)

@@ -14,7 +14,7 @@ use Rattle.foundation.specs.Results.{ok, _from_}
 use Rattle.wire.specs.Wire.{Value, readField, Message, cut}
 use Rattle.wire.specs.Messages.{values, firstOf, value, asVarint, asBody, varintOf, as32, index, flag, bytesOf}
 use Rattle.wire.specs.Told.{restOf, valueOf, Inside, FieldTold}
-use Rattle.wire.specs.Asked.{foundTold, FoundInside, FoundTold, numberOf, numberTold, pieceOf, pieceTold, PieceInside, BytesTold}
+use Rattle.wire.specs.Asked.{foundTold, FoundInside, FoundTold, FoundFrom, FoundAt, numberOf, numberTold, pieceOf, pieceTold, PieceInside, BytesTold}
 use Rattle.wire.specs.declared.WireError.{WireError}
 use Rattle.wire.specs.declared.WireValue.{WireValue}
 use Rattle.wire.specs.declared.WireValue.the-variants as wire
@@ -25,41 +25,58 @@ use Rattle.wire.specs.declared.message.Found.the-variants as found
 use Rattle.wire.specs.declared.message.Number.{Number}
 use Rattle.wire.specs.declared.message.Number.the-variants as number
 use Rattle.wire.specs.declared.message.Piece.{Piece}
-use Rattle.wire.proofs.WalkLaws.{field-is, Leads, leads-start, leads-next, leads-never, leads-end, values-found, values-passed}
+use Rattle.wire.proofs.WalkLaws.{whole, field-is, Leads, leads-next, leads-never, leads-end, values-found, values-passed}
 
--- from a place on the occurrences of field k are those of the whole message
-abbrev pub Occur : ℕ → ℕ → List ℕ → ℕ → Type 0
-Occur k base s at = Leads (λ m rest. values k m ≡ values k rest) (_from_ base s) (restOf base s at)
+-- from a place on the occurrences of field k are those from the place `start` on
+abbrev pub Occur : ℕ → ℕ → List ℕ → ℕ → ℕ → Type 0
+Occur k base s start at = Leads (λ m rest. values k m ≡ values k rest) (restOf base s start) (restOf base s at)
 
-module _ (k base : ℕ) (s : List ℕ) where
+module _ (k base : ℕ) (s : List ℕ) (start : ℕ) where
   Same : Message → Message → Type 0
   Same m rest = values k m ≡ values k rest
 
-  pub find-start : Occur k base s 0
-  unfolding Same
-  find-start = leads-start Same base s λ m. refl
+  pub find-start : Occur k base s start start
+  find-start m w = (m, w, refl)
 
-  module _ (at : ℕ) (o : Occur k base s at) where
-    pub find-end : length s ≤ at → FoundTold base s k found.Nothing
+  module _ (at : ℕ) (o : Occur k base s start at) where
+    pub find-end : length s ≤ at → FoundFrom base s k start found.Nothing
     unfolding Same values
-    find-end h = record { is = λ m w. ap firstOf (leads-end Same (_from_ base s) base s at o h m w); inside = tt }
+    find-end h = record { is = λ m w. ap firstOf (leads-end Same (restOf base s start) base s at o h m w); inside = tt }
+
+    pub find-on : {r : Found} → FoundFrom base s k at r → FoundFrom base s k start r
+    find-on t = record { is = λ m w. ap firstOf (o m w .2) ∙ t .is (o m w .0) (o m w .1); inside = t .inside }
 
     module _ {r : FieldStep} (e : FieldTold base s (readField (restOf base s at)) r) (h : at < length s) where
-      pub find-never : {error : WireError} → r ≡ step.Refused error → FoundTold base s k found.Nothing
+      pub find-never : {error : WireError} → r ≡ step.Refused error → FoundFrom base s k start found.Nothing
       unfolding Same
-      find-never g = record { is = λ m w. leads-never (_from_ base s) base s at e h Same o g m w; inside = tt }
+      find-never g = record { is = λ m w. leads-never (restOf base s start) base s at e h Same o g m w; inside = tt }
 
-      pub find-found : {n : ℕ} {v : WireValue} {next : ℕ} → r ≡ step.Field n v next → n ≡ k → FoundTold base s k (found.Value v)
+      pub find-found : {n : ℕ} {v : WireValue} {next : ℕ} → r ≡ step.Field n v next → n ≡ k → FoundFrom base s k start (found.Value v)
       unfolding Same
       find-found {n} {v} {next} g q =
           let Here : Message → Message → Type 0 = λ m rest. values k m ≡ valueOf base s v ∷ values k rest in
-          let l = leads-next (_from_ base s) base s at e h Same Here o next g λ m rest c. c ∙ values-found k (valueOf base s v) rest q in
+          let l = leads-next (restOf base s start) base s at e h Same Here o next g λ m rest c. c ∙ values-found k (valueOf base s v) rest q in
           record { is = λ m w. ap firstOf (l m w .2); inside = field-is base s at e g .1 }
 
-      pub find-passed : {n : ℕ} {v : WireValue} (next : ℕ) → r ≡ step.Field n v next → (n ≡ k → ⊥) → Occur k base s next
+      pub find-passed : {n : ℕ} {v : WireValue} (next : ℕ) → r ≡ step.Field n v next → (n ≡ k → ⊥) → Occur k base s start next
       unfolding Same
       find-passed {n} {v} next g q =
-          leads-next (_from_ base s) base s at e h Same Same o next g λ m rest c. c ∙ values-passed k (valueOf base s v) rest q
+          leads-next (restOf base s start) base s at e h Same Same o next g λ m rest c. c ∙ values-passed k (valueOf base s v) rest q
+
+  pub find-none : length s ≤ start → FoundFrom base s k start found.Nothing
+  find-none = find-end start find-start
+
+  pub find-here : {r : Found} → FoundAt s k start r → {v : WireValue} → r ≡ found.Value v → FoundFrom base s k start r
+  find-here {r} t {v} g =
+      let f : FoundAt s k start (found.Value v) = subst (FoundAt s k start) g t in
+      let there = find-found start find-start {r = step.Field k v (f .1)} (f .2 base) (f .0) {n = k} {v = v} {next = f .1} refl refl in
+      subst (FoundFrom base s k start) (sym g) there
+
+  pub find-whole : {r : Found} → start ≡ 0 → FoundFrom base s k start r → FoundTold base s k r
+  find-whole z t = record {
+    is = λ m w. t .is m (ap (λ (a : ℕ). cut (restOf base s a)) z ∙ ap cut (whole base s) ∙ w);
+    inside = t .inside;
+  }
 
 -- what is made of the first occurrence, as `varintOf` and `bytesOf` are
 module _ {A : Type 0} (f : Value → Option A) (k base : ℕ) (s : List ℕ) {r : Found} (t : FoundTold base s k r) where

@@ -1,56 +1,74 @@
--- Fields whose tag is one byte, and so is the varint after it: read at once, and skipped in a row.
+-- Fields whose tag and the varint after it have one or two bytes each: read at once, and skipped in a row.
 -- Assumes nothing.
 use mathlib.Core.Path.{_≡_, refl, ap, sym, _∙_, subst}
 use mathlib.Core.List.{List, [], _∷_, _++_, append-assoc}
-use Prim.Native.Nat.{ℕ, _+_, _-_, _/_, _%_, _^_, _≤_, _<_}
+use Prim.Native.Nat.{ℕ, _+_, _-_, _*_, _/_, _%_, _^_, _≤_, _<_}
 use native.Mathlib.Nat.{add-assoc}
 use native.Mathlib.Omega.{arith}
 use lib.ListN.{length, getD}
 use Rattle.foundation.specs.Results.{Res, ok, refused, _>>=_, Part, _from_, got, mapGot}
 use Rattle.wire.specs.Wire.{Value, varint, body, field, readVarint, readField, Message, cut}
 use Rattle.wire.specs.Messages.{values, bodiesOf}
-use Rattle.wire.specs.Told.{restOf, bodyOf, valueOf, Inside, FieldTold, Short, Skips, SkipTold}
-use Rattle.wire.specs.Asked.{CheckedTold, bodies}
+use Rattle.wire.specs.Told.{restOf, bodyOf, valueOf, Inside, FieldTold, ShortTold, ShortField, Skips, SkipTold}
+use Rattle.wire.specs.Asked.{CheckedTold, FoundTold, FoundFrom, FoundAt, bodies, NextTold}
+use Rattle.wire.specs.declared.ShortVarint.{ShortVarint}
 use Rattle.wire.specs.declared.WireValue.{WireValue}
 use Rattle.wire.specs.declared.WireValue.the-variants as wire
 use Rattle.wire.specs.declared.Varint.the-variants as read
 use Rattle.wire.specs.declared.FieldStep.the-variants as step
 use Rattle.wire.specs.declared.message.Checked.{Checked}
 use Rattle.wire.specs.declared.message.Checked.the-variants as checked
-use Rattle.wire.proofs.VarintLaws.{one-byte}
+use Rattle.wire.specs.declared.message.Found.{Found}
+use Rattle.wire.specs.declared.message.Found.the-variants as found
+use Rattle.wire.specs.declared.message.Piece.{Piece}
+use Rattle.wire.proofs.VarintLaws.{one-byte, two-bytes}
 use Rattle.wire.proofs.FieldLaws.{value-varint, value-body, field-value, delimited-there}
 use Rattle.wire.proofs.WalkLaws.{cut-field, field-inside, bind-ok, Leads, values-passed}
-use Rattle.wire.proofs.FindLaws.{Occur}
-use Rattle.wire.proofs.BodyLaws.{Bodies}
+use Rattle.wire.proofs.FindLaws.{Occur, find-start, find-on, find-whole}
+use Rattle.wire.proofs.BodyLaws.{Bodies, bodies-start, next-on}
 use Rattle.wire.proofs.NoteLaws.{values-append}
 
-pub short-at : (s : List ℕ) (at : ℕ) {tag second : ℕ} → tag ≡ getD s at 0 → tag < 128 → at + 1 < length s → second ≡ getD s (at + 1) 0 → second < 128
-    → Short s at tag second
-short-at s at e l h f k = record { fits = h; is-tag = e; is-second = f; tag-small = l; second-small = k }
+-- a varint of one or two bytes
+module _ (s : List ℕ) (at : ℕ) where
+  pub short-none : ShortTold s at (record { value = 0; size = 0 })
+  short-none = record { fits = omega arith; small = omega arith; is = λ h. absurd (omega arith) }
 
-module _ (base : ℕ) (s : List ℕ) (at tag second : ℕ) (h : Short s at tag second) where
-  pub short-tag : readVarint (restOf base s at) ≡ got tag (restOf base s (at + 1))
-  short-tag = one-byte base s at (omega (arith, h .fits)) (h .is-tag) (h .tag-small)
+  pub short-one : {b : ℕ} → at < length s → b ≡ getD s at 0 → b < 128 → ShortTold s at (record { value = b; size = 1 })
+  short-one h e l = record { fits = omega arith; small = omega arith; is = λ p base. one-byte base s at h e l }
 
-  short-second : readVarint (restOf base s (at + 1)) ≡ got second (restOf base s (at + 2))
-  short-second =
-      let e : at + 1 + 1 ≡ at + 2 = omega arith in
-      one-byte base s (at + 1) (h .fits) (h .is-second) (h .second-small) ∙ ap (λ (n : ℕ). got second (restOf base s n)) e
+  pub short-two : {b c : ℕ} → at + 1 < length s → b ≡ getD s at 0 → 128 ≤ b → c ≡ getD s (at + 1) 0 → c < 128
+      → ShortTold s at (record { value = b % 128 + c * 128; size = 2 })
+  short-two h e l f k = record { fits = omega arith; small = omega arith; is = λ p base. two-bytes base s at h e l f k }
 
-  pub short-varint : tag % 8 ≡ 0 → FieldTold base s (readField (restOf base s at)) (step.Field (tag / 8) (wire.Varint second) (at + 2))
-  short-varint k = (
-    field-value (restOf base s at) short-tag (omega (arith, h .tag-small))
-        ∙ ap (mapGot (field (tag / 8))) (value-varint (base + at) (restOf base s (at + 1)) k ∙ ap (mapGot varint) short-second),
+-- the tag and the varint after it
+pub short-field : (s : List ℕ) (at : ℕ) {t v : ShortVarint} → ShortTold s at t → (t .size ≡ 0 → ⊥) → ShortTold s (at + t .size) v → (v .size ≡ 0 → ⊥)
+    → ShortField s at (t .value) (at + t .size) (v .value) (at + t .size + v .size)
+short-field s at {t} {v} p h q k = record {
+  later = omega arith;
+  ends = omega arith;
+  inside = omega (arith, p .fits, q .fits);
+  small = p .small;
+  first-small = q .small;
+  is-tag = p .is (omega arith);
+  is-first = q .is (omega arith);
+}
+
+-- A field whose tag and the varint after it are read so.
+module _ (s : List ℕ) (at tag next first start : ℕ) (h : ShortField s at tag next first start) where
+  pub short-varint : (base : ℕ) → tag % 8 ≡ 0 → FieldTold base s (readField (restOf base s at)) (step.Field (tag / 8) (wire.Varint first) start)
+  short-varint base k = (
+    field-value (restOf base s at) (h .is-tag base) (omega (arith, h .small))
+        ∙ ap (mapGot (field (tag / 8))) (value-varint (base + at) (restOf base s next) k ∙ ap (mapGot varint) (h .is-first base)),
     tt,
   )
 
-  pub short-body : tag % 8 ≡ 2 → second ≤ length s - (at + 2)
-      → FieldTold base s (readField (restOf base s at)) (step.Field (tag / 8) (wire.Body (at + 2) (at + 2 + second)) (at + 2 + second))
-  short-body k f = (
-    field-value (restOf base s at) short-tag (omega (arith, h .tag-small))
+  pub short-body : (base : ℕ) → tag % 8 ≡ 2 → first ≤ length s - start
+      → FieldTold base s (readField (restOf base s at)) (step.Field (tag / 8) (wire.Body start (start + first)) (start + first))
+  short-body base k f = (
+    field-value (restOf base s at) (h .is-tag base) (omega (arith, h .small))
         ∙ ap (mapGot (field (tag / 8)))
-        (value-body (base + at) (restOf base s (at + 1)) k ∙ ap (mapGot body) (delimited-there base s (at + 1) {r = read.Read second (at + 2)} short-second refl f)),
-    (omega arith, omega (arith, h .fits), omega arith),
+        (value-body (base + at) (restOf base s next) k ∙ ap (mapGot body) (delimited-there base s next {r = read.Read first start} (h .is-first base) refl f)),
+    (omega arith, omega (arith, h .inside), omega (arith, h .later, h .ends)),
   )
 
 -- fields skipped, one after the other
@@ -102,15 +120,32 @@ module _ (s : List ℕ) (k at n : ℕ) (v : WireValue) (next : ℕ)
         };
       }
 
-module _ (s : List ℕ) (k at : ℕ) {tag second : ℕ} (h : Short s at tag second) (d : tag / 8 ≡ k → ⊥) where
-  pub skip-varint : tag % 8 ≡ 0 → SkipTold s k at (at + 2)
+module _ (s : List ℕ) (k at : ℕ) {tag next first start : ℕ} (h : ShortField s at tag next first start) (d : tag / 8 ≡ k → ⊥) where
+  pub skip-varint : tag % 8 ≡ 0 → SkipTold s k at start
   skip-varint e =
-      skip-field s k at (tag / 8) (wire.Varint second) (at + 2) (λ base. short-varint base s at tag second h e) (omega (arith, h .fits)) d
+      skip-field s k at (tag / 8) (wire.Varint first) start (λ base. short-varint s at tag next first start h base e)
+      (omega (arith, h .later, h .ends, h .inside)) d
 
-  pub skip-body : tag % 8 ≡ 2 → second ≤ length s - (at + 2) → SkipTold s k at (at + 2 + second)
+  pub skip-body : tag % 8 ≡ 2 → first ≤ length s - start → SkipTold s k at (start + first)
   skip-body e f =
-      skip-field s k at (tag / 8) (wire.Body (at + 2) (at + 2 + second)) (at + 2 + second) (λ base. short-body base s at tag second h e f)
-      (omega (arith, h .fits)) d
+      skip-field s k at (tag / 8) (wire.Body start (start + first)) (start + first) (λ base. short-body s at tag next first start h base e f)
+      (omega (arith, h .later, h .ends, h .inside)) d
+
+-- such a field, found
+module _ (s : List ℕ) (k at : ℕ) {tag next first start : ℕ} (h : ShortField s at tag next first start) (d : tag / 8 ≡ k) where
+  here : (v : WireValue) (end : ℕ) → ((base : ℕ) → FieldTold base s (readField (restOf base s at)) (step.Field (tag / 8) v end))
+      → FoundAt s k at (found.Value v)
+  here v end e = (
+    omega (arith, h .later, h .ends, h .inside),
+    end,
+    λ base. subst (λ (n : ℕ). FieldTold base s (readField (restOf base s at)) (step.Field n v end)) d (e base),
+  )
+
+  pub found-varint : tag % 8 ≡ 0 → FoundAt s k at (found.Value (wire.Varint first))
+  found-varint e = here (wire.Varint first) start λ base. short-varint s at tag next first start h base e
+
+  pub found-body : tag % 8 ≡ 2 → first ≤ length s - start → FoundAt s k at (found.Value (wire.Body start (start + first)))
+  found-body e f = here (wire.Body start (start + first)) (start + first) λ base. short-body s at tag next first start h base e f
 
 -- what holds from the place after them holds from the first
 module _ (base : ℕ) {s : List ℕ} {k at next : ℕ} (t : SkipTold s k at next) where
@@ -128,8 +163,17 @@ module _ (base : ℕ) {s : List ℕ} {k at next : ℕ} (t : SkipTold s k at next
   skip-checked checked.Whole (m, w) = (t .is base .fields ++ m, t .is base .cuts ∙ rw w)
   skip-checked (checked.Refused error) w = t .is base .cuts ∙ rw w
 
-  pub occur-skipped : Occur k base s at → Occur k base s next
-  occur-skipped = skip-leads (λ m rest. values k m ≡ values k rest) (λ m a b e q. q ∙ e) (_from_ base s)
+  pub occur-skipped : (start : ℕ) → Occur k base s start at → Occur k base s start next
+  occur-skipped start = skip-leads (λ m rest. values k m ≡ values k rest) (λ m a b e q. q ∙ e) (restOf base s start)
+
+  pub found-skipped : {r : Found} → FoundFrom base s k next r → FoundFrom base s k at r
+  found-skipped = find-on k base s at next (occur-skipped at (find-start k base s at))
+
+  pub whole-skipped : at ≡ 0 → {r : Found} → FoundFrom base s k next r → FoundTold base s k r
+  whole-skipped z f = find-whole k base s at z (found-skipped f)
 
   pub bodies-skipped : (start : ℕ) → Bodies k base s start at → Bodies k base s start next
   bodies-skipped start = skip-leads (λ m rest. bodies k m ≡ bodies k rest) (λ m a b e q. q ∙ ap bodiesOf e) (restOf base s start)
+
+  pub next-skipped : {r : Piece} → NextTold base s k next r → NextTold base s k at r
+  next-skipped = next-on k base s at next (t .later) (bodies-skipped at (bodies-start k base s at))

@@ -109,6 +109,18 @@ one-byte base s at {b} h e l =
     let n : b % 128 + 128 * 0 ≡ b = omega arith in
     ap (mapGot (number 128)) (groups-last (base + at) base s at 9 h e l) ∙ ap (λ (n : ℕ). got n (restOf base s (at + 1))) n
 
+-- one of two bytes
+pub two-bytes : (base : ℕ) (s : List ℕ) (at : ℕ) {b c : ℕ} → at + 1 < length s → b ≡ getD s at 0 → 128 ≤ b → c ≡ getD s (at + 1) 0 → c < 128
+    → readVarint (restOf base s at) ≡ got (b % 128 + c * 128) (restOf base s (at + 2))
+unfolding readVarint
+two-bytes base s at {b} {c} h e l f k =
+    let n : b % 128 + 128 * (c % 128 + 128 * 0) ≡ b % 128 + c * 128 = omega arith in
+    let g : at + 1 + 1 ≡ at + 2 = omega arith in
+    ap (mapGot (number 128)) (groups-more (base + at) base s at 9 (omega arith) e l)
+    ∙ ap (λ (r : Res (Got (List ℕ))). mapGot (number 128) (mapGot (λ gs. b % 128 ∷ gs) r)) (groups-last (base + at) base s (at + 1) 8 h f k)
+    ∙ ap (λ (n : ℕ). got n (restOf base s (at + 1 + 1))) n
+    ∙ ap (λ (i : ℕ). got (b % 128 + c * 128) (restOf base s i)) g
+
 -- no byte is left
 varint-none : (base : ℕ) (s : List ℕ) (at : ℕ) → length s ≤ at → readVarint (restOf base s at) ≡ refused varintCutShort (base + at)
 unfolding readVarint

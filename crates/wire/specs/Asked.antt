@@ -8,11 +8,12 @@ use lib.Dec.{eqb}
 use lib.ListN.{length}
 use Rattle.foundation.specs.Choices.{if_then_else_}
 use Rattle.foundation.specs.Results.{Res, ok, Part, _from_}
-use Rattle.wire.specs.Wire.{Value, Message, cut}
+use Rattle.wire.specs.Wire.{Value, readField, Message, cut}
 use Rattle.wire.specs.Messages.{values, value, bytesOf, message, bodiesOf}
-use Rattle.wire.specs.Told.{refusal, restOf, valueOf, bodyOf, Inside}
+use Rattle.wire.specs.Told.{refusal, restOf, valueOf, bodyOf, Inside, FieldTold}
 use Rattle.wire.specs.declared.WireValue.{WireValue}
 use Rattle.wire.specs.declared.WireValue.the-variants as wire
+use Rattle.wire.specs.declared.FieldStep.the-variants as step
 use Rattle.wire.specs.declared.message.Checked.{Checked}
 use Rattle.wire.specs.declared.message.Checked.the-variants as checked
 use Rattle.wire.specs.declared.message.Found.{Found}
@@ -44,6 +45,17 @@ pub record FoundTold (base : ℕ) (s : List ℕ) (n : ℕ) (r : Found) : Type 0 
   pub is : (m : Message) → cut (_from_ base s) ≡ ok m → value n m ≡ foundTold base s r
   pub inside : FoundInside s r
 
+-- the same from a place on
+pub record FoundFrom (base : ℕ) (s : List ℕ) (n at : ℕ) (r : Found) : Type 0 where
+  pub is : (m : Message) → cut (restOf base s at) ≡ ok m → value n m ≡ foundTold base s r
+  pub inside : FoundInside s r
+
+-- a value that was found is that of the field at a place
+abbrev pub FoundAt : List ℕ → ℕ → ℕ → Found → Type 0
+FoundAt s n at (found.Value v) =
+    (at < length s) × (next : ℕ) × ((base : ℕ) → FieldTold base s (readField (restOf base s at)) (step.Field n v next))
+FoundAt s n at found.Nothing = Unit {0}
+
 abbrev pub numberOf : WireValue → Number
 numberOf (wire.Varint v) = number.Value v
 numberOf (wire.Fixed width v) = number.Nothing
@@ -57,6 +69,10 @@ abbrev pub pieceOf : WireValue → Piece
 pieceOf (wire.Varint v) = piece.Nothing
 pieceOf (wire.Fixed width v) = piece.Nothing
 pieceOf (wire.Body start end) = piece.Body start end
+
+abbrev pub pieceIn : Found → Piece
+pieceIn (found.Value v) = pieceOf v
+pieceIn found.Nothing = piece.Nothing
 
 abbrev pub pieceTold : ℕ → List ℕ → Piece → Option Part
 pieceTold base s (piece.Body start end) = some (bodyOf base s start end)

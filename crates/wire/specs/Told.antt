@@ -2,16 +2,17 @@
 -- Assumes nothing.
 use mathlib.Core.Path.{_≡_}
 use mathlib.Core.List.{List, [], _++_}
-use Prim.Native.Nat.{ℕ, _+_, _-_, _*_, _≤_, _<_}
-use lib.ListN.{length, take, drop, getD}
+use Prim.Native.Nat.{ℕ, _+_, _-_, _*_, _^_, _≤_, _<_}
+use lib.ListN.{length, take, drop}
 use Rattle.foundation.specs.Results.{Res, ok, refused, _>>=_, Cause, varintCutShort, pastItsMessage, fieldTooLarge, wireType, oversizedVarint, Part, _from_, Got, got, mapGot}
 use Rattle.foundation.specs.Digits.{number}
-use Rattle.wire.specs.Wire.{Value, varint, fixed, body, Field, field, Message, cut}
+use Rattle.wire.specs.Wire.{Value, varint, fixed, body, Field, field, readVarint, Message, cut}
 use Rattle.wire.specs.Messages.{values}
 use Rattle.wire.specs.declared.WireError.{WireError}
 use Rattle.wire.specs.declared.WireError.the-variants.{VarintCutShort, OversizedVarint, PastItsMessage, FieldTooLarge, WireType}
 use Rattle.wire.specs.declared.Varint.{Varint}
 use Rattle.wire.specs.declared.Varint.the-variants as read
+use Rattle.wire.specs.declared.ShortVarint.{ShortVarint}
 use Rattle.wire.specs.declared.WireValue.{WireValue}
 use Rattle.wire.specs.declared.WireValue.the-variants as value
 use Rattle.wire.specs.declared.ValueStep.{ValueStep}
@@ -78,13 +79,21 @@ abbrev pub FieldTold : ℕ → List ℕ → Res (Got Field) → FieldStep → Ty
 FieldTold base s r (fieldStep.Field n v next) = (r ≡ got (field n (valueOf base s v)) (restOf base s next)) × Inside s v
 FieldTold base s r (fieldStep.Refused error) = r ≡ refusal error
 
--- At a place stand a tag and a varint of one byte each.
-pub record Short (s : List ℕ) (at tag second : ℕ) : Type 0 where
-  pub fits : at + 1 < length s
-  pub is-tag : tag ≡ getD s at 0
-  pub is-second : second ≡ getD s (at + 1) 0
-  pub tag-small : tag < 128
-  pub second-small : second < 128
+-- What is read of a varint of one or two bytes at a place; one of no bytes says nothing.
+pub record ShortTold (s : List ℕ) (at : ℕ) (r : ShortVarint) : Type 0 where
+  pub fits : r .size ≤ length s - at
+  pub small : r .value < 2 ^ 14
+  pub is : 0 < r .size → (base : ℕ) → readVarint (restOf base s at) ≡ got (r .value) (restOf base s (at + r .size))
+
+-- At a place stand a tag, to `next`, and a varint, to `start`, so read.
+pub record ShortField (s : List ℕ) (at tag next first start : ℕ) : Type 0 where
+  pub later : at < next
+  pub ends : next < start
+  pub inside : start ≤ length s
+  pub small : tag < 2 ^ 14
+  pub first-small : first < 2 ^ 14
+  pub is-tag : (base : ℕ) → readVarint (restOf base s at) ≡ got tag (restOf base s next)
+  pub is-first : (base : ℕ) → readVarint (restOf base s next) ≡ got first (restOf base s start)
 
 -- Between two places stand fields, none with the number k.
 pub record Skips (base : ℕ) (s : List ℕ) (k at next : ℕ) : Type 0 where

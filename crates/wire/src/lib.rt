@@ -7,7 +7,7 @@ ghost use lib.ListN.{length, take, drop};
 ghost use Rattle.foundation.specs.Results.{Res, Part, Got, got, mapGot};
 ghost use Rattle.foundation.specs.Digits.{number};
 ghost use Rattle.wire.specs.Wire.{groupsFrom, readVarint, readFixed, readDelimited, readValue, readField, varint, body};
-ghost use Rattle.wire.specs.Told.{restOf, varintTold, joinedTo, DelimitedTold, ValueTold, FieldTold, Short, SkipTold};
+ghost use Rattle.wire.specs.Told.{restOf, varintTold, joinedTo, DelimitedTold, ValueTold, FieldTold, ShortTold, ShortField, SkipTold};
 
 pub mod message; // message.rt: messages, cut and asked for their fields
 pub mod repeated; // repeated.rt: repeated numbers, single and packed
@@ -307,11 +307,52 @@ fn tagged_at(s: &[u8], base: u32, at: usize, tag: u64, next: usize) -> FieldStep
     }
 }
 
-// The field at a place whose tag has more than one byte.
-fn long_field_at(s: &[u8], base: u32, at: usize) -> FieldStep
-    requires { ⌜ at < length (now s) ⌝ }
-    ensures { λ r. ⌜ FieldTold base (now (s .entry)) (readField (restOf base (now (s .entry)) at)) r ⌝ }
+// What is read of a varint of one or two bytes.
+struct ShortVarint {
+    value: u64,
+    // Its bytes, none if another form stands there or the slice ends.
+    size: usize,
+}
+
+// The varint at a place, if it has one or two bytes: by far the most have.
+fn short_varint(s: &[u8], at: usize) -> ShortVarint
+    ensures { λ r. ⌜ ShortTold (now (s .entry)) at r ⌝ }
 {
+    if s.len() <= at {
+        return ShortVarint { value: 0, size: 0 };
+    }
+    let first = wide(s[at]);
+    if first < 128 {
+        return ShortVarint {
+            value: first,
+            size: 1,
+        };
+    }
+    let next = at + 1;
+    if s.len() <= next {
+        return ShortVarint { value: 0, size: 0 };
+    }
+    let second = wide(s[next]);
+    if 128 <= second {
+        return ShortVarint { value: 0, size: 0 };
+    }
+    ShortVarint {
+        value: first % 128 + second * 128,
+        size: 2,
+    }
+}
+
+// The field at a place, whatever bytes its tag has.
+fn long_field_at(s: &[u8], base: u32, at: usize) -> FieldStep
+    ensures { λ r. ⌜ (at ≤ length (now (s .entry)) → FieldTold base (now (s .entry)) (readField (restOf base (now (s .entry)) at)) r) ⌝ }
+{
+    if s.len() <= at {
+        return FieldStep::Refused {
+            error: WireError::VarintCutShort {
+                place: base as usize + s.len(),
+            },
+        };
+    }
     let tag = long_varint_at(s, base, at);
     let Varint::Read { value, next } = tag else {
         return FieldStep::Refused { error: tag.error() };
@@ -319,28 +360,35 @@ fn long_field_at(s: &[u8], base: u32, at: usize) -> FieldStep
     tagged_at(s, base, at, value, next)
 }
 
-// The field at a place, if its tag is one byte and so is the varint after it: by far the most.
-fn short_field_at(s: &[u8], base: u32, at: usize, tag: u64, second: u64) -> FieldStep
-    requires { ⌜ Short (now s) at tag second ⌝ }
+// The field at a place whose tag, which ends at `next`, and the varint after it have one or two bytes each.
+fn short_field_at(
+    s: &[u8],
+    base: u32,
+    at: usize,
+    tag: u64,
+    next: usize,
+    first: u64,
+    start: usize,
+) -> FieldStep
+    requires { ⌜ ShortField (now s) at tag next first start ⌝ }
     ensures { λ r. ⌜ FieldTold base (now (s .entry)) (readField (restOf base (now (s .entry)) at)) r ⌝ }
 {
     let kind = tag % 8;
-    let start = at + 2;
     if kind == 0 {
         return FieldStep::Field {
             number: (tag / 8) as u32,
-            value: WireValue::Varint { value: second },
+            value: WireValue::Varint { value: first },
             next: start,
         };
     }
     if kind != 2 {
-        return tagged_at(s, base, at, tag, at + 1);
+        return tagged_at(s, base, at, tag, next);
     }
     let left = (s.len() - start) as u64;
-    if left < second {
-        return tagged_at(s, base, at, tag, at + 1);
+    if left < first {
+        return tagged_at(s, base, at, tag, next);
     }
-    let end = start + second as usize;
+    let end = start + first as usize;
     FieldStep::Field {
         number: (tag / 8) as u32,
         value: WireValue::Body { start, end },
@@ -352,52 +400,41 @@ fn short_field_at(s: &[u8], base: u32, at: usize, tag: u64, second: u64) -> Fiel
 pub fn field_at(s: &[u8], base: u32, at: usize) -> FieldStep
     ensures { λ r. ⌜ (at ≤ length (now (s .entry)) → FieldTold base (now (s .entry)) (readField (restOf base (now (s .entry)) at)) r) ⌝ }
 {
-    if s.len() <= at {
-        return FieldStep::Refused {
-            error: WireError::VarintCutShort {
-                place: base as usize + s.len(),
-            },
-        };
-    }
-    let tag = wide(s[at]);
-    if 128 <= tag {
+    let tag = short_varint(s, at);
+    if tag.size == 0 {
         return long_field_at(s, base, at);
     }
-    let next = at + 1;
-    if s.len() <= next {
-        return tagged_at(s, base, at, tag, next);
+    let next = at + tag.size;
+    let first = short_varint(s, next);
+    if first.size == 0 {
+        return tagged_at(s, base, at, tag.value, next);
     }
-    let second = wide(s[next]);
-    if 128 <= second {
-        return tagged_at(s, base, at, tag, next);
-    }
-    short_field_at(s, base, at, tag, second)
+    short_field_at(s, base, at, tag.value, next, first.value, next + first.size)
 }
 
-// Where the field at a place ends, if its tag is one byte and so is the varint after it, and its number isn't `number`; else the place itself.
-fn short_end(s: &[u8], number: u32, at: usize) -> usize
-    ensures { λ r. ⌜ SkipTold (now (s .entry)) number at r ⌝ }
+// Where the field at a place ends, if its tag and the varint after it have one or two bytes each, and its number is neither `one` nor
+// `other`; else the place itself.
+fn short_end(s: &[u8], one: u32, other: u32, at: usize) -> usize
+    ensures { λ r. ⌜ SkipTold (now (s .entry)) one at r × SkipTold (now (s .entry)) other at r ⌝ }
 {
-    if s.len() <= at {
+    let tag = short_varint(s, at);
+    if tag.size == 0 {
         return at;
     }
-    let tag = wide(s[at]);
-    if 128 <= tag {
+    let number = tag.value / 8;
+    if number == one as u64 {
         return at;
     }
-    if tag / 8 == number as u64 {
+    if number == other as u64 {
         return at;
     }
-    let next = at + 1;
-    if s.len() <= next {
+    let next = at + tag.size;
+    let first = short_varint(s, next);
+    if first.size == 0 {
         return at;
     }
-    let second = wide(s[next]);
-    if 128 <= second {
-        return at;
-    }
-    let kind = tag % 8;
-    let start = at + 2;
+    let start = next + first.size;
+    let kind = tag.value % 8;
     if kind == 0 {
         return start;
     }
@@ -405,22 +442,29 @@ fn short_end(s: &[u8], number: u32, at: usize) -> usize
         return at;
     }
     let left = (s.len() - start) as u64;
-    if left < second {
+    if left < first.value {
         return at;
     }
-    start + second as usize
+    start + first.value as usize
 }
 
-// The place after some fields from `at` on, none of which has the number `number`. It costs less than reading them one by one.
-pub fn skip_fields(s: &[u8], number: u32, at: usize) -> usize
-    ensures { λ r. ⌜ SkipTold (now (s .entry)) number at r ⌝ }
+// The place after some fields from `at` on, none of which has one of two numbers. It costs less than reading them one by one.
+pub fn skip_two(s: &[u8], one: u32, other: u32, at: usize) -> usize
+    ensures { λ r. ⌜ SkipTold (now (s .entry)) one at r × SkipTold (now (s .entry)) other at r ⌝ }
 {
     let mut i = at;
     loop {
-        let end = short_end(s, number, i);
+        let end = short_end(s, one, other, i);
         if end <= i {
             return i;
         }
         i = end;
     }
+}
+
+// The same of one number.
+pub fn skip_fields(s: &[u8], number: u32, at: usize) -> usize
+    ensures { λ r. ⌜ SkipTold (now (s .entry)) number at r ⌝ }
+{
+    skip_two(s, number, number, at)
 }

@@ -5,14 +5,16 @@ ghost use Rattle.foundation.specs.Results.{ok, _from_};
 ghost use Rattle.wire.specs.Wire.{cut, Message};
 ghost use Rattle.wire.specs.Messages.{varintOf, index, flag, messages};
 ghost use Rattle.wire.specs.Told.{restOf};
-ghost use Rattle.wire.specs.Asked.{CheckedTold, FoundTold, numberOf, numberTold, pieceOf, BytesTold, indexTold, EmbeddedTold, pieceIf, NextTold};
+ghost use Rattle.wire.specs.Asked.{CheckedTold, FoundTold, FoundFrom, FoundAt, numberOf, numberTold, pieceOf, pieceIn, BytesTold, indexTold, EmbeddedTold, pieceIf, NextTold};
 use super::FieldStep;
 use super::WireError;
 use super::WireValue;
 use super::field_at;
+use super::short_varint;
 use super::skip_fields;
+use super::skip_two;
 
-// No field whose tag is one byte has this number.
+// No field whose tag has one or two bytes has this number.
 const NO_NUMBER: u32 = 4294967295;
 
 pub enum Checked {
@@ -65,13 +67,49 @@ pub enum Found {
     Nothing,
 }
 
-// The first occurrence of a field, of whatever wire type.
-pub fn find(s: &[u8], base: u32, number: u32) -> Found
-    ensures { λ r. ⌜ FoundTold base (now (s .entry)) number r ⌝ }
+// The value of the field at a place, if it has the number `number`, and its tag and the varint after it have one or two bytes each.
+fn short_found(s: &[u8], number: u32, at: usize) -> Found
+    ensures { λ r. ⌜ FoundAt (now (s .entry)) number at r ⌝ }
 {
-    let mut at = skip_fields(s, number, 0);
-    while at < s.len() {
-        let step = field_at(s, base, at);
+    let tag = short_varint(s, at);
+    if tag.size == 0 {
+        return Found::Nothing;
+    }
+    if tag.value / 8 != number as u64 {
+        return Found::Nothing;
+    }
+    let next = at + tag.size;
+    let first = short_varint(s, next);
+    if first.size == 0 {
+        return Found::Nothing;
+    }
+    let start = next + first.size;
+    let kind = tag.value % 8;
+    if kind == 0 {
+        return Found::Value {
+            value: WireValue::Varint { value: first.value },
+        };
+    }
+    if kind != 2 {
+        return Found::Nothing;
+    }
+    let left = (s.len() - start) as u64;
+    if left < first.value {
+        return Found::Nothing;
+    }
+    let end = start + first.value as usize;
+    Found::Value {
+        value: WireValue::Body { start, end },
+    }
+}
+
+// The first occurrence of a field from a place on, field by field.
+fn long_find(s: &[u8], base: u32, number: u32, at: usize) -> Found
+    ensures { λ r. ⌜ FoundFrom base (now (s .entry)) number at r ⌝ }
+{
+    let mut i = at;
+    while i < s.len() {
+        let step = field_at(s, base, i);
         let FieldStep::Field {
             number: n,
             value,
@@ -83,9 +121,67 @@ pub fn find(s: &[u8], base: u32, number: u32) -> Found
         if n == number {
             return Found::Value { value };
         }
-        at = skip_fields(s, number, next);
+        i = skip_fields(s, number, next);
     }
     Found::Nothing
+}
+
+// The same; where it is short it is found at once.
+fn find_from(s: &[u8], base: u32, number: u32, at: usize) -> Found
+    ensures { λ r. ⌜ FoundFrom base (now (s .entry)) number at r ⌝ }
+{
+    let i = skip_fields(s, number, at);
+    if s.len() <= i {
+        return Found::Nothing;
+    }
+    let here = short_found(s, number, i);
+    let Found::Nothing = here else {
+        return here;
+    };
+    long_find(s, base, number, i)
+}
+
+// The first occurrence of a field, of whatever wire type.
+pub fn find(s: &[u8], base: u32, number: u32) -> Found
+    ensures { λ r. ⌜ FoundTold base (now (s .entry)) number r ⌝ }
+{
+    find_from(s, base, number, 0)
+}
+
+pub struct TwoFound {
+    pub first: Found,
+    pub second: Found,
+}
+
+// The first occurrences of two fields, by one walk where the fields are short: from the one that stands first on, only the other is walked to.
+pub fn find_two(s: &[u8], base: u32, first: u32, second: u32) -> TwoFound
+    ensures { λ r. ⌜ FoundTold base (now (s .entry)) first (r .first) × FoundTold base (now (s .entry)) second (r .second) ⌝ }
+{
+    let at = skip_two(s, first, second, 0);
+    if s.len() <= at {
+        return TwoFound {
+            first: Found::Nothing,
+            second: Found::Nothing,
+        };
+    }
+    let here = short_found(s, first, at);
+    let Found::Nothing = here else {
+        return TwoFound {
+            first: here,
+            second: find_from(s, base, second, at),
+        };
+    };
+    let there = short_found(s, second, at);
+    let Found::Nothing = there else {
+        return TwoFound {
+            first: find_from(s, base, first, at),
+            second: there,
+        };
+    };
+    TwoFound {
+        first: find_from(s, base, first, at),
+        second: find_from(s, base, second, at),
+    }
 }
 
 pub enum Number {
@@ -123,6 +219,17 @@ impl WireValue {
                 number: _,
             } => Piece::Nothing,
             WireValue::Body { start, end } => Piece::Body { start, end },
+        }
+    }
+}
+
+impl Found {
+    fn bytes(self) -> Piece
+        ensures { λ r. ⌜ r ≡ pieceIn self ⌝ }
+    {
+        match self {
+            Found::Value { value } => value.bytes(),
+            Found::Nothing => Piece::Nothing,
         }
     }
 }
@@ -212,11 +319,11 @@ fn body_of(asked: u32, number: u32, value: WireValue) -> Piece
     value.bytes()
 }
 
-// The next length-delimited occurrence of a field from a place on; those after it are found from its end on.
-pub fn next_body(s: &[u8], base: u32, number: u32, at: usize) -> Piece
+// The next length-delimited occurrence of a field from a place on, field by field.
+fn long_next_body(s: &[u8], base: u32, number: u32, at: usize) -> Piece
     ensures { λ r. ⌜ NextTold base (now (s .entry)) number at r ⌝ }
 {
-    let mut i = skip_fields(s, number, at);
+    let mut i = at;
     while i < s.len() {
         let step = field_at(s, base, i);
         let FieldStep::Field {
@@ -234,6 +341,22 @@ pub fn next_body(s: &[u8], base: u32, number: u32, at: usize) -> Piece
         i = skip_fields(s, number, next);
     }
     Piece::Nothing
+}
+
+// The next length-delimited occurrence of a field from a place on; those after it are found from its end on.
+pub fn next_body(s: &[u8], base: u32, number: u32, at: usize) -> Piece
+    ensures { λ r. ⌜ NextTold base (now (s .entry)) number at r ⌝ }
+{
+    let i = skip_fields(s, number, at);
+    if s.len() <= i {
+        return Piece::Nothing;
+    }
+    let here = short_found(s, number, i);
+    let piece = here.bytes();
+    let Piece::Nothing = piece else {
+        return piece;
+    };
+    long_next_body(s, base, number, i)
 }
 
 // Cuts every message of a list, before the first is read.

@@ -1,117 +1,66 @@
-use Prim.Native.Nat.{_-_, _≤_}
 use native.Mathlib.Omega.{arith}
-use lib.ListN.{length}
-use Rattle.wire.proofs.WalkLaws.{field-inside}
-use Rattle.wire.proofs.BodyLaws.{Bodies, bodies-start, bodies-end, bodies-never, bodies-on, bodies-here}
-use Rattle.wire.proofs.SkipLaws.{bodies-skipped}
+use Rattle.wire.proofs.BodyLaws.{bodies-start, bodies-end, next-here}
+use Rattle.wire.proofs.SkipLaws.{next-skipped}
 use borrow.Author.Needs.{needs}
 use Rattle.wire.proofs.message.next_body.Statement.{statement}
 use Rattle.wire.proofs.message.next_body.Tie as tie
 use Rattle.wire.proofs.message.next_body.Reads as reads
 use Rattle.wire.proofs.message.next_body.Lts as lts
-use Rattle.wire.proofs.field_at.Reads as field-at-reads
-use Rattle.wire.proofs.message.body_of.Reads as body-of-reads
+use Rattle.wire.proofs.message.Found.bytes.Reads as bytes-reads
+use Rattle.wire.proofs.message.long_next_body.Reads as long-next-body-reads
+use Rattle.wire.proofs.message.short_found.Reads as short-found-reads
 use Rattle.wire.proofs.skip_fields.Reads as skip-fields-reads
 
-abbrev Inv-loop : tie.InvT-loop
-Inv-loop s base number at i₀ i = (at ≤ i) × Bodies number base s at i
-
-abbrev μ-loop : tie.MeasureT-loop
-μ-loop s base number at i₀ i = length s - i
-
--- src/message.rt:219:9
-skip-fields-requires : tie.Need-skip-fields-requires Inv-loop μ-loop
+-- src/message.rt:330:9
+skip-fields-requires : tie.Need-skip-fields-requires
 skip-fields-requires c κs = search needs
 
--- src/message.rt:220:5
-loop-holds : tie.Need-loop-holds Inv-loop μ-loop
-loop-holds c =
-    let a = c .before .before .args in
-    let f = c .skip-fields .ensures .later in
-    (omega arith, bodies-skipped (a .base) (c .skip-fields .ensures) (a .at) (bodies-start _ (a .base) (a .s .now) (a .at)))
+-- src/message.rt:332:9
+returns : tie.Need-returns
+returns c =
+    let a = c .before .before .before .args in
+    let i = c .before .skip-fields .result in
+    next-skipped (a .base) (c .before .skip-fields .ensures) (bodies-end (a .number) (a .base) (a .s .now) i i (bodies-start (a .number) (a .base) (a .s .now) i) (c .if1 .taken))
 
--- src/message.rt:221:13
-field-at-requires : tie.Need-field-at-requires Inv-loop μ-loop
-field-at-requires c κs = search needs
+-- src/message.rt:334:9
+short-found-requires : tie.Need-short-found-requires
+short-found-requires c κs = search needs
 
--- src/message.rt:223:21
-enum-known-step : tie.Need-enum-known-step Inv-loop μ-loop
-enum-known-step c = search needs
+-- src/message.rt:335:9
+bytes-requires : tie.Need-bytes-requires
+bytes-requires c κs = search needs
 
--- src/message.rt:228:13
-enum-told : tie.Need-enum-told Inv-loop μ-loop
+enum-told : tie.Need-enum-told
 enum-told c = search needs
 
--- src/message.rt:228:13
-returns : tie.Need-returns Inv-loop μ-loop
-returns c =
-    let a = c .before .before .before .before .before .before .before .args in
-    let l = c .before .before .before .before .loop in
-    bodies-never (a .number) (a .base) (a .s .now) (a .at) (l .i) (l .inv .1) (c .before .before .field-at .ensures (omega arith)) (c .before .before .before .loop-test .taken) (c .enum-told .given .1)
-
--- src/message.rt:230:13
-body-of-requires : tie.Need-body-of-requires Inv-loop μ-loop
-body-of-requires c κs = search needs
-
-enum-told-2 : tie.Need-enum-told-2 Inv-loop μ-loop
+-- src/message.rt:337:9
+enum-told-2 : tie.Need-enum-told-2
 enum-told-2 c = search needs
 
--- src/message.rt:232:13
-enum-told-3 : tie.Need-enum-told-3 Inv-loop μ-loop
-enum-told-3 c = search needs
-
--- src/message.rt:232:13
-returns-2 : tie.Need-returns-2 Inv-loop μ-loop
+-- src/message.rt:337:9
+returns-2 : tie.Need-returns-2
 returns-2 c =
-    let a = c .before .before .before .before .before .before .before .before .before .before .before .args in
-    let l = c .before .before .before .before .before .before .before .before .loop in
-    bodies-here (a .number) (a .base) (a .s .now) (a .at) (l .i) (l .inv .1) (c .before .before .before .before .before .before .field-at .ensures (omega arith)) (c .before .before .before .before .before .before .before .loop-test .taken) _ (c .before .before .before .before .step .given .1) (c .before .before .body-of .ensures) (l .inv .0) (c .enum-told3 .given .1)
+    let a = c .before .before .before .before .before .before .before .args in
+    next-skipped (a .base) (c .before .before .before .before .before .skip-fields .ensures) (next-here (a .number) (a .base) (a .s .now) (c .before .before .before .before .before .skip-fields .result) (c .before .before .before .short-found .result) (c .before .before .before .short-found .ensures) (c .before .before .bytes .ensures) (c .enum-told2 .given .1))
 
--- src/message.rt:234:9
-skip-fields-requires-2 : tie.Need-skip-fields-requires-2 Inv-loop μ-loop
-skip-fields-requires-2 c κs = search needs
+-- src/message.rt:339:5
+long-next-body-requires : tie.Need-long-next-body-requires
+long-next-body-requires c κs = search needs
 
--- src/message.rt:220:5
-loop-less : tie.Need-loop-less Inv-loop μ-loop
-loop-less c =
-    let a = c .before .before .before .before .before .before .before .before .before .before .before .before .args in
-    let h = field-inside (a .base) (a .s .now) (c .before .before .before .before .before .before .before .before .before .loop .i) (c .before .before .before .before .before .before .before .field-at .ensures (omega arith)) (omega arith) (c .before .before .before .before .before .step .given .1) in
-    let f = c .skip-fields2 .ensures .later in
-    omega arith
-
--- src/message.rt:220:5
-loop-again : tie.Need-loop-again Inv-loop μ-loop
-loop-again c =
-    let a = c .before .before .before .before .before .before .before .before .before .before .before .before .args in
-    let l = c .before .before .before .before .before .before .before .before .before .loop in
-    let h = field-inside (a .base) (a .s .now) (l .i) (c .before .before .before .before .before .before .before .field-at .ensures (omega arith)) (omega arith) (c .before .before .before .before .before .step .given .1) in
-    let f = c .skip-fields2 .ensures .later in
-    (omega arith, bodies-skipped (a .base) (c .skip-fields2 .ensures) (a .at) (bodies-on (a .number) (a .base) (a .s .now) (a .at) (l .i) (l .inv .1) (c .before .before .before .before .before .before .before .field-at .ensures (omega arith)) (c .before .before .before .before .before .before .before .before .loop-test .taken) _ (c .before .before .before .before .before .step .given .1) (c .before .before .before .body-of .ensures) (c .before .enum-told2 .given .1)))
-
--- src/message.rt:216:1
-returns-3 : tie.Need-returns-3 Inv-loop μ-loop
-returns-3 c =
-    let a = c .before .before .before .before .args in
-    let l = c .before .loop in
-    bodies-end (a .number) (a .base) (a .s .now) (a .at) (l .i) (l .inv .1) (c .loop-test .left)
+-- src/message.rt:327:1
+returns-3 : tie.Need-returns-3
+returns-3 c = next-skipped (c .before .before .before .before .before .before .before .before .args .base) (c .before .before .before .before .before .before .skip-fields .ensures) (c .long-next-body .ensures)
 
 pub next-body-spec : {M : Type 1} → statement M
 next-body-spec =
     tie.close
     (tie.spec
-    Inv-loop
-    μ-loop
     skip-fields-requires
-    loop-holds
-    field-at-requires
-    enum-known-step
-    enum-told
     returns
-    body-of-requires
+    short-found-requires
+    bytes-requires
+    enum-told
     enum-told-2
-    enum-told-3
     returns-2
-    skip-fields-requires-2
-    loop-less
-    loop-again
+    long-next-body-requires
     returns-3)
