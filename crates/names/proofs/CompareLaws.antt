@@ -12,9 +12,9 @@ use lib.Dec.{eqb, leb}
 use lib.ListN.{length, drop, getD, drop-of-length-le}
 use lib.Seq.{drop-cons}
 use Rattle.foundation.specs.Texts.{Text, same}
+use Rattle.characters.proofs.TestLaws.{below}
 use Rattle.names.specs.Stream.{changed, sameFrom, begins, sameSource}
 use Rattle.names.specs.declared.name.Change.{Change}
-use Rattle.names.proofs.TestLaws.{below}
 
 -- What is left of the one text, and of the other from the place k on.
 module _ (h : Change) (text : List ℕ) (k : ℕ) {rest : Text} where

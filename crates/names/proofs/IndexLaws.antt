@@ -13,9 +13,9 @@ use lib.Dec.{eqb, leb, ltb}
 use lib.ListN.{length, take, drop, getD, getElem?, length-take}
 use lib.Seq.{getD-take, drop-drop}
 use Rattle.foundation.proofs.ChoiceLaws.{and-left, and-right}
+use Rattle.characters.specs.Characters.{partFrom}
 use Rattle.names.specs.Records.{Record}
 use Rattle.names.specs.Names.{recordAt, stringsFrom, endsFit}
-use Rattle.names.specs.Characters.{partFrom}
 use Rattle.names.specs.Index.{sumsFrom, rangesOf, Sums, foundIn}
 
 length-sums : (n : ℕ) (rs : List ℕ) → length (sumsFrom n rs) ≡ suc (length rs)

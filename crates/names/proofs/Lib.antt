@@ -1,15 +1,6 @@
-pub mod TestLaws
-pub mod EveryLaws
-pub mod Utf8Laws
 pub mod StepLaws
 pub mod ScalarLaws
 pub mod LengthLaws
-pub mod RowLaws
-pub mod CharacterLaws
-pub mod SplitLaws
-pub mod SeamLaws
-pub mod UnitLaws
-pub mod WriteLaws
 pub mod ListLaws
 pub mod NameLaws
 pub mod StreamLaws

@@ -12,10 +12,10 @@ use lib.ListN.{length, getD, getElem?}
 use Rattle.foundation.specs.Choices.{ifSome, mapOption}
 use Rattle.foundation.specs.Texts.{Text, ascii, same}
 use Rattle.foundation.proofs.ChoiceLaws.{same-true}
-use Rattle.names.specs.Characters.{leadOf, run, step, fromUtf8After, fromUtf8, partFrom}
+use Rattle.characters.specs.Characters.{leadOf, run, step, fromUtf8After, fromUtf8, partFrom}
+use Rattle.characters.proofs.TestLaws.{holds, each, below}
 use Rattle.names.specs.Records.{predefinedStrings, predefinedText}
 use Rattle.names.specs.Name.{predefinedList}
-use Rattle.names.proofs.TestLaws.{holds, each, below}
 
 -- where each of some texts starts, one after the other, and where the last ends
 abbrev pub places : ℕ → List String → List ℕ

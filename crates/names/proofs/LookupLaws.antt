@@ -13,7 +13,8 @@ use Rattle.foundation.specs.Results.{Res, ok, _from_}
 use Rattle.foundation.specs.Texts.{Text}
 use Rattle.wire.specs.Wire.{cut}
 use Rattle.wire.specs.Asked.{pieceTold, PieceInside, indexTold}
-use Rattle.names.specs.Characters.{fromUtf16, partFrom}
+use Rattle.characters.specs.Characters.{fromUtf16, partFrom}
+use Rattle.characters.proofs.SplitLaws.{drop-take}
 use Rattle.names.specs.Records as definition
 use Rattle.names.specs.Records.{decides, operated, textOf}
 use Rattle.names.specs.Names.{Names, recordAt, stringsFrom, endsFit, d2String, string}
@@ -29,7 +30,6 @@ use Rattle.names.specs.declared.lookup.Decided.{Decided}
 use Rattle.names.specs.declared.lookup.Decided.the-variants as decided
 use Rattle.names.specs.declared.steps.Extent.{Extent}
 use Rattle.names.specs.declared.steps.Extent.the-variants as extent
-use Rattle.names.proofs.SplitLaws.{drop-take}
 use Rattle.names.proofs.PartLaws.{same-substituted}
 
 elem-some : {A : Type 0} (l : List A) (k : ℕ) → k < length l → (a : A) × (getElem? l k ≡ some a)

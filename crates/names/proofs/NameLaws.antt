@@ -6,33 +6,28 @@ use mathlib.Core.List.{List, [], _∷_, _++_, map}
 use mathlib.Core.Option.{Option, none, some}
 use Prim.Native.Nat.{ℕ, _+_, _-_, _≤_, _<_}
 use native.Mathlib.Omega.{arith}
-use borrow.Author.Tests.{eq-eqb, ne-eqb, eqb-true}
+use borrow.Author.Tests.{ne-eqb, eqb-true}
 use lib.Dec.{eqb}
 use lib.ListN.{length, take, drop, length-drop}
 use lib.Seq.{take-all}
-use Rattle.foundation.specs.Choices.{if_then_else_, ifSome, mapOption}
+use Rattle.foundation.specs.Choices.{if_then_else_}
 use Rattle.foundation.specs.Texts.{Text, ascii, same}
 use Rattle.foundation.proofs.ChoiceLaws.{if-ind}
+use Rattle.characters.specs.Characters.{utf8Of, utf8, fromUtf8, fromUtf16, partFrom}
+use Rattle.characters.specs.Plain.{instead, withDots, withSlashes}
+use Rattle.characters.proofs.TestLaws.{below}
+use Rattle.characters.proofs.Utf8Laws.{utf8-append}
 use Rattle.names.specs.Name.{predefinedList, sourceText, steppedBy, nameText}
-use Rattle.names.specs.Characters.{utf8Of, utf8, fromUtf8, fromUtf16, partFrom}
 use Rattle.names.specs.Records.{substituted, dotted, operated}
-use Rattle.names.specs.Stream.{instead, withDots, withSlashes, changed, changeOf, prefixOf, printed, baseOf, changedBytes, sourceBytes, nameBytes, sameSource, sameName}
+use Rattle.names.specs.Stream.{changed, changeOf, prefixOf, printed, baseOf, changedBytes, sourceBytes, nameBytes, sameSource, sameName}
 use Rattle.names.specs.declared.name.Name.{Name}
 use Rattle.names.specs.declared.name.Change.{Change}
-use Rattle.names.proofs.TestLaws.{below}
-use Rattle.names.proofs.Utf8Laws.{utf8-append}
 
 -- A part that goes to the end of s.
 pub part-rest : (s : List ℕ) (start end : ℕ) → length s ≤ end → take (length s - start) (drop start s) ≡ partFrom start end s
 part-rest s start end h =
     take-all (length s - start) (drop start s) (omega (arith, length-drop start s))
     ∙ sym (take-all (end - start) (drop start s) (omega (arith, length-drop start s)))
-
-pub instead-is : (from to c : ℕ) → c ≡ from → to ≡ instead from to c
-instead-is from to c h = rw (eq-eqb c from h)
-
-pub instead-not : (from to c : ℕ) → (c ≡ from → ⊥) → c ≡ instead from to c
-instead-not from to c h = rw (ne-eqb c from h)
 
 -- A map of a text that begins otherwise than the rest.
 map-parts : (g f : ℕ → ℕ) (p t : Text) → map g (p ++ map f t) ≡ map g p ++ map (λ c. g (f c)) t

@@ -23,7 +23,7 @@ use Rattle.wire.specs.declared.message.Piece.{Piece}
 use Rattle.wire.specs.declared.message.Piece.the-variants as piece
 use Rattle.wire.proofs.WalkLaws.{cut-end, ok-same}
 use Rattle.wire.proofs.BodyLaws.{checked-part}
-use Rattle.names.specs.Characters.{partFrom}
+use Rattle.characters.specs.Characters.{partFrom}
 use Rattle.names.specs.Records.{Record, recordOf, served, Record·range}
 use Rattle.names.specs.Names.{StringTableTypes·record, StringTableTypes·local-name, recordsOf}
 use Rattle.names.specs.Index.{sumsFrom, rangesOf, Sums, RecordAt, IndexOf, Room, NotedTold, IndexTold}

@@ -2,17 +2,15 @@
 -- Assumes nothing.
 use mathlib.Core.Path.{_≡_, refl, ap, sym, _∙_, subst}
 use mathlib.Core.Bool.{Bool, true, false, _&&_, _||_}
-use mathlib.Core.List.{List, [], _∷_, _++_, map}
+use mathlib.Core.List.{List, [], _∷_, _++_}
 use mathlib.Core.Option.{Option, none, some}
-use Prim.Native.Nat.{ℕ, zero, suc, _+_, _-_, _^_, _≤_, _<_, min}
-use native.Mathlib.Nat.{le-refl}
+use Prim.Native.Nat.{ℕ, _+_, _-_, _^_, _≤_, _<_}
 use native.Mathlib.Omega.{arith}
 use borrow.Author.Tests.{eq-eqb, ne-eqb, lt-ltb, le-ltb, le-leb, eqb-true}
 use types.Run.{OneOf, miss}
 use denote.Enum.Declared.{tagOf}
-use lib.Dec.{eqb, leb, ltb}
-use lib.ListN.{length, take, drop, length-take, length-drop}
-use lib.Seq.{take-take, drop-drop, take-all}
+use lib.Dec.{eqb, leb}
+use lib.ListN.{length, drop, length-drop}
 use Rattle.foundation.specs.Choices.{if_then_else_, ifSome, isSome, mapOption, IfSome}
 use Rattle.foundation.specs.Texts.{Text, ascii}
 use Rattle.wire.specs.Asked.{pieceTold, PieceInside, indexTold}
@@ -22,48 +20,29 @@ use Rattle.wire.specs.declared.message.Indexed.{Indexed}
 use Rattle.wire.specs.declared.message.Indexed.the-variants as indexed
 use Rattle.wire.specs.declared.repeated.Two.{Two}
 use Rattle.wire.specs.declared.repeated.Two.the-variants.{Neither, One, Both}
-use Rattle.names.specs.Characters.{isScalar, between, fromUtf8, partFrom, placeOf}
-use Rattle.names.specs.Told.{placeTold}
+use Rattle.characters.specs.Characters.{isScalar, fromUtf8, partFrom, placeOf}
+use Rattle.characters.specs.Told.{placeTold}
+use Rattle.characters.proofs.PartLaws.{part-part, part-short, rest-is}
+use Rattle.characters.specs.Splits.{substringOf}
+use Rattle.characters.specs.declared.Place.{Place}
+use Rattle.characters.specs.declared.Place.the-variants as place
+use Rattle.characters.proofs.TestLaws.{under}
+use Rattle.characters.proofs.SplitLaws.{place-within, substring-source}
 use Rattle.names.specs.Records as definition
-use Rattle.names.specs.Records.{baseText, textOf, predefinedText, substringOf, substituted, replaceOf, dotted, operated, stepped}
-use Rattle.names.specs.Name.{predefinedList, sourceText, steppedBy, nameText}
+use Rattle.names.specs.Records.{baseText, textOf, predefinedText, substituted, replaceOf, dotted, operated, stepped}
+use Rattle.names.specs.Name.{predefinedList, sourceText, nameText}
 use Rattle.names.specs.RecordTold.{bothOf, recordTold}
 use Rattle.names.specs.Stream.{listedText, baseOf}
 use Rattle.names.specs.Steps.{plain, absentName, SubstringTold, PieceFits, textIn, OfBytes, BaseTold, PartTold, known, withSteps}
-use Rattle.names.specs.declared.Place.{Place}
-use Rattle.names.specs.declared.Place.the-variants as place
 use Rattle.names.specs.declared.name.Name.{Name}
 use Rattle.names.specs.declared.records.Record.{Record}
 use Rattle.names.specs.declared.name.Listed.{Listed}
 use Rattle.names.specs.declared.name.Listed.the-variants as listed
-use Rattle.names.specs.declared.steps.Extent.{Extent}
 use Rattle.names.specs.declared.steps.Extent.the-variants as extent
 use Rattle.names.specs.declared.steps.Base.{Base}
 use Rattle.names.specs.declared.steps.Base.the-variants as base
 use Rattle.wire.proofs.repeated.Two.{the-type}
-use Rattle.names.proofs.TestLaws.{within, above, under}
-use Rattle.names.proofs.SplitLaws.{drop-take, place-within, substring-source}
 use Rattle.names.proofs.NameLaws.{source-bytes}
-
--- A part of a part is a part of the whole.
-pub part-part : (l : List ℕ) (start end a b : ℕ) → a ≤ b → b ≤ length (partFrom start end l)
-    → take (b - a) (drop a (partFrom start end l)) ≡ partFrom (start + a) (start + b) l
-part-part l start end a b h i =
-    let n = end - start in
-    let c : b ≤ n = omega (arith, length-take n (drop start l)) in
-    let e : a + (n - a) ≡ n = omega arith in
-    let f : start + b - (start + a) ≡ b - a = omega arith in
-    ap (λ (k : ℕ). take (b - a) (drop a (take k (drop start l)))) (sym e)
-    ∙ ap (take (b - a)) (drop-take a (n - a) (drop start l))
-    ∙ take-take (b - a) (n - a) (drop a (drop start l)) (omega arith)
-    ∙ ap (take (b - a)) (drop-drop a start l)
-    ∙ ap (λ (k : ℕ). take k (drop (start + a) l)) (sym f)
-
-pub part-short : (l : List ℕ) (start end : ℕ) → length (partFrom start end l) ≤ end - start
-part-short l start end = omega (arith, length-take (end - start) (drop start l))
-
-pub rest-is : (s : List ℕ) (a : ℕ) → partFrom a (length s) s ≡ drop a s
-rest-is s a = take-all (length s - a) (drop a s) (rw length-drop (le-refl (length s - a)))
 
 -- Tests of numbers.
 module _ (c : ℕ) where

@@ -12,12 +12,13 @@ use lib.ListN.{length, take, drop, length-map, length-take, length-drop}
 use Rattle.foundation.specs.Choices.{if_then_else_, ifSome, isSome, mapOption, IfSome}
 use Rattle.foundation.specs.Texts.{Text}
 use Rattle.foundation.proofs.ChoiceLaws.{if-ind}
-use Rattle.names.specs.Characters.{partFrom, width, fromUtf8, fromUtf16, utf8}
+use Rattle.characters.specs.Characters.{partFrom, width, fromUtf8, fromUtf16, utf8}
+use Rattle.characters.proofs.LengthLaws.{AtMost, InBytes, bytes-most, fromUtf8-length, fromUtf16-length}
 use Rattle.names.specs.Records.{substituted, dotted, operated}
 use Rattle.names.specs.Name.{predefinedList, sourceText, steppedBy, nameText}
 use Rattle.names.specs.Stream.{printed, nameBytes}
 use Rattle.names.specs.declared.name.Name.{Name}
-use Rattle.names.proofs.LengthLaws.{AtMost, InBytes, bytes-most, fromUtf8-length, fromUtf16-length, substituted-bytes, dotted-bytes, operated-bytes}
+use Rattle.names.proofs.LengthLaws.{substituted-bytes, dotted-bytes, operated-bytes}
 use Rattle.names.proofs.NameLaws.{source-none, source-there}
 
 module _ (payload d2 : List ℕ) (n : Name) where

@@ -17,7 +17,8 @@ use Rattle.wire.specs.Messages.{values, firstOf, asBody, varintOf, index, bytes
 use Rattle.wire.specs.Asked.{pieceTold, indexTold}
 use Rattle.wire.proofs.FieldLaws.{value-varint, field-value}
 use Rattle.wire.proofs.WalkLaws.{ok-same}
-use Rattle.names.specs.Characters.{partFrom}
+use Rattle.characters.specs.Characters.{partFrom}
+use Rattle.characters.proofs.UnitLaws.{units-ended, units-cons}
 use Rattle.names.specs.Records.{recordOf, decides, predefinedText, baseText, operated, textOf}
 use Rattle.names.specs.RecordTold.{RecordTold}
 use Rattle.names.specs.Name.{sourceText, nameText}
@@ -30,7 +31,6 @@ use Rattle.names.specs.declared.name.Listed.the-variants as listed
 use Rattle.names.specs.declared.records.Record.{Record}
 use Rattle.names.specs.declared.lookup.Decided.{Decided}
 use Rattle.names.specs.declared.lookup.Decided.the-variants as decided
-use Rattle.names.proofs.UnitLaws.{units-ended, units-cons}
 use Rattle.names.proofs.PartLaws.{same-substituted}
 
 -- Any record, as it was read.

@@ -13,15 +13,15 @@ use Rattle.foundation.specs.Choices.{if_then_else_, IfSome}
 use Rattle.foundation.specs.Texts.{Text, ascii}
 use Rattle.foundation.proofs.ChoiceLaws.{if-ind}
 use Rattle.foundation.proofs.OverlayLaws.{sets-then}
-use Rattle.names.specs.Characters.{utf8Of, utf8, fromUtf8, fromUtf16, partFrom}
-use Rattle.names.specs.Told.{PutCharacter}
+use Rattle.characters.specs.Characters.{utf8Of, utf8, fromUtf8, fromUtf16, partFrom}
+use Rattle.characters.specs.Told.{PutCharacter}
+use Rattle.characters.proofs.Utf8Laws.{utf8-length}
+use Rattle.characters.proofs.LengthLaws.{bytes-most, fromUtf8-length, fromUtf16-length}
+use Rattle.characters.proofs.WriteLaws.{put-next}
 use Rattle.names.specs.Name.{predefinedList, sourceText}
 use Rattle.names.specs.Stream.{changed, changeOf, prefixOf, printed, changedBytes, sourceBytes, nameBytes, PutText}
 use Rattle.names.specs.declared.name.Name.{Name}
 use Rattle.names.specs.declared.name.Change.{Change}
-use Rattle.names.proofs.Utf8Laws.{utf8-length}
-use Rattle.names.proofs.LengthLaws.{bytes-most, fromUtf8-length, fromUtf16-length}
-use Rattle.names.proofs.WriteLaws.{put-next}
 use Rattle.names.proofs.NameLaws.{none-bytes, some-bytes}
 
 -- Of a whole text, written from `at` on over the area A₀, the rest is to be written from `to` on over A.

@@ -15,29 +15,31 @@ use lib.Seq.{take-suc, getD-drop, take-nil}
 use Rattle.foundation.specs.Choices.{if_then_else_, ifSome, mapOption}
 use Rattle.foundation.specs.Results.{Res, ok, _>>=_}
 use Rattle.foundation.specs.Texts.{Text, ascii}
-use Rattle.names.specs.Characters.{width, fromUtf8After, fromUtf8, fromUtf16, isHigh, isLow, lone, pair, partFrom}
-use Rattle.names.specs.Told.{utf8At}
+use Rattle.characters.specs.Characters.{width, fromUtf8After, fromUtf8, fromUtf16, isHigh, isLow, lone, pair, partFrom}
+use Rattle.characters.specs.Told.{utf8At}
+use Rattle.characters.specs.Plain.{instead}
+use Rattle.characters.specs.declared.Character.{Character}
+use Rattle.characters.specs.declared.Character.the-variants.{Read, End}
+use Rattle.characters.proofs.TestLaws.{below}
+use Rattle.characters.proofs.EveryLaws.{map-twice}
+use Rattle.characters.proofs.CharacterLaws.{utf8-none, utf8-end, utf8-inside, utf8-next}
+use Rattle.characters.proofs.SplitLaws.{Boundary, boundary-start, boundary-next, boundary-text}
+use Rattle.characters.proofs.SeamLaws.{units-seam}
+use Rattle.characters.proofs.UnitLaws.{units-ended, units-cons}
+use Rattle.characters.proofs.PartLaws.{part-part, part-short, rest-is}
 use Rattle.names.specs.Records.{substituted, dotted, operated}
 use Rattle.names.specs.Names.{Names, string, qualifiedName, withoutLast, unwrapped, stringsFrom, d2String}
 use Rattle.names.specs.Name.{predefinedList, sourceText, nameText}
-use Rattle.names.specs.Stream.{instead, baseOf}
+use Rattle.names.specs.Stream.{baseOf}
 use Rattle.names.specs.Steps.{plain, absentName, extentOf, BytesName}
 use Rattle.names.specs.Qualified.{LastTold, UnwrapTold, qualifiedPart, classText, ClippedTold, WrappedTold}
-use Rattle.names.specs.declared.Character.{Character}
-use Rattle.names.specs.declared.Character.the-variants.{Read, End}
 use Rattle.names.specs.declared.name.Name.{Name}
 use Rattle.names.specs.declared.qualified.Last.{Last}
 use Rattle.names.specs.declared.qualified.Last.the-variants as last
 use Rattle.names.specs.declared.steps.Extent.{Extent}
 use Rattle.names.specs.declared.steps.Extent.the-variants as extent
-use Rattle.names.proofs.TestLaws.{below}
-use Rattle.names.proofs.EveryLaws.{map-twice}
-use Rattle.names.proofs.CharacterLaws.{utf8-none, utf8-end, utf8-inside, utf8-next}
-use Rattle.names.proofs.SplitLaws.{Boundary, boundary-start, boundary-next, boundary-text}
-use Rattle.names.proofs.SeamLaws.{units-seam}
-use Rattle.names.proofs.UnitLaws.{units-ended, units-cons}
 use Rattle.names.proofs.NameLaws.{part-rest, source-bytes}
-use Rattle.names.proofs.PartLaws.{part-part, part-short, rest-is, same-substituted}
+use Rattle.names.proofs.PartLaws.{same-substituted}
 
 -- A text by its last character.
 without-snoc : (c : ℕ) (t : Text) (a : ℕ) → withoutLast c (t ++ (a ∷ [])) ≡ (if eqb a c then some t else none)

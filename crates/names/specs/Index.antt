@@ -12,6 +12,7 @@ use Rattle.wire.specs.Wire.{Message, cut}
 use Rattle.wire.specs.Messages.{messages}
 use Rattle.wire.specs.Told.{refusal}
 use Rattle.wire.specs.Asked.{bodies}
+use Rattle.characters.specs.Characters.{partFrom}
 use Rattle.names.specs.Records.{Record, recordOf, decides, textOf, predefinedText}
 use Rattle.names.specs.Names.{StringTableTypes·record, recordsOf, recordAt, Names, string}
 use Rattle.names.specs.Name.{nameText}
@@ -19,7 +20,6 @@ use Rattle.names.specs.Steps.{BytesName}
 use Rattle.names.specs.declared.name.Name.{Name}
 use Rattle.names.specs.declared.lookup.Decided.{Decided}
 use Rattle.names.specs.declared.lookup.Decided.the-variants as decided
-use Rattle.names.specs.Characters.{partFrom}
 use Rattle.names.specs.declared.steps.Extent.{Extent}
 use Rattle.names.specs.declared.steps.Extent.the-variants as extent
 use Rattle.names.specs.declared.lookup.Found.{Found}

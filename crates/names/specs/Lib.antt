@@ -1,8 +1,5 @@
-pub mod Characters
 pub mod Records
 pub mod Names
-pub mod WellFormed
-pub mod Told
 pub mod Name
 pub mod Stream
 pub mod Index

@@ -7,7 +7,7 @@ use Prim.Native.Nat.{ℕ}
 use lib.Dec.{eqb}
 use Rattle.foundation.specs.Choices.{if_then_else_, mapOption, concat}
 use Rattle.foundation.specs.Texts.{Text, ascii}
-use Rattle.names.specs.Characters.{fromUtf8, fromUtf16, partFrom}
+use Rattle.characters.specs.Characters.{fromUtf8, fromUtf16, partFrom}
 use Rattle.names.specs.Records.{predefinedStrings, substituted, operated, dotted}
 use Rattle.names.specs.declared.name.Name.{Name}
 

@@ -11,7 +11,7 @@ use Rattle.foundation.specs.Results.{Res, ok, refused, _>>=_}
 use Rattle.foundation.specs.Texts.{Text}
 use Rattle.wire.specs.Wire.{Message}
 use Rattle.wire.specs.Messages.{messages, varints}
-use Rattle.names.specs.Characters.{fromUtf16}
+use Rattle.characters.specs.Characters.{fromUtf16}
 use Rattle.names.specs.Records.{Record, recordOf, decides, textOf, dotted}
 
 -- field numbers of StringTableTypes

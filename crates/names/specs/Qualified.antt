@@ -9,7 +9,7 @@ use lib.ListN.{length, take}
 use Rattle.foundation.specs.Choices.{mapOption}
 use Rattle.foundation.specs.Results.{ok, _>>=_}
 use Rattle.foundation.specs.Texts.{Text}
-use Rattle.names.specs.Characters.{fromUtf8, fromUtf16, partFrom}
+use Rattle.characters.specs.Characters.{fromUtf8, fromUtf16, partFrom}
 use Rattle.names.specs.Records.{substituted, dotted}
 use Rattle.names.specs.Names.{unwrapped, stringsFrom, endsFit, d2String}
 use Rattle.names.specs.Name.{nameText}

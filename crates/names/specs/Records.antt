@@ -1,18 +1,19 @@
 -- A record of the name table: jvm_metadata.proto's StringTableTypes.Record, and the text that it builds.
 -- Assumes nothing.
-use mathlib.Core.Bool.{Bool, true, false, _&&_, _||_}
+use mathlib.Core.Bool.{Bool, _&&_, _||_}
 use mathlib.Core.List.{List, [], _∷_, _++_, map}
 use mathlib.Core.Option.{Option, none, some}
 use Prim.Native.Nat.{ℕ, zero, suc, _+_, _-_, _%_, _^_}
 use Prim.Native.String.{String}
-use lib.Dec.{eqb, ltb}
+use lib.Dec.{eqb}
 use lib.ListN.{getElem?}
-use Rattle.foundation.specs.Choices.{if_then_else_, ifSome, mapOption, orElse, isSome}
+use Rattle.foundation.specs.Choices.{if_then_else_, ifSome, mapOption, isSome}
 use Rattle.foundation.specs.Results.{Res, ok, refused, Part}
 use Rattle.foundation.specs.Texts.{Text, ascii}
 use Rattle.wire.specs.Wire.{Message}
 use Rattle.wire.specs.Messages.{index, varintOf, bytesOf, varints}
-use Rattle.names.specs.Characters.{isScalar, width, fromUtf8}
+use Rattle.characters.specs.Characters.{isScalar, fromUtf8}
+use Rattle.characters.specs.Splits.{substringOf}
 
 -- field numbers of StringTableTypes.Record
 abbrev pub Record·range : ℕ
@@ -88,27 +89,6 @@ decides r = isSome (r .string) || isSome (r .predefined)
 -- a part of the payload, bad UTF-8 replaced, or of the predefined list
 unfoldable pub baseText : Record → Option Text
 baseText r = ifSome (r .string) (ifSome (r .predefined) none predefinedText) λ p. some (fromUtf8 (p .bytes))
-
-pub record Halves : Type 0 where
-  pub before : Text
-  pub after : Text
-
-abbrev pub halves : Text → Text → Halves
-halves t u = record { before = t; after = u }
-
--- the text before and after byte place n; none past its end or inside a character
-unfoldable pub splitAt : ℕ → Text → Option Halves
-splitAt n [] = if eqb n 0 then some (halves [] []) else none
-splitAt n (c ∷ t) =
-    let later = mapOption (λ h. halves (c ∷ h .before) (h .after)) (splitAt (n - width c) t) in
-    if eqb n 0 then some (halves [] (c ∷ t)) else if ltb n (width c) then none else later
-
--- Departure: substring by byte places (Kotlin: by UTF-16 units). A place out of range makes the name absent, where Kotlin's reader
--- leaves the step out.
-unfoldable pub substringOf : ℕ → ℕ → Text → Option Text
-substringOf start end t =
-    let part = ifSome (splitAt start t) none λ h. mapOption (λ m. m .before) (splitAt (end - start) (h .after)) in
-    if ltb end start then none else part
 
 abbrev pub substituted : ℕ → ℕ → Text → Text
 substituted from to = map λ c. if eqb c from then to else c

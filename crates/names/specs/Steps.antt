@@ -13,8 +13,9 @@ use Rattle.wire.specs.Asked.{pieceTold, PieceInside, indexTold}
 use Rattle.wire.specs.declared.message.Piece.{Piece}
 use Rattle.wire.specs.declared.message.Piece.the-variants as piece
 use Rattle.wire.specs.declared.message.Indexed.{Indexed}
-use Rattle.names.specs.Characters.{fromUtf8, partFrom}
-use Rattle.names.specs.Records.{textOf, predefinedText, substringOf, replaceOf, operated, stepped}
+use Rattle.characters.specs.Characters.{fromUtf8, partFrom}
+use Rattle.characters.specs.Splits.{substringOf}
+use Rattle.names.specs.Records.{textOf, predefinedText, replaceOf, operated, stepped}
 use Rattle.names.specs.Name.{sourceText, nameText}
 use Rattle.names.specs.RecordTold.{recordTold}
 use Rattle.names.specs.declared.records.Record.{Record}

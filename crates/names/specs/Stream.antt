@@ -5,12 +5,13 @@ use mathlib.Core.Path.{_≡_}
 use mathlib.Core.List.{List, [], _∷_, _++_, map}
 use mathlib.Core.Option.{Option, none, some}
 use Prim.Native.Nat.{ℕ, _+_, _≤_}
-use lib.Dec.{eqb, ltb}
+use lib.Dec.{eqb}
 use lib.ListN.{length, drop}
 use lib.Seq.{sets}
 use Rattle.foundation.specs.Choices.{if_then_else_, ifSome}
 use Rattle.foundation.specs.Texts.{Text, ascii, same}
-use Rattle.names.specs.Characters.{fromUtf8, utf8, partFrom}
+use Rattle.characters.specs.Characters.{fromUtf8, utf8, partFrom}
+use Rattle.characters.specs.Plain.{instead, withDots, withSlashes, isAscii}
 use Rattle.names.specs.Name.{predefinedList, nameText}
 use Rattle.names.specs.Records.{INTERNAL-TO-CLASS-ID, DESC-TO-CLASS-ID, substituted}
 use Rattle.names.specs.declared.name.Name.{Name}
@@ -38,32 +39,14 @@ changeOf n slashes = record {
   slashes = slashes;
 }
 
-abbrev pub instead : ℕ → ℕ → ℕ → ℕ
-instead from to c = if eqb c from then to else c
-
-abbrev pub withDots : Bool → ℕ → ℕ
-withDots dots c = if dots then instead 0x2f 0x2e (instead 0x24 0x2e c) else c
-
-abbrev pub withSlashes : Bool → ℕ → ℕ
-withSlashes slashes c = if slashes then instead 0x2e 0x2f c else c
-
 unfoldable pub changed : Change → ℕ → ℕ
 changed h c = withSlashes (h .slashes) (withDots (h .dots) (instead (h .from) (h .to) c))
-
--- of characters below 128 alone
-unfoldable pub isAscii : List ℕ → Bool
-isAscii [] = true
-isAscii (c ∷ cs) = ltb c 0x80 && isAscii cs
 
 -- a part that is there, of characters below 128 alone
 pub record PlainPart (s : List ℕ) (start end : ℕ) : Type 0 where
   pub ordered : start ≤ end
   pub inside : end ≤ length s
   pub ascii : isAscii (partFrom start end s) ≡ true
-
--- a character, if none is replaced
-abbrev pub shown : Bool → Bool → ℕ → ℕ
-shown dots slashes c = withSlashes slashes (withDots dots c)
 
 -- the text that operation 2 puts in front
 abbrev pub prefixOf : ℕ → Text

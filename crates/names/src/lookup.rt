@@ -170,8 +170,8 @@ fn record_at(bytes: &[u8], start: usize, end: usize) -> Decided
         return Decided::No;
     }
     if size == 2 {
-        let tag = crate::wide(bytes[start]);
-        let number = crate::wide(bytes[start + 1]);
+        let tag = characters::wide(bytes[start]);
+        let number = characters::wide(bytes[start + 1]);
         if number < 128 {
             if tag == PREDEFINED_INDEX {
                 return Decided::Yes {

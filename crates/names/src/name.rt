@@ -3,10 +3,11 @@ ghost use mathlib.Core.Path.{_≡_};
 ghost use mathlib.Core.List.{List};
 ghost use Prim.Native.Nat.{ℕ};
 ghost use Rattle.foundation.specs.Choices.{isSome};
-ghost use Rattle.names.specs.Characters.{partFrom};
+ghost use Rattle.characters.specs.Characters.{partFrom};
+ghost use Rattle.characters.specs.Plain.{instead, withDots, withSlashes};
 ghost use Rattle.names.specs.Name.{nameText};
 ghost use Rattle.names.specs.Records.{predefinedText};
-ghost use Rattle.names.specs.Stream.{listedText, baseOf, changeOf, instead, withDots, withSlashes, changed};
+ghost use Rattle.names.specs.Stream.{listedText, baseOf, changeOf, changed};
 
 pub struct Name {
     // What the characters are a part of: 0 nothing, the name is absent; 1 the payload; 2 the predefined list; 3 d2.

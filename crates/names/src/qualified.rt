@@ -12,7 +12,6 @@ ghost use Rattle.names.specs.Name.{nameText};
 ghost use Rattle.names.specs.Index.{IndexOf};
 ghost use Rattle.names.specs.Steps.{BytesName};
 ghost use Rattle.names.specs.Qualified.{LastTold, UnwrapTold, qualifiedPart, QualifiedTold, ClippedTold, WrappedTold, QualifiedUnits};
-use super::Character;
 use super::lookup::Decided;
 use super::lookup::by_record;
 use super::lookup::d2_extent;
@@ -22,7 +21,8 @@ use super::name::base_part;
 use super::name::instead;
 use super::steps::Extent;
 use super::steps::absent;
-use super::utf8_at;
+use characters::Character;
+use characters::utf8_at;
 
 pub enum Last {
     Character { place: usize, code: u32 },

@@ -1,17 +1,17 @@
 // Names written: straight from their source into the text area, character by character.
-use crate::Character;
-use crate::ascii;
 use crate::name::Change;
 use crate::name::Name;
 use crate::name::PREDEFINED;
 use crate::name::change_of;
 use crate::name::character_of;
 use crate::name::part_of;
+use characters::Character;
+use characters::ascii;
 ghost use mathlib.Core.Path.{_≡_};
 ghost use mathlib.Core.Bool.{true};
 ghost use Prim.Native.Nat.{_+_, _^_, _≤_, _<_};
 ghost use lib.ListN.{length};
-ghost use Rattle.names.specs.Characters.{fromUtf8, fromUtf16, utf8, partFrom};
+ghost use Rattle.characters.specs.Characters.{fromUtf8, fromUtf16, utf8, partFrom};
 ghost use Rattle.names.specs.Name.{predefinedList, sourceText};
 ghost use Rattle.names.specs.Stream.{changedBytes, sourceBytes, nameBytes, PutText, PlainPart, prefixOf, printed, sameFrom, begins, PrefixTold, sameSource, sameName};
 
@@ -23,11 +23,11 @@ fn put_utf8(s: &[u8], change: Change, area: &mut [u8], at: usize) -> usize
     let mut i = 0;
     let mut to = at;
     loop {
-        let character = crate::utf8_at(s, i);
+        let character = characters::utf8_at(s, i);
         let Character::Read { code, next } = character else {
             return to;
         };
-        let size = crate::put_character(area, to, character_of(change, code));
+        let size = characters::put_character(area, to, character_of(change, code));
         to += size;
         i = next;
     }
@@ -48,11 +48,11 @@ fn put_utf16(
     let mut i = start;
     let mut to = at;
     loop {
-        let character = crate::utf16_at(units, i, end);
+        let character = characters::utf16_at(units, i, end);
         let Character::Read { code, next } = character else {
             return to;
         };
-        let size = crate::put_character(area, to, character_of(change, code));
+        let size = characters::put_character(area, to, character_of(change, code));
         to += size;
         i = next;
     }
@@ -198,14 +198,14 @@ fn same_bytes(s: &[u8], change: Change, text: &[u8], from: usize) -> bool
     let mut i = 0;
     let mut k = from;
     loop {
-        let character = crate::utf8_at(s, i);
+        let character = characters::utf8_at(s, i);
         let Character::Read { code, next } = character else {
             return text.len() <= k;
         };
         if text.len() <= k {
             return false;
         }
-        if character_of(change, code) != crate::wide(text[k]) {
+        if character_of(change, code) != characters::wide(text[k]) {
             return false;
         }
         i = next;
@@ -227,14 +227,14 @@ fn same_units(
     let mut i = start;
     let mut k = from;
     loop {
-        let character = crate::utf16_at(units, i, end);
+        let character = characters::utf16_at(units, i, end);
         let Character::Read { code, next } = character else {
             return text.len() <= k;
         };
         if text.len() <= k {
             return false;
         }
-        if character_of(change, code) != crate::wide(text[k]) {
+        if character_of(change, code) != characters::wide(text[k]) {
             return false;
         }
         i = next;

@@ -2,9 +2,9 @@
 // a string or q for a class name. Writes the note and the name's text in UTF-8, in hex.
 ghost use Prim.Native.Nat.{_≤_, _<_};
 ghost use lib.ListN.{length};
+use characters::Character;
 use libc::STDIN_FILENO;
 use libc::STDOUT_FILENO;
-use names::Character;
 use names::name::Change;
 use names::name::Name;
 use names::name::PREDEFINED;
@@ -113,7 +113,7 @@ fn wide(byte: u8) -> u64 {
 
 fn print_character(code: u32) {
     let mut area = [0u8; 4];
-    let size = names::put_character(&mut area, 0, code);
+    let size = characters::put_character(&mut area, 0, code);
     let mut i = 0;
     while i < 4 {
         if size <= i {
@@ -127,7 +127,7 @@ fn print_character(code: u32) {
 fn print_bytes(s: &[u8], change: Change) {
     let mut at = 0;
     loop {
-        let character = names::utf8_at(s, at);
+        let character = characters::utf8_at(s, at);
         let Character::Read { code, next } = character else {
             return;
         };
@@ -139,7 +139,7 @@ fn print_bytes(s: &[u8], change: Change) {
 fn print_units(units: &[u16], start: usize, end: usize, change: Change) {
     let mut at = start;
     loop {
-        let character = names::utf16_at(units, at, end);
+        let character = characters::utf16_at(units, at, end);
         let Character::Read { code, next } = character else {
             return;
         };

@@ -2,14 +2,14 @@ use mathlib.Core.Path.{_∙_, sym}
 use Prim.Native.Nat.{_≤_, _-_}
 use native.Mathlib.Omega.{arith}
 use lib.ListN.{length}
-use Rattle.names.proofs.CharacterLaws.{utf8-inside}
+use Rattle.characters.proofs.CharacterLaws.{utf8-inside}
 use borrow.Author.Needs.{needs}
 use Rattle.names_vectors.proofs.print_bytes.Statement.{statement}
 use Rattle.names_vectors.proofs.print_bytes.Tie as tie
 use Rattle.names_vectors.proofs.print_bytes.Reads as reads
 use Rattle.names_vectors.proofs.print_bytes.Lts as lts
 use Rattle.names.proofs.name.character_of.Reads as character-of-reads
-use Rattle.names.proofs.utf8_at.Reads as utf8-at-reads
+use Rattle.characters.proofs.utf8_at.Reads as utf8-at-reads
 use Rattle.names_vectors.proofs.print_character.Reads as print-character-reads
 
 abbrev Inv-loop : tie.InvT-loop

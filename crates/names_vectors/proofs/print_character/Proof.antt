@@ -7,7 +7,7 @@ use Rattle.names_vectors.proofs.print_character.Tie as tie
 use Rattle.names_vectors.proofs.print_character.Reads as reads
 use Rattle.names_vectors.proofs.print_character.Lts as lts
 use Rattle.io.proofs.print_hex.Reads as print-hex-reads
-use Rattle.names.proofs.put_character.Reads as put-character-reads
+use Rattle.characters.proofs.put_character.Reads as put-character-reads
 use Rattle.names_vectors.proofs.wide.Reads as wide-reads
 
 abbrev Inv-loop : tie.InvT-loop

@@ -2,14 +2,14 @@ use mathlib.Core.Path.{_∙_, sym}
 use Prim.Native.Nat.{_≤_, _-_}
 use native.Mathlib.Omega.{arith}
 use lib.ListN.{length}
-use Rattle.names.proofs.UnitLaws.{utf16-inside}
+use Rattle.characters.proofs.UnitLaws.{utf16-inside}
 use borrow.Author.Needs.{needs}
 use Rattle.names_vectors.proofs.print_units.Statement.{statement}
 use Rattle.names_vectors.proofs.print_units.Tie as tie
 use Rattle.names_vectors.proofs.print_units.Reads as reads
 use Rattle.names_vectors.proofs.print_units.Lts as lts
 use Rattle.names.proofs.name.character_of.Reads as character-of-reads
-use Rattle.names.proofs.utf16_at.Reads as utf16-at-reads
+use Rattle.characters.proofs.utf16_at.Reads as utf16-at-reads
 use Rattle.names_vectors.proofs.print_character.Reads as print-character-reads
 
 abbrev Inv-loop : tie.InvT-loop

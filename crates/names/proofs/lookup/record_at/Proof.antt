@@ -8,7 +8,7 @@ use Rattle.names.proofs.lookup.record_at.Reads as reads
 use Rattle.names.proofs.lookup.record_at.Lts as lts
 use Rattle.names.proofs.lookup.listed_name.Reads as listed-name-reads
 use Rattle.names.proofs.lookup.read_record.Reads as read-record-reads
-use Rattle.names.proofs.wide.Reads as wide-reads
+use Rattle.characters.proofs.wide.Reads as wide-reads
 
 -- src/lookup.rt:168:16
 sub-size : tie.Need-sub-size

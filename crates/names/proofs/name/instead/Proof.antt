@@ -1,4 +1,4 @@
-use Rattle.names.proofs.NameLaws.{instead-is, instead-not}
+use Rattle.characters.proofs.AsciiLaws.{instead-is, instead-not}
 use Rattle.names.proofs.name.instead.Statement.{statement}
 use Rattle.names.proofs.name.instead.Tie as tie
 use Rattle.names.proofs.name.instead.Reads as reads

@@ -1,5 +1,5 @@
 use mathlib.Core.Path.{sym}
-use Rattle.names.proofs.UnitLaws.{units-ended, units-past}
+use Rattle.characters.proofs.UnitLaws.{units-ended, units-past}
 use Rattle.names.proofs.NameLaws.{part-rest}
 use borrow.Author.Needs.{needs}
 use Rattle.names.proofs.name.part_of.Statement.{statement}

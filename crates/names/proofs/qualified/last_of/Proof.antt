@@ -2,14 +2,14 @@ use mathlib.Core.Path.{_∙_, sym}
 use Prim.Native.Nat.{_-_}
 use native.Mathlib.Omega.{arith}
 use lib.ListN.{length}
-use Rattle.names.proofs.CharacterLaws.{utf8-inside}
+use Rattle.characters.proofs.CharacterLaws.{utf8-inside}
 use Rattle.names.proofs.UnwrapLaws.{Begins, begins-start, begins-end, begins-never, begins-next, last-is}
 use borrow.Author.Needs.{needs}
 use Rattle.names.proofs.qualified.last_of.Statement.{statement}
 use Rattle.names.proofs.qualified.last_of.Tie as tie
 use Rattle.names.proofs.qualified.last_of.Reads as reads
 use Rattle.names.proofs.qualified.last_of.Lts as lts
-use Rattle.names.proofs.utf8_at.Reads as utf8-at-reads
+use Rattle.characters.proofs.utf8_at.Reads as utf8-at-reads
 
 abbrev Inv-loop : tie.InvT-loop
 Inv-loop s at₀ at = Begins s at

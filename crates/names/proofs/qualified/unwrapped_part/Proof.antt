@@ -8,7 +8,7 @@ use Rattle.names.proofs.qualified.unwrapped_part.Reads as reads
 use Rattle.names.proofs.qualified.unwrapped_part.Lts as lts
 use Rattle.names.proofs.name.instead.Reads as instead-reads
 use Rattle.names.proofs.qualified.last_of.Reads as last-of-reads
-use Rattle.names.proofs.utf8_at.Reads as utf8-at-reads
+use Rattle.characters.proofs.utf8_at.Reads as utf8-at-reads
 
 -- src/qualified.rt:54:9
 utf8-at-requires : tie.Need-utf8-at-requires

@@ -6,7 +6,7 @@ use Rattle.names.proofs.steps.substring.Statement.{statement}
 use Rattle.names.proofs.steps.substring.Tie as tie
 use Rattle.names.proofs.steps.substring.Reads as reads
 use Rattle.names.proofs.steps.substring.Lts as lts
-use Rattle.names.proofs.find_place.Reads as find-place-reads
+use Rattle.characters.proofs.find_place.Reads as find-place-reads
 
 -- src/steps.rt:50:9
 returns : tie.Need-returns

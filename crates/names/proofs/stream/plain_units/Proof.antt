@@ -7,7 +7,7 @@ use Rattle.names.proofs.stream.plain_units.Statement.{statement}
 use Rattle.names.proofs.stream.plain_units.Tie as tie
 use Rattle.names.proofs.stream.plain_units.Reads as reads
 use Rattle.names.proofs.stream.plain_units.Lts as lts
-use Rattle.names.proofs.ascii.ascii_units.Reads as ascii-units-reads
+use Rattle.characters.proofs.ascii.ascii_units.Reads as ascii-units-reads
 
 -- src/stream.rt:81:9
 returns : tie.Need-returns

@@ -1,13 +1,13 @@
 use mathlib.Core.Path.{refl, sym, _∙_}
-use Rattle.names.specs.Stream.{shown}
+use Rattle.characters.specs.Plain.{shown}
 use Rattle.names.proofs.AsciiLaws.{bytes-bytes, shown-put, shown-past, shown-fits}
 use borrow.Author.Needs.{needs}
 use Rattle.names.proofs.stream.put_bytes.Statement.{statement}
 use Rattle.names.proofs.stream.put_bytes.Tie as tie
 use Rattle.names.proofs.stream.put_bytes.Reads as reads
 use Rattle.names.proofs.stream.put_bytes.Lts as lts
-use Rattle.names.proofs.ascii.ascii_bytes.Reads as ascii-bytes-reads
-use Rattle.names.proofs.ascii.copy_bytes.Reads as copy-bytes-reads
+use Rattle.characters.proofs.ascii.ascii_bytes.Reads as ascii-bytes-reads
+use Rattle.characters.proofs.ascii.copy_bytes.Reads as copy-bytes-reads
 use Rattle.names.proofs.stream.put_utf8.Reads as put-utf8-reads
 
 -- src/stream.rt:68:12

@@ -1,7 +1,7 @@
 use mathlib.Core.Path.{sym, ap, _∙_}
 use mathlib.Core.List.{List}
 use Prim.Native.Nat.{ℕ}
-use Rattle.names.specs.Characters.{fromUtf8}
+use Rattle.characters.specs.Characters.{fromUtf8}
 use Rattle.names.specs.Stream.{changedBytes}
 use Rattle.names.specs.Name.{predefinedList}
 use Rattle.names.proofs.StreamLaws.{text-same, fits-same}

@@ -1,4 +1,4 @@
-use Rattle.names.specs.Characters.{utf8}
+use Rattle.characters.specs.Characters.{utf8}
 use Rattle.names.specs.Name.{sourceText}
 use Rattle.names.specs.Stream.{printed, prefixOf, sourceBytes}
 use mathlib.Core.Path.{sym}

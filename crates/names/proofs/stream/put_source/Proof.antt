@@ -2,7 +2,7 @@ use mathlib.Core.Path.{_≡_, sym, ap, _∙_}
 use mathlib.Core.List.{List}
 use mathlib.Core.Option.{some}
 use Prim.Native.Nat.{ℕ}
-use Rattle.names.specs.Characters.{fromUtf8}
+use Rattle.characters.specs.Characters.{fromUtf8}
 use Rattle.names.proofs.NameLaws.{source-units, source-listed, source-own, source-some}
 use Rattle.names.proofs.StreamLaws.{text-same, fits-same}
 use borrow.Author.Needs.{needs}

@@ -1,13 +1,14 @@
 use native.Mathlib.Omega.{arith}
-use Rattle.names.specs.Characters.{partFrom}
-use Rattle.names.specs.Stream.{shown}
-use Rattle.names.proofs.AsciiLaws.{units-bytes, part-long, shown-put, shown-past, shown-fits}
+use Rattle.characters.specs.Characters.{partFrom}
+use Rattle.characters.specs.Plain.{shown}
+use Rattle.characters.proofs.PartLaws.{part-long}
+use Rattle.names.proofs.AsciiLaws.{units-bytes, shown-put, shown-past, shown-fits}
 use borrow.Author.Needs.{needs}
 use Rattle.names.proofs.stream.put_units.Statement.{statement}
 use Rattle.names.proofs.stream.put_units.Tie as tie
 use Rattle.names.proofs.stream.put_units.Reads as reads
 use Rattle.names.proofs.stream.put_units.Lts as lts
-use Rattle.names.proofs.ascii.copy_units.Reads as copy-units-reads
+use Rattle.characters.proofs.ascii.copy_units.Reads as copy-units-reads
 use Rattle.names.proofs.stream.plain_units.Reads as plain-units-reads
 use Rattle.names.proofs.stream.put_utf16.Reads as put-utf16-reads
 

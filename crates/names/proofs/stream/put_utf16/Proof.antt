@@ -2,8 +2,8 @@ use mathlib.Core.Path.{_∙_, sym}
 use Prim.Native.Nat.{_-_, _^_}
 use native.Mathlib.Omega.{arith}
 use lib.ListN.{length}
-use Rattle.names.specs.Characters.{fromUtf16, partFrom}
-use Rattle.names.proofs.UnitLaws.{utf16-end, utf16-next, utf16-inside}
+use Rattle.characters.specs.Characters.{fromUtf16, partFrom}
+use Rattle.characters.proofs.UnitLaws.{utf16-end, utf16-next, utf16-inside}
 use Rattle.names.proofs.StreamLaws.{Streaming, streaming-start, streaming-end, streaming-fits, streaming-next}
 use borrow.Author.Needs.{needs}
 use Rattle.names.proofs.stream.put_utf16.Statement.{statement}
@@ -11,8 +11,8 @@ use Rattle.names.proofs.stream.put_utf16.Tie as tie
 use Rattle.names.proofs.stream.put_utf16.Reads as reads
 use Rattle.names.proofs.stream.put_utf16.Lts as lts
 use Rattle.names.proofs.name.character_of.Reads as character-of-reads
-use Rattle.names.proofs.put_character.Reads as put-character-reads
-use Rattle.names.proofs.utf16_at.Reads as utf16-at-reads
+use Rattle.characters.proofs.put_character.Reads as put-character-reads
+use Rattle.characters.proofs.utf16_at.Reads as utf16-at-reads
 
 abbrev Inv-loop : tie.InvT-loop
 Inv-loop units start end change area₀ at i₀ to₀ area i to = Streaming change (fromUtf16 (partFrom start end units)) (fromUtf16 (partFrom i end units)) at to area₀ area

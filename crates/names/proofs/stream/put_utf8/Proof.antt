@@ -2,8 +2,8 @@ use mathlib.Core.Path.{_∙_, sym}
 use Prim.Native.Nat.{_-_, _^_}
 use native.Mathlib.Omega.{arith}
 use lib.ListN.{length, drop}
-use Rattle.names.specs.Characters.{fromUtf8}
-use Rattle.names.proofs.CharacterLaws.{utf8-end, utf8-next, utf8-inside}
+use Rattle.characters.specs.Characters.{fromUtf8}
+use Rattle.characters.proofs.CharacterLaws.{utf8-end, utf8-next, utf8-inside}
 use Rattle.names.proofs.StreamLaws.{Streaming, streaming-start, streaming-end, streaming-fits, streaming-next}
 use borrow.Author.Needs.{needs}
 use Rattle.names.proofs.stream.put_utf8.Statement.{statement}
@@ -11,8 +11,8 @@ use Rattle.names.proofs.stream.put_utf8.Tie as tie
 use Rattle.names.proofs.stream.put_utf8.Reads as reads
 use Rattle.names.proofs.stream.put_utf8.Lts as lts
 use Rattle.names.proofs.name.character_of.Reads as character-of-reads
-use Rattle.names.proofs.put_character.Reads as put-character-reads
-use Rattle.names.proofs.utf8_at.Reads as utf8-at-reads
+use Rattle.characters.proofs.put_character.Reads as put-character-reads
+use Rattle.characters.proofs.utf8_at.Reads as utf8-at-reads
 
 abbrev Inv-loop : tie.InvT-loop
 Inv-loop s change area₀ at i₀ to₀ area i to = Streaming change (fromUtf8 s) (fromUtf8 (drop i s)) at to area₀ area

@@ -2,9 +2,9 @@ use mathlib.Core.Path.{_≡_, _∙_, sym, refl}
 use Prim.Native.Nat.{_-_}
 use native.Mathlib.Omega.{arith}
 use lib.ListN.{length, drop}
-use Rattle.names.specs.Characters.{fromUtf8}
+use Rattle.characters.specs.Characters.{fromUtf8}
 use Rattle.names.specs.Stream.{sameFrom}
-use Rattle.names.proofs.CharacterLaws.{utf8-end, utf8-next, utf8-inside}
+use Rattle.characters.proofs.CharacterLaws.{utf8-end, utf8-next, utf8-inside}
 use Rattle.names.proofs.CompareLaws.{same-ended, same-longer, same-other, same-next}
 use borrow.Author.Needs.{needs}
 use Rattle.names.proofs.stream.same_bytes.Statement.{statement}
@@ -12,8 +12,8 @@ use Rattle.names.proofs.stream.same_bytes.Tie as tie
 use Rattle.names.proofs.stream.same_bytes.Reads as reads
 use Rattle.names.proofs.stream.same_bytes.Lts as lts
 use Rattle.names.proofs.name.character_of.Reads as character-of-reads
-use Rattle.names.proofs.utf8_at.Reads as utf8-at-reads
-use Rattle.names.proofs.wide.Reads as wide-reads
+use Rattle.characters.proofs.utf8_at.Reads as utf8-at-reads
+use Rattle.characters.proofs.wide.Reads as wide-reads
 
 abbrev Inv-loop : tie.InvT-loop
 Inv-loop s change text from i₀ k₀ i k = sameFrom change (fromUtf8 (drop i s)) text k ≡ sameFrom change (fromUtf8 s) text from

@@ -2,7 +2,7 @@ use mathlib.Core.Path.{ap, _∙_}
 use mathlib.Core.Bool.{Bool}
 use mathlib.Core.List.{List}
 use Prim.Native.Nat.{ℕ}
-use Rattle.names.specs.Characters.{fromUtf8}
+use Rattle.characters.specs.Characters.{fromUtf8}
 use Rattle.names.specs.Stream.{sameFrom}
 use Rattle.names.specs.Name.{predefinedList}
 use borrow.Author.Needs.{needs}

@@ -2,9 +2,9 @@ use mathlib.Core.Path.{_≡_, _∙_, sym, refl}
 use Prim.Native.Nat.{_-_}
 use native.Mathlib.Omega.{arith}
 use lib.ListN.{length}
-use Rattle.names.specs.Characters.{fromUtf16, partFrom}
+use Rattle.characters.specs.Characters.{fromUtf16, partFrom}
 use Rattle.names.specs.Stream.{sameFrom}
-use Rattle.names.proofs.UnitLaws.{utf16-end, utf16-next, utf16-inside}
+use Rattle.characters.proofs.UnitLaws.{utf16-end, utf16-next, utf16-inside}
 use Rattle.names.proofs.CompareLaws.{same-ended, same-longer, same-other, same-next}
 use borrow.Author.Needs.{needs}
 use Rattle.names.proofs.stream.same_units.Statement.{statement}
@@ -12,8 +12,8 @@ use Rattle.names.proofs.stream.same_units.Tie as tie
 use Rattle.names.proofs.stream.same_units.Reads as reads
 use Rattle.names.proofs.stream.same_units.Lts as lts
 use Rattle.names.proofs.name.character_of.Reads as character-of-reads
-use Rattle.names.proofs.utf16_at.Reads as utf16-at-reads
-use Rattle.names.proofs.wide.Reads as wide-reads
+use Rattle.characters.proofs.utf16_at.Reads as utf16-at-reads
+use Rattle.characters.proofs.wide.Reads as wide-reads
 
 abbrev Inv-loop : tie.InvT-loop
 Inv-loop units start end change text from i₀ k₀ i k = sameFrom change (fromUtf16 (partFrom i end units)) text k ≡ sameFrom change (fromUtf16 (partFrom start end units)) text from

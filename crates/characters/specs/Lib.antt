@@ -1,0 +1,5 @@
+pub mod Characters
+pub mod Splits
+pub mod Plain
+pub mod WellFormed
+pub mod Told
