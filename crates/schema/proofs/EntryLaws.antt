@@ -18,7 +18,7 @@ use Rattle.wire.specs.declared.message.Indexed.the-variants as indexed
 use Rattle.names.specs.Names.{Names, stringsFrom, d2String}
 use Rattle.schema.specs.Reading.{pure, lift}
 use Rattle.schema.specs.Told.{EntryAt, EntriesOf, NamesOf}
-use Rattle.schema.specs.TypesTold.{EntryInside, EntryTold}
+use Rattle.schema.specs.TypesTold.{EntryInside, EntryBelow, EntryTold}
 
 elem-none : {A : Type 0} (l : List A) (i : ℕ) → length l ≤ i → getElem? l i ≡ none
 elem-none [] i h = refl
@@ -32,13 +32,13 @@ elem-there (a ∷ l) (suc i) h = elem-there l i (omega arith)
 
 module _ (payload starts ends : List ℕ) (count i : ℕ) {j : ℕ} (e : j ≡ i) where
   pub entry-past : count ≤ j → EntryTold payload starts ends count i piece.Nothing
-  entry-past h = record { is = λ types o. elem-none types i (omega (arith, o .many)); inside = tt }
+  entry-past h = record { is = λ types o. elem-none types i (omega (arith, o .many)); inside = tt; below = tt }
 
   pub entry-no-start : length starts ≤ j → EntryTold payload starts ends count i piece.Nothing
-  entry-no-start h = record { is = λ types o. elem-none types i (omega (arith, o .many, o .starts-long)); inside = tt }
+  entry-no-start h = record { is = λ types o. elem-none types i (omega (arith, o .many, o .starts-long)); inside = tt; below = tt }
 
   pub entry-no-end : length ends ≤ j → EntryTold payload starts ends count i piece.Nothing
-  entry-no-end h = record { is = λ types o. elem-none types i (omega (arith, o .many, o .ends-long)); inside = tt }
+  entry-no-end h = record { is = λ types o. elem-none types i (omega (arith, o .many, o .ends-long)); inside = tt; below = tt }
 
   module _ {a b : ℕ} (f : a ≡ getD starts j 0) (g : b ≡ getD ends j 0) where
     start-is : getD starts i 0 ≡ a
@@ -59,15 +59,16 @@ module _ (payload starts ends : List ℕ) (count i : ℕ) {j : ℕ} (e : j ≡ i
         go (some m) q = absurd (h m q)
 
     pub entry-outside : length payload < b → EntryTold payload starts ends count i piece.Nothing
-    entry-outside h = record { is = λ types o. nowhere types λ m q. omega (arith, at types o m q .inside); inside = tt }
+    entry-outside h = record { is = λ types o. nowhere types λ m q. omega (arith, at types o m q .inside); inside = tt; below = tt }
 
     pub entry-falls : b < a → EntryTold payload starts ends count i piece.Nothing
-    entry-falls h = record { is = λ types o. nowhere types λ m q. omega (arith, at types o m q .ordered); inside = tt }
+    entry-falls h = record { is = λ types o. nowhere types λ m q. omega (arith, at types o m q .ordered); inside = tt; below = tt }
 
     pub entry-found : j < count → b ≤ length payload → a ≤ b → EntryTold payload starts ends count i (piece.Body a b)
     entry-found h k l = record {
       is = λ types o. let m = elem-there types i (omega (arith, o .many)) in (m .0, m .1, at types o (m .0) (m .1) .cuts);
       inside = (l, k);
+      below = omega arith;
     }
 
 -- the names that are lent
@@ -86,3 +87,7 @@ module _ (look : ℕ → Res (Option Text)) {o : Option ℕ} {y : Indexed} (e : 
 pub entry-in : (payload starts ends : List ℕ) (count i : ℕ) {x : Piece} → EntryTold payload starts ends count i x → {a b : ℕ} → x ≡ piece.Body a b
     → (a ≤ b) × (b ≤ length payload)
 entry-in payload starts ends count i t g = subst (EntryInside payload) g (t .inside)
+
+pub entry-below : (payload starts ends : List ℕ) (count i : ℕ) {x : Piece} → EntryTold payload starts ends count i x → {a b : ℕ} → x ≡ piece.Body a b
+    → i < count
+entry-below payload starts ends count i t g = subst (EntryBelow count i) g (t .below)

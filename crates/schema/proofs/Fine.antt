@@ -16,8 +16,8 @@ use Rattle.foundation.proofs.ResultLaws.{Gives, gives-bind, gives-weaken}
 use Rattle.wire.specs.Wire.{Message}
 use Rattle.wire.specs.Messages.{varintOf, index, message, messages}
 use Rattle.wire.proofs.Bounds.{Bounded, varintOf-below, message-bounded, messages-bounded}
-use Rattle.names.specs.Characters.{isScalar}
-use Rattle.names.specs.WellFormed.{Characters}
+use Rattle.characters.specs.Characters.{isScalar}
+use Rattle.characters.specs.WellFormed.{Characters}
 use Rattle.names.specs.Names.{Names, string, qualifiedName}
 use Rattle.schema.specs.Declarations.{
   Types,

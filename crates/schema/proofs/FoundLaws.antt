@@ -9,21 +9,18 @@ use native.Mathlib.Omega.{arith}
 use lib.Dec.{leb}
 use lib.ListN.{length, getElem?}
 use Rattle.foundation.specs.Results as Results
-use Rattle.foundation.specs.Results.{Res, ok, refused, _from_}
+use Rattle.foundation.specs.Results.{Res, ok, refused, Part, _from_}
 use Rattle.wire.specs.Wire.{Message, cut}
-use Rattle.wire.specs.Messages.{index, message, messages, cutAll}
+use Rattle.wire.specs.Messages.{index, cutOption, message, messages, cutAll}
 use Rattle.wire.specs.Told.{restOf, bodyOf}
-use Rattle.wire.specs.Asked.{EmbeddedIs, EmbeddedInside, EmbeddedTold, indexTold, bodies, NextIs, NextTold, PieceInside, PieceAfter}
-use Rattle.wire.specs.declared.WireError.{WireError}
+use Rattle.wire.specs.Asked.{pieceTold, PieceInside, BytesTold, indexTold, bodies, NextIs, NextTold, PieceAfter}
 use Rattle.wire.specs.declared.message.Piece.{Piece}
 use Rattle.wire.specs.declared.message.Piece.the-variants as piece
 use Rattle.wire.specs.declared.message.Indexed.{Indexed}
 use Rattle.wire.specs.declared.message.Indexed.the-variants as indexed
-use Rattle.wire.specs.declared.message.Embedded.{Embedded}
-use Rattle.wire.specs.declared.message.Embedded.the-variants as embedded
 use Rattle.wire.proofs.WalkLaws.{whole, ok-same}
-use Rattle.names.specs.Characters.{partFrom}
-use Rattle.names.proofs.PartLaws.{part-part, part-short}
+use Rattle.characters.specs.Characters.{partFrom}
+use Rattle.characters.proofs.PartLaws.{part-part, part-short}
 use Rattle.schema.specs.Fields.{Type·argument, Type·Argument·type, Type·Argument·type-id}
 use Rattle.schema.specs.Declarations.{Ty}
 use Rattle.schema.specs.Reading.{Read, pure, keep, kept, Scope, allowance}
@@ -109,38 +106,42 @@ part-at payload start end a b p q h k m e = record {
   cuts = ap (λ (l : List ℕ). cut (_from_ (start + a) l)) (sym (part-part payload start end a b h k)) ∙ e;
 }
 
+-- A type inline in a message, whose cutting was accepted.
+given-inline : (payload : List ℕ) (c : Scope) (start end inline byIndex : ℕ) (p : Part) → ((m : Message) → cut p ≡ ok m → EntryAt payload start end m)
+    → (m : Message) (r : Res Message) → cut p ≡ r → message inline m ≡ Results._>>=_ r (λ inner. ok (some inner)) → (d : ℕ) {left : ℕ} → left ≡ maxDepth - d
+    → (o : Option Ty) (l n : ℕ) → typeIn (typeAt allowance c) c d inline byIndex m l ≡ ok (o, n) → FoundTold payload c o (found.Type start end false left)
+unfolding typeIn
+given-inline payload c start end inline byIndex p at m (ok inner) q f d deep o l n e =
+    given-found payload c start end inner (at inner q) d deep false o l n (rw f at e)
+given-inline payload c start end inline byIndex p at m (refused cause place) q f d deep o l n e = never-given (rw f at e)
+
 -- The type in a message.
 module _ (payload starts ends : List ℕ) (tables : Tables) (start end inline byIndex left : ℕ) (ordered : start ≤ end) (inside : end ≤ length payload)
-    {x : Embedded} (t : EmbeddedTold start (partFrom start end payload) inline x) where
-  here : {y : Embedded} → x ≡ y → (m : Message) → EntryAt payload start end m → EmbeddedIs start (partFrom start end payload) inline m y
-  here g m at = subst (EmbeddedIs start (partFrom start end payload) inline m) g (t .is m (at .cuts))
+    {x : Piece} (t : BytesTold start (partFrom start end payload) inline x) where
+  here : {y : Piece} → x ≡ y → (m : Message) → EntryAt payload start end m → message inline m ≡ cutOption (pieceTold start (partFrom start end payload) y)
+  unfolding message
+  here g m at = ap cutOption (t .is m (at .cuts) ∙ ap (pieceTold start (partFrom start end payload)) g)
 
-  pub place-in : {a b : ℕ} → x ≡ embedded.Inline a b → (a ≤ b) × (start + b ≤ end) × (0 < a)
+  pub place-in : {a b : ℕ} → x ≡ piece.Body a b → (a ≤ b) × (start + b ≤ end) × (0 < a)
   place-in g =
-      let i = subst (EmbeddedInside (partFrom start end payload)) g (t .inside) in
+      let i = subst (PieceInside (partFrom start end payload)) g (t .inside) in
       (i .0, omega (arith, i .1, part-short payload start end), i .2)
 
-  pub place-inline : {a b : ℕ} → x ≡ embedded.Inline a b
+  pub place-inline : {a b : ℕ} → x ≡ piece.Body a b
       → PlaceFound payload starts ends tables start end inline byIndex left (found.Type (start + a) (start + b) false left)
-  unfolding typeIn
   place-inline {a} {b} g =
-      let i = subst (EmbeddedInside (partFrom start end payload)) g (t .inside) in
+      let i = subst (PieceInside (partFrom start end payload)) g (t .inside) in
       let p = place-in g in
+      let body = bodyOf start (partFrom start end payload) a b in
       record {
         inside = (omega arith, omega arith);
         falls = (omega arith, omega arith);
         is = λ c s m at d deep o l n e.
-            let it = here g m at in
-            given-found payload c (start + a) (start + b) (it .0) (part-at payload start end a b ordered inside (i .0) (i .1) (it .0) (it .1)) d deep false o l n
-            (rw (it .2) at e);
+            given-inline payload c (start + a) (start + b) inline byIndex body (part-at payload start end a b ordered inside (i .0) (i .1)) m
+            (cut body) refl (here g m at) d deep o l n e;
       }
 
-  pub place-refused : {error : WireError} → x ≡ embedded.Refused error
-      → PlaceFound payload starts ends tables start end inline byIndex left found.Nothing
-  unfolding typeIn
-  place-refused g = record { inside = tt; falls = tt; is = λ c s m at d deep o l n e. never-given (rw (here g m at) at e) }
-
-  module _ (g : x ≡ embedded.Nothing) {y : Indexed}
+  module _ (g : x ≡ piece.Nothing) {y : Indexed}
       (i : (m : Message) → cut (_from_ start (partFrom start end payload)) ≡ ok m → index byIndex m ≡ indexTold y) where
     pub place-nowhere : y ≡ indexed.Nothing → PlaceFound payload starts ends tables start end inline byIndex left found.Nothing
     unfolding typeIn
@@ -166,16 +167,16 @@ unfolding declaredType
 declared-found p = record { inside = p .inside; falls = p .falls; is = λ c s m at o l n e. p .is c s m at 0 refl o l n e }
 
 -- What is kept of a message and of those after it, where it is given.
-record Kept (f : Message → Read (Option Ty)) (m : Message) (ms : List Message) (n : ℕ) (ts : List Ty) : Type 0 where
-  it : Option Ty
-  between : ℕ
-  others : List Ty
-  after : ℕ
-  first : f m n ≡ ok (it, between)
-  later : kept f ms between ≡ ok (others, after)
-  are : ts ≡ keep it others
+pub record Kept (f : Message → Read (Option Ty)) (m : Message) (ms : List Message) (n : ℕ) (ts : List Ty) : Type 0 where
+  pub it : Option Ty
+  pub between : ℕ
+  pub others : List Ty
+  pub after : ℕ
+  pub first : f m n ≡ ok (it, between)
+  pub later : kept f ms between ≡ ok (others, after)
+  pub are : ts ≡ keep it others
 
-kept-given : (f : Message → Read (Option Ty)) (m : Message) (ms : List Message) (n : ℕ) (ts : List Ty) (b : ℕ) → kept f (m ∷ ms) n ≡ ok (ts, b) → Kept f m ms n ts
+pub kept-given : (f : Message → Read (Option Ty)) (m : Message) (ms : List Message) (n : ℕ) (ts : List Ty) (b : ℕ) → kept f (m ∷ ms) n ≡ ok (ts, b) → Kept f m ms n ts
 unfolding kept
 kept-given f m ms n ts b e =
     let p = bind-given (f m n) (λ r. Results._>>=_ (kept f ms (r .1)) λ q. pure (keep (r .0) (q .0)) (q .1)) e in
@@ -202,20 +203,20 @@ pub record Passed (f : Message → Read (Option Ty)) (base : ℕ) (msg : List �
 
 module _ (f : Message → Read (Option Ty)) (base : ℕ) (msg : List ℕ) (at : ℕ) (ts : List Ty) (g : Passed f base msg at ts) {x : Piece}
     (t : NextTold base msg Type·argument at x) where
-  next-is : {y : Piece} → x ≡ y → NextIs base msg Type·argument (g .rest) y
+  pub next-is : {y : Piece} → x ≡ y → NextIs base msg Type·argument (g .rest) y
   next-is e = subst (NextIs base msg Type·argument (g .rest)) e (t .is (g .rest) (g .cuts))
 
-  passed-all : x ≡ piece.Nothing → ts ≡ []
+  pub passed-all : x ≡ piece.Nothing → ts ≡ []
   unfolding cutAll kept
   passed-all e =
       let none-left : g .others ≡ [] = ok-same (sym (g .many) ∙ ap cutAll (next-is e)) in
       sym (first-same (ap (λ (ms : List Message). kept f ms (g .before)) (sym none-left) ∙ g .given))
 
   module _ {a b : ℕ} (e : x ≡ piece.Body a b) where
-    next : First (bodyOf base msg a b) (bodies Type·argument (next-is e .0)) (g .others)
+    pub next : First (bodyOf base msg a b) (bodies Type·argument (next-is e .0)) (g .others)
     next = cut-first (bodyOf base msg a b) (bodies Type·argument (next-is e .0)) (g .others) (ap cutAll (sym (next-is e .2)) ∙ g .many)
 
-    next-given : Kept f (next .first) (next .others) (g .before) ts
+    pub next-given : Kept f (next .first) (next .others) (g .before) ts
     next-given =
         kept-given f (next .first) (next .others) (g .before) ts (g .after)
         (ap (λ (ms : List Message). kept f ms (g .before)) (sym (next .are)) ∙ g .given)

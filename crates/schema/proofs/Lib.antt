@@ -15,3 +15,4 @@ pub mod CountLaws
 pub mod ListLaws
 pub mod FoundLaws
 pub mod GivenLaws
+pub mod HeadLaws

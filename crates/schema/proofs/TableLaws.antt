@@ -25,10 +25,10 @@ use Rattle.wire.specs.declared.message.Piece.the-variants as piece
 use Rattle.wire.specs.declared.message.Embedded.{Embedded}
 use Rattle.wire.specs.declared.message.Embedded.the-variants as embedded
 use Rattle.wire.proofs.BodyLaws.{checked-part, part-is}
-use Rattle.names.specs.Characters.{partFrom}
+use Rattle.characters.specs.Characters.{partFrom}
+use Rattle.characters.proofs.PartLaws.{part-part}
 use Rattle.names.proofs.NoteLaws.{elem-snoc, after, after-none, after-one, after-refused}
 use Rattle.names.proofs.LookupLaws.{part-longer}
-use Rattle.names.proofs.PartLaws.{part-part}
 use Rattle.schema.specs.Fields.{TypeTable·type, TypeTable·first-nullable}
 use Rattle.schema.specs.Types.{noTable, typeTableIn}
 use Rattle.schema.specs.Told.{EntryAt, EntriesOf}

@@ -13,7 +13,7 @@ use Rattle.foundation.specs.Choices.{isSome, mapOption, ifSome, orElse, bothOf,
 use Rattle.foundation.specs.Digits.{little}
 use Rattle.foundation.specs.Texts.{Text, ascii}
 use Rattle.foundation.proofs.OverlayLaws.{sets-then}
-use Rattle.names.specs.Characters.{utf8, utf8Of}
+use Rattle.characters.specs.Characters.{utf8, utf8Of}
 use Rattle.names.specs.Name.{nameText}
 use Rattle.names.specs.Stream.{PutText, nameBytes}
 use Rattle.names.specs.declared.name.Name.{Name}

@@ -12,3 +12,4 @@ pub mod TableTold
 pub mod MembersTold
 pub mod FoundTold
 pub mod ListsTold
+pub mod HeadTold

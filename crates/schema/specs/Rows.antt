@@ -6,7 +6,7 @@ use Prim.Native.Nat.{ℕ}
 use lib.ListN.{length}
 use Rattle.foundation.specs.Choices.{mapOption, concat}
 use Rattle.foundation.specs.Texts.{Text}
-use Rattle.names.specs.Characters.{utf8}
+use Rattle.characters.specs.Characters.{utf8}
 use Rattle.sheet.specs.Rows.{Cell, num, ref, bit, Row, row}
 use Rattle.schema.specs.Declarations.{Types, noTypes, andType, Ty, countOf, Signature, Parameter, Constructor, Function, Property}
 

@@ -10,7 +10,7 @@ use Rattle.foundation.specs.Results.{Res, ok, refused, Cause, tooManyTypes, _fr
 use Rattle.wire.specs.Wire.{Message, cut}
 use Rattle.wire.specs.Messages.{as32}
 use Rattle.wire.specs.Told as wire
-use Rattle.names.specs.Characters.{partFrom}
+use Rattle.characters.specs.Characters.{partFrom}
 use Rattle.names.specs.Names.{Names, stringsFrom, d2String, endsFit}
 use Rattle.names.specs.Index.{IndexOf}
 use Rattle.sheet.specs.Rows.{Row}

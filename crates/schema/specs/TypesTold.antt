@@ -4,29 +4,24 @@ use mathlib.Core.Path.{_≡_}
 use mathlib.Core.Bool.{Bool, _||_}
 use mathlib.Core.List.{List}
 use mathlib.Core.Option.{Option, none, some}
-use Prim.Native.Nat.{ℕ, _-_, _≤_}
+use Prim.Native.Nat.{ℕ, _-_, _≤_, _<_}
 use lib.ListN.{length, getElem?}
-use Rattle.foundation.specs.Results.{Res, ok, _from_}
+use Rattle.foundation.specs.Results.{ok, _from_}
 use Rattle.wire.specs.Wire.{Message, cut}
-use Rattle.wire.specs.Messages.{messages}
-use Rattle.names.specs.Characters.{partFrom}
+use Rattle.characters.specs.Characters.{partFrom}
 use Rattle.wire.specs.declared.message.Piece.{Piece}
 use Rattle.wire.specs.declared.message.Piece.the-variants as piece
 use Rattle.sheet.specs.Rows.{Row}
-use Rattle.sheet.specs.Put.{PutRows}
 use Rattle.sheet.specs.declared.State.{State}
-use Rattle.schema.specs.Fields.{Type·argument}
-use Rattle.schema.specs.Declarations.{Ty, typesOf}
-use Rattle.schema.specs.Reading.{Scope, kept, allowance}
-use Rattle.schema.specs.Types.{maxDepth, resolveAt, typeIn, argumentIn, typeAt, declaredType}
-use Rattle.schema.specs.Rows.{argumentRole, typesRows, typeRows}
-use Rattle.schema.specs.Told.{Lent, Scoped, Spends, WalkedSpends, PickedSpends, WalkedTold, PickedTold, refusal, EntriesOf}
+use Rattle.schema.specs.Declarations.{Ty}
+use Rattle.schema.specs.Reading.{Scope, allowance}
+use Rattle.schema.specs.Types.{maxDepth, resolveAt, typeIn, typeAt, declaredType}
+use Rattle.schema.specs.Rows.{typeRows}
+use Rattle.schema.specs.Told.{Lent, Scoped, WalkedSpends, PickedSpends, WalkedTold, PickedTold, EntriesOf}
 use Rattle.schema.specs.declared.Walked.{Walked}
 use Rattle.schema.specs.declared.Walked.the-variants as walked
 use Rattle.schema.specs.declared.Picked.{Picked}
 use Rattle.schema.specs.declared.Picked.the-variants as picked
-use Rattle.schema.specs.declared.types.Arguments.{Arguments}
-use Rattle.schema.specs.declared.types.Arguments.the-variants as arguments
 
 -- a type that is nullable also where another says so
 abbrev pub orNullable : Bool → Ty → Ty
@@ -50,9 +45,15 @@ abbrev pub EntryInside : List ℕ → Piece → Type 0
 EntryInside payload (piece.Body start end) = (start ≤ end) × (end ≤ length payload)
 EntryInside payload piece.Nothing = Unit {0}
 
+-- it is one of so many
+abbrev pub EntryBelow : ℕ → ℕ → Piece → Type 0
+EntryBelow count i (piece.Body start end) = i < count
+EntryBelow count i piece.Nothing = Unit {0}
+
 pub record EntryTold (payload starts ends : List ℕ) (count i : ℕ) (r : Piece) : Type 0 where
   pub is : (types : List Message) → EntriesOf payload starts ends count types → EntryIs payload (getElem? types i) r
   pub inside : EntryInside payload r
+  pub below : EntryBelow count i r
 
 -- a type
 pub record ParseTold (e : Lent) (msg : List ℕ) (base left role : ℕ) (nullable : Bool) (s : State) (r : Walked) (S S′ T T′ : List ℕ) : Type 0 where
@@ -77,18 +78,3 @@ pub record DeclaredTold (e : Lent) (msg : List ℕ) (base inline indexed role : 
   pub spends : PickedSpends s r
   pub is : (c : Scope) → Scoped e c → (m : Message) → cut (_from_ base msg) ≡ ok m
       → PickedTold (declaredType c inline indexed m (s .types)) (rowsIn role) s r S S′ T T′
-
-abbrev pub ArgumentsSpends : State → Arguments → Type 0
-ArgumentsSpends s (arguments.Done s′ count) = Spends s s′
-ArgumentsSpends s (arguments.Refused stop) = Unit {0}
-
--- arguments one after the other, and how many are kept
-abbrev pub ArgumentsAre : Res (List Ty × ℕ) → State → Arguments → (S S′ T T′ : List ℕ) → Type 0
-ArgumentsAre r s (arguments.Done s′ count) S S′ T T′ =
-    (ts : List Ty) × (b : ℕ) × (r ≡ ok (ts, b)) × (count ≡ length ts) × PutRows (typesRows argumentRole (typesOf ts)) b s s′ S S′ T T′
-ArgumentsAre r s (arguments.Refused stop) S S′ T T′ = r ≡ refusal stop
-
-pub record ArgumentsTold (e : Lent) (msg : List ℕ) (base left : ℕ) (s : State) (r : Arguments) (S S′ T T′ : List ℕ) : Type 0 where
-  pub spends : ArgumentsSpends s r
-  pub is : (c : Scope) → Scoped e c → (m : Message) → cut (_from_ base msg) ≡ ok m → (ms : List Message) → messages Type·argument m ≡ ok ms
-      → (d : ℕ) → left ≡ maxDepth - d → ArgumentsAre (kept (argumentIn (typeAt allowance c) c d) ms (s .types)) s r S S′ T T′

@@ -5,8 +5,9 @@ use wire::WireError;
 
 pub mod rows; // rows.rt: records written from values that are looked up
 pub mod name; // name.rt: names by the index in a field
+pub mod head; // head.rt: a type's own fields by one walk
 pub mod table; // table.rt: where the entries of the type table stand
-pub mod types; // types.rt: types, inline and by their index
+pub mod types; // types.rt: an entry of the type table, a nullable bit
 pub mod places; // places.rt: where the messages of types stand
 
 // The sizes of what is lent beside the slices: how many records the name table has, how many entries the type table, and from which of

@@ -4,6 +4,8 @@ ghost use mathlib.Core.List.{List};
 ghost use Prim.Native.Nat.{ℕ};
 ghost use Rattle.foundation.specs.Results.{ok, _from_};
 ghost use Rattle.wire.specs.Wire.{cut, Message};
+ghost use Rattle.wire.specs.Messages.{index};
+ghost use Rattle.wire.specs.Asked.{indexTold};
 ghost use Rattle.names.specs.Name.{nameText};
 ghost use Rattle.schema.specs.Reading.{Scope, nameIn, classNameIn};
 ghost use Rattle.schema.specs.Told.{NamesOf};
@@ -35,6 +37,25 @@ pub fn name_in(
     string(payload, starts, stops, firsts, records, ends, index)
 }
 
+// The class name at an index that was found in a field.
+pub fn class_name_at(
+    found: Indexed,
+    payload: &[u8],
+    d2: &[u16],
+    ends: &[u32],
+    starts: &[u32],
+    stops: &[u32],
+    firsts: &[u64],
+    records: usize,
+) -> Name
+    ensures { λ r. ⌜ ((s : Scope) → NamesOf (now (payload .entry)) (now (d2 .entry)) (now (ends .entry)) (now (starts .entry)) (now (stops .entry)) (now (firsts .entry)) records (s .names) → (k : ℕ) (m : Message) → index k m ≡ indexTold found → (l : ℕ) → classNameIn s k m l ≡ ok (nameText (now (payload .entry)) (now (d2 .entry)) r, l)) ⌝ }
+{
+    let Indexed::At { index } = found else {
+        return absent();
+    };
+    qualified_name(payload, starts, stops, firsts, records, d2, ends, index)
+}
+
 // The class name at the index in a field.
 pub fn class_name_in(
     msg: &[u8],
@@ -51,8 +72,5 @@ pub fn class_name_in(
     ensures { λ r. ⌜ ((s : Scope) → NamesOf (now (payload .entry)) (now (d2 .entry)) (now (ends .entry)) (now (starts .entry)) (now (stops .entry)) (now (firsts .entry)) records (s .names) → (m : Message) → cut (_from_ base (now (msg .entry))) ≡ ok m → (l : ℕ) → classNameIn s number m l ≡ ok (nameText (now (payload .entry)) (now (d2 .entry)) r, l)) ⌝ }
 {
     let found = index(msg, base, number);
-    let Indexed::At { index } = found else {
-        return absent();
-    };
-    qualified_name(payload, starts, stops, firsts, records, d2, ends, index)
+    class_name_at(found, payload, d2, ends, starts, stops, firsts, records)
 }

@@ -6,11 +6,10 @@ ghost use Rattle.schema.specs.FoundTold.{EntryFound, PlaceFound, Declare
 use crate::Found;
 use crate::Tables;
 use crate::types::entry_at;
-use wire::message::Embedded;
 use wire::message::Indexed;
 use wire::message::Piece;
+use wire::message::bytes;
 use wire::message::index;
-use wire::message::message;
 use wire::message::next_body;
 
 // Field numbers of metadata.proto's Type and Type.Argument.
@@ -50,7 +49,7 @@ fn entry_place(
     }
 }
 
-// The type in a message: inline in one field, else by its index in another.
+// The type in a message: inline in one field, else by its index in another. What is inline was cut when it was read.
 fn type_place(
     payload: &[u8],
     start: usize,
@@ -66,9 +65,9 @@ fn type_place(
     ensures { λ r. ⌜ PlaceFound (now (payload .entry)) (now («entry_starts» .entry)) (now («entry_ends» .entry)) tables start end inline indexed left r ⌝ }
 {
     let base = start as u32;
-    let inner = message(&payload[start..end], base, inline);
+    let inner = bytes(&payload[start..end], base, inline);
     match inner {
-        Embedded::Inline { start: a, end: b } => {
+        Piece::Body { start: a, end: b } => {
             let first = start + a;
             let last = start + b;
             Found::Type {
@@ -78,8 +77,7 @@ fn type_place(
                 left,
             }
         }
-        Embedded::Refused { error: _ } => Found::Nothing,
-        Embedded::Nothing => {
+        Piece::Nothing => {
             let found = index(&payload[start..end], base, indexed);
             let Indexed::At { index: i } = found else {
                 return Found::Nothing;

@@ -7,7 +7,7 @@ ghost use Rattle.foundation.specs.Results.{ok, _from_};
 ghost use Rattle.wire.specs.Wire.{cut, Message};
 ghost use Rattle.wire.specs.Messages.{as32, index};
 ghost use Rattle.wire.specs.Told.{restOf};
-ghost use Rattle.names.specs.Characters.{partFrom};
+ghost use Rattle.characters.specs.Characters.{partFrom};
 ghost use Rattle.schema.specs.Fields.{TypeTable·first-nullable};
 ghost use Rattle.schema.specs.TableTold.{EntriesTold, TableTold, TypeIndexTold};
 use wire::WireError;
