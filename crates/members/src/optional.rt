@@ -6,8 +6,8 @@ ghost use Rattle.members.specs.OptionalTold.{OptionalTold};
 use schema::Picked;
 use schema::Tables;
 use schema::Walked;
-use schema::types::declared_type;
 use sheet::State;
+use type_references::declared_type;
 
 // Goes on from a type that is there, and from where it would be.
 pub fn optional_type(

@@ -4,7 +4,7 @@ use Rattle.members.proofs.optional.optional_type.Statement.{statement}
 use Rattle.members.proofs.optional.optional_type.Tie as tie
 use Rattle.members.proofs.optional.optional_type.Reads as reads
 use Rattle.members.proofs.optional.optional_type.Lts as lts
-use Rattle.schema.proofs.types.declared_type.Reads as declared-type-reads
+use Rattle.type_references.proofs.declared_type.Reads as declared-type-reads
 
 -- src/optional.rt:35:9
 declared-type-requires : tie.Need-declared-type-requires

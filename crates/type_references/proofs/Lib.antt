@@ -1,0 +1,6 @@
+pub mod ArgumentLaws
+pub mod EnterLaws
+pub mod PendingLaws
+pub mod StackLaws
+pub mod WalkLaws
+pub mod CycleLaws

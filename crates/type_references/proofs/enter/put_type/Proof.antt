@@ -1,0 +1,84 @@
+use native.Mathlib.Omega.{arith}
+use Rattle.names.specs.Name.{nameText}
+use Rattle.schema.specs.Rows.{named}
+use Rattle.schema.proofs.WrittenLaws.{cell-sheet}
+use Rattle.type_references.proofs.EnterLaws.{type-put}
+use borrow.Author.Needs.{needs}
+use Rattle.type_references.proofs.enter.put_type.Statement.{statement}
+use Rattle.type_references.proofs.enter.put_type.Tie as tie
+use Rattle.type_references.proofs.enter.put_type.Reads as reads
+use Rattle.type_references.proofs.enter.put_type.Lts as lts
+use Rattle.schema.proofs.rows.put_named.Reads as put-named-reads
+use Rattle.sheet.proofs.put.Reads as put-reads
+use Rattle.sheet.proofs.put_bit.Reads as put-bit-reads
+use Rattle.sheet.proofs.put_number.Reads as put-number-reads
+
+-- src/enter.rt:48:5
+put-requires : tie.Need-put-requires
+put-requires c κs = search needs
+
+-- src/enter.rt:49:23
+add-put-number : tie.Need-add-put-number
+add-put-number c = search needs
+
+-- src/enter.rt:49:5
+put-number-requires : tie.Need-put-number-requires
+put-number-requires c κs = search needs
+
+-- src/enter.rt:50:20
+add-put-bit : tie.Need-add-put-bit
+add-put-bit c = search needs
+
+-- src/enter.rt:50:5
+put-bit-requires : tie.Need-put-bit-requires
+put-bit-requires c κs = search needs
+
+-- src/enter.rt:52:16
+add-t19 : tie.Need-add-t19
+add-t19 c = search needs
+
+-- src/enter.rt:54:16
+sub-t23 : tie.Need-sub-t23
+sub-t23 c = search needs
+
+-- src/enter.rt:56:9
+put-named-requires : tie.Need-put-named-requires
+put-named-requires c κs = search needs
+
+-- src/enter.rt:58:5
+put-number-requires-2 : tie.Need-put-number-requires-2
+put-number-requires-2 c κs = search needs
+
+-- src/enter.rt:60:16
+add-t19-2 : tie.Need-add-t19-2
+add-t19-2 c = let h = cell-sheet (named (nameText (c .before .before .before .before .before .before .before .before .before .before .before .before .before .before .before .before .before .before .before .before .before .before .before .before .before .before .before .before .args .payload .now) (c .before .before .before .before .before .before .before .before .before .before .before .before .before .before .before .before .before .before .before .before .before .before .before .before .before .before .before .before .args .d2 .now) (c .before .before .before .before .before .before .before .before .before .before .before .before .before .before .before .before .before .before .before .before .before .before .before .before .before .before .before .before .args .name))) (c .before .before .before .before .before .before .before .before .put-named .ensures) in omega (arith, c .before .before .before .before .before .before .before .before .before .before .before .before .before .before .before .before .before .before .before .before .before .before .before .before .before .before .before .before .pre .0 .room .sheet)
+
+-- src/enter.rt:33:1
+same-length : tie.Need-same-length
+same-length c = search needs
+
+-- src/enter.rt:33:1
+same-length-2 : tie.Need-same-length-2
+same-length-2 c = search needs
+
+-- src/enter.rt:33:1
+returns : tie.Need-returns
+returns c = type-put (c .before .before .before .before .before .before .before .before .before .before .before .before .before .before .before .before .before .before .before .before .before .before .before .before .before .before .before .before .args .role) (c .before .before .before .before .before .before .before .before .before .before .before .before .before .before .before .before .before .before .before .before .before .before .before .before .before .before .before .before .args .nullable) (nameText (c .before .before .before .before .before .before .before .before .before .before .before .before .before .before .before .before .before .before .before .before .before .before .before .before .before .before .before .before .args .payload .now) (c .before .before .before .before .before .before .before .before .before .before .before .before .before .before .before .before .before .before .before .before .before .before .before .before .before .before .before .before .args .d2 .now) (c .before .before .before .before .before .before .before .before .before .before .before .before .before .before .before .before .before .before .before .before .before .before .before .before .before .before .before .before .args .name)) (c .before .before .before .before .before .before .before .before .before .before .before .before .before .before .before .before .before .before .before .before .before .before .before .before .before .before .before .before .args .count) (c .before .before .before .before .before .before .before .before .before .before .before .before .before .before .before .before .before .before .before .before .before .before .before .before .before .before .before .before .args .state) (c .before .before .before .before .before .before .before .before .before .before .before .before .before .before .before .before .before .before .before .before .before .before .before .before .before .before .before .before .args .sheet .now) (c .before .before .before .before .before .before .before .before .before .before .before .before .before .before .before .before .before .before .before .before .before .before .before .before .before .before .before .before .args .text .now) (c .before .before .before .before .before .before .before .before .before .before .before .before .before .before .before .before .before .before .before .before .before .before .put .ensures) (c .before .before .before .before .before .before .before .before .before .before .before .before .before .before .before .before .before .before .put-number .ensures) (c .before .before .before .before .before .before .before .before .before .before .before .before .before .before .put-bit .ensures) (c .before .before .before .before .before .before .before .before .put-named .ensures) (c .before .before .put-number2 .ensures)
+
+pub put-type-spec : {M : Type 1} → statement M
+put-type-spec =
+    tie.close
+    (tie.spec
+    put-requires
+    add-put-number
+    put-number-requires
+    add-put-bit
+    put-bit-requires
+    add-t19
+    sub-t23
+    put-named-requires
+    put-number-requires-2
+    add-t19-2
+    same-length
+    same-length-2
+    returns)

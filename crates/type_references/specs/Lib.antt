@@ -1,0 +1,2 @@
+pub mod Pending
+pub mod ParseTold

@@ -1,0 +1,166 @@
+// The arguments of a type: where the type of each stands, and how many are kept. What is told: specs/ParseTold.antt.
+ghost use mathlib.Core.Path.{_≡_};
+ghost use Prim.Native.Nat.{_+_, _≤_};
+ghost use lib.ListN.{length};
+ghost use Rattle.type_references.specs.ParseTold.{pieceFound, IndexFound, TypeFieldTold, ArgumentTold, KeptTold, CountTold};
+use schema::Tables;
+use schema::types::entry_at;
+use wire::WireError;
+use wire::message::Checked;
+use wire::message::Found;
+use wire::message::Indexed;
+use wire::message::Number;
+use wire::message::Piece;
+use wire::message::bytes;
+use wire::message::check_from;
+use wire::message::find_two;
+use wire::message::index;
+use wire::message::next_body;
+
+// Field numbers of metadata.proto's Type and Type.Argument.
+pub const ARGUMENT: u32 = 2;
+
+const ARGUMENT_TYPE: u32 = 2;
+
+const ARGUMENT_TYPE_ID: u32 = 3;
+
+// The type of an argument or of a declaration: inline, by its index, or not there.
+pub enum Argument {
+    Inline { start: usize, end: usize },
+    ByIndex { index: u32 },
+    Nothing,
+    Refused { error: WireError },
+}
+
+fn bytes_in(found: Found) -> Piece
+    ensures { λ r. ⌜ r ≡ pieceFound found ⌝ }
+{
+    let Found::Value { value } = found else {
+        return Piece::Nothing;
+    };
+    value.bytes()
+}
+
+// A number above 2^32 - 1 is no index.
+fn index_in(found: Found) -> Indexed
+    ensures { λ r. ⌜ IndexFound found r ⌝ }
+{
+    let Found::Value { value } = found else {
+        return Indexed::Nothing;
+    };
+    let number = value.varint();
+    let Number::Value { value: n } = number else {
+        return Indexed::Nothing;
+    };
+    if 4294967295 < n {
+        return Indexed::Nothing;
+    }
+    Indexed::At { index: n as u32 }
+}
+
+// The type in a message: inline in one field, else by its index in another.
+pub fn type_field(msg: &[u8], base: u32, inline: u32, indexed: u32) -> Argument
+    ensures { λ r. ⌜ TypeFieldTold base (now (msg .entry)) inline indexed r ⌝ }
+{
+    let found = find_two(msg, base, inline, indexed);
+    let first = found.first;
+    let piece = bytes_in(first);
+    let Piece::Body { start, end } = piece else {
+        let second = found.second;
+        let at = index_in(second);
+        let Indexed::At { index } = at else {
+            return Argument::Nothing;
+        };
+        return Argument::ByIndex { index };
+    };
+    let checked = check_from(&msg[..end], base, start);
+    let Checked::Whole = checked else {
+        return Argument::Refused {
+            error: checked.error(),
+        };
+    };
+    Argument::Inline { start, end }
+}
+
+// The argument from a place to another of a message, whose first byte has the offset `base`.
+pub fn argument_at(msg: &[u8], base: u32, from: usize, to: usize) -> Argument
+    requires { ⌜ (from ≤ to) × (to ≤ length (now msg)) × (base + length (now msg) ≤ 32768) ⌝ }
+    ensures { λ r. ⌜ ArgumentTold base (now (msg .entry)) from to r ⌝ }
+{
+    let first = base + from as u32;
+    let inner = type_field(&msg[from..to], first, ARGUMENT_TYPE, ARGUMENT_TYPE_ID);
+    match inner {
+        Argument::Inline { start, end } => Argument::Inline {
+            start: from + start,
+            end: from + end,
+        },
+        Argument::ByIndex { index } => Argument::ByIndex { index },
+        Argument::Nothing => Argument::Nothing,
+        Argument::Refused { error } => Argument::Refused { error },
+    }
+}
+
+// Is an argument kept? Its type is inline, or at an index that the depth allows to look up.
+fn is_kept(
+    msg: &[u8],
+    base: u32,
+    left: usize,
+    payload: &[u8],
+    entry_starts: &[u32],
+    entry_ends: &[u32],
+    tables: Tables,
+) -> bool
+    ensures { λ r. ⌜ KeptTold (now (payload .entry)) (now («entry_starts» .entry)) (now («entry_ends» .entry)) tables (now (msg .entry)) base left r ⌝ }
+{
+    let inner = bytes(msg, base, ARGUMENT_TYPE);
+    let Piece::Nothing = inner else {
+        return true;
+    };
+    if left == 0 {
+        return false;
+    }
+    let found = index(msg, base, ARGUMENT_TYPE_ID);
+    let Indexed::At { index: i } = found else {
+        return false;
+    };
+    let entry = entry_at(payload, entry_starts, entry_ends, tables.types, i);
+    let Piece::Nothing = entry else {
+        return true;
+    };
+    false
+}
+
+// How many arguments of a type are kept. `left` is left at them.
+pub fn count_kept(
+    msg: &[u8],
+    base: u32,
+    left: usize,
+    payload: &[u8],
+    entry_starts: &[u32],
+    entry_ends: &[u32],
+    tables: Tables,
+) -> usize
+    requires { ⌜ base + length (now msg) ≤ 32768 ⌝ }
+    ensures { λ r. ⌜ CountTold (now (payload .entry)) (now («entry_starts» .entry)) (now («entry_ends» .entry)) tables (now (msg .entry)) base left r ⌝ }
+{
+    let mut at = 0;
+    let mut count: usize = 0;
+    loop {
+        let piece = next_body(msg, base, ARGUMENT, at);
+        let Piece::Body { start, end } = piece else {
+            return count;
+        };
+        at = end;
+        if is_kept(
+            &msg[start..end],
+            base + start as u32,
+            left,
+            payload,
+            entry_starts,
+            entry_ends,
+            tables,
+        ) {
+            count += 1;
+        }
+    }
+}

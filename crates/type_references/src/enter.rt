@@ -1,0 +1,173 @@
+// A type is entered: its row, with how many of its arguments are kept. What is told: specs/ParseTold.antt.
+ghost use mathlib.Core.Path.{_≡_};
+ghost use mathlib.Core.Bool.{false, _||_};
+ghost use mathlib.Core.List.{[], _∷_};
+ghost use Prim.Native.Nat.{_+_, _-_, _≤_};
+ghost use lib.ListN.{length};
+ghost use Rattle.foundation.specs.Results.{ok, _from_};
+ghost use Rattle.wire.specs.Wire.{cut, Message};
+ghost use Rattle.wire.specs.Asked.{bodies};
+ghost use Rattle.names.specs.Name.{nameText};
+ghost use Rattle.sheet.specs.Rows.{num, bit, row};
+ghost use Rattle.sheet.specs.Put.{PutRows};
+ghost use Rattle.schema.specs.Fields.{Type·argument};
+ghost use Rattle.schema.specs.Rows.{named};
+ghost use Rattle.schema.specs.Told.{lent, Ready};
+ghost use Rattle.type_references.specs.ParseTold.{CountedTold, EnterTold};
+use crate::arguments::ARGUMENT;
+use crate::arguments::count_kept;
+use names::name::Name;
+use schema::Stop;
+use schema::Tables;
+use schema::Walked;
+use schema::head::type_head;
+use schema::name::class_name_at;
+use schema::rows::put_named;
+use schema::types::less;
+use sheet::State;
+use sheet::put;
+use sheet::put_bit;
+use sheet::put_number;
+use wire::WireError;
+use wire::message::Checked;
+use wire::message::check_messages;
+
+// A type's record.
+fn put_type(
+    role: u8,
+    nullable: bool,
+    payload: &[u8],
+    d2: &[u16],
+    name: Name,
+    count: usize,
+    state: State,
+    sheet: &mut [u8],
+    text: &mut [u8],
+) -> State
+    requires { ⌜ Ready (now payload) (now d2) state × (1 ≤ state .types) ⌝ }
+    ensures { λ r. ⌜ PutRows (row 6 (num 1 role ∷ bit nullable ∷ named (nameText (now (payload .entry)) (now (d2 .entry)) name) ∷ num 2 count ∷ []) ∷ []) (state .types - 1) state r (now (sheet .entry)) (now (sheet .exit)) (now (text .entry)) (now (text .exit)) ⌝ }
+{
+    let at = state.sheet;
+    put(sheet, at, 6);
+    put_number(sheet, at + 1, 1, role as u64);
+    put_bit(sheet, at + 2, nullable);
+    let entered = State {
+        sheet: at + 3,
+        text: state.text,
+        types: state.types - 1,
+    };
+    let head = put_named(payload, d2, name, entered, sheet, text);
+    let counted = head.sheet;
+    put_number(sheet, counted, 2, count as u64);
+    State {
+        sheet: counted + 2,
+        text: head.text,
+        types: head.types,
+    }
+}
+
+// How many arguments of a type are kept, or why one isn't cut.
+pub enum Counted {
+    Count { count: usize },
+    Refused { error: WireError },
+}
+
+fn either(a: bool, b: bool) -> bool
+    ensures { λ r. ⌜ r ≡ (a || b) ⌝ }
+{
+    if a {
+        return true;
+    }
+    b
+}
+
+// The arguments of a type are cut and counted, if it has any. `left` is left at them.
+fn count_arguments(
+    msg: &[u8],
+    base: u32,
+    left: usize,
+    some: bool,
+    payload: &[u8],
+    entry_starts: &[u32],
+    entry_ends: &[u32],
+    tables: Tables,
+) -> Counted
+    requires { ⌜ (base + length (now msg) ≤ 32768) × (some ≡ false → (m : Message) → cut (_from_ base (now msg)) ≡ ok m → bodies Type·argument m ≡ []) ⌝ }
+    ensures { λ r. ⌜ CountedTold (now (payload .entry)) (now («entry_starts» .entry)) (now («entry_ends» .entry)) tables (now (msg .entry)) base left r ⌝ }
+{
+    if !some {
+        return Counted::Count { count: 0 };
+    }
+    let checked = check_messages(msg, base, ARGUMENT);
+    let Checked::Whole = checked else {
+        return Counted::Refused {
+            error: checked.error(),
+        };
+    };
+    Counted::Count {
+        count: count_kept(msg, base, left, payload, entry_starts, entry_ends, tables),
+    }
+}
+
+// A type whose message is cut is entered; its arguments are to follow.
+pub fn enter_type(
+    msg: &[u8],
+    base: u32,
+    left: usize,
+    role: u8,
+    nullable: bool,
+    payload: &[u8],
+    d2: &[u16],
+    ends: &[u32],
+    starts: &[u32],
+    stops: &[u32],
+    firsts: &[u64],
+    entry_starts: &[u32],
+    entry_ends: &[u32],
+    tables: Tables,
+    state: State,
+    sheet: &mut [u8],
+    text: &mut [u8],
+) -> Walked
+    requires { ⌜ Ready (now payload) (now d2) state × (base + length (now msg) ≤ length (now payload)) ⌝ }
+    ensures { λ r. ⌜ EnterTold (lent (now (payload .entry)) (now (d2 .entry)) (now (ends .entry)) (now (starts .entry)) (now (stops .entry)) (now (firsts .entry)) (now («entry_starts» .entry)) (now («entry_ends» .entry)) tables) (now (msg .entry)) base left role nullable state r (now (sheet .entry)) (now (sheet .exit)) (now (text .entry)) (now (text .exit)) ⌝ }
+{
+    let types = state.types;
+    if types == 0 {
+        return Walked::Refused {
+            stop: Stop::TooManyTypes,
+        };
+    }
+    let own = type_head(msg, base);
+    let arguments = count_arguments(
+        msg,
+        base,
+        less(left),
+        own.arguments,
+        payload,
+        entry_starts,
+        entry_ends,
+        tables,
+    );
+    match arguments {
+        Counted::Refused { error } => Walked::Refused {
+            stop: Stop::Wire { error },
+        },
+        Counted::Count { count } => {
+            let nulls = either(nullable, own.nullable);
+            let found = own.name;
+            let name = class_name_at(
+                found,
+                payload,
+                d2,
+                ends,
+                starts,
+                stops,
+                firsts,
+                tables.records,
+            );
+            let after = put_type(role, nulls, payload, d2, name, count, state, sheet, text);
+            Walked::Done { state: after }
+        }
+    }
+}

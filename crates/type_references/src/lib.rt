@@ -1,0 +1,381 @@
+// Type references: a declaration's own type and those in its arguments, inline or by their index in the type table. Depth is counted down from
+// 64, and so are the types that may still be entered. The definitions: schema's specs/Types.antt; what waits while inner types are read:
+// specs/Pending.antt.
+ghost use mathlib.Core.Path.{_≡_};
+ghost use Prim.Native.Nat.{_+_, _≤_};
+ghost use lib.ListN.{length};
+ghost use Rattle.schema.specs.Told.{lent, Ready};
+ghost use Rattle.schema.specs.TypesTold.{ParseTold, ResolveTold, DeclaredTold};
+ghost use Rattle.type_references.specs.ParseTold.{ArgumentsTold};
+use arguments::ARGUMENT;
+use arguments::Argument;
+use arguments::type_field;
+use enter::enter_type;
+use parse::arguments_at;
+use schema::Picked;
+use schema::Stop;
+use schema::Tables;
+use schema::Walked;
+use schema::types::entry_at;
+use schema::types::less;
+use schema::types::picked;
+use sheet::State;
+use wire::message::Piece;
+use wire::message::next_body;
+
+pub mod waiting; // waiting.rt: what waits in a lent area
+pub mod arguments; // arguments.rt: the arguments of a type
+pub mod enter; // enter.rt: a type's own row
+pub mod parse; // parse.rt: types inside types
+
+// Look-ups at this depth or deeper yield no type.
+const MAX_DEPTH: usize = 64;
+
+// The arguments of a declaration's own type where there is no type to look up: as many wait as a short message has bytes at most.
+fn short_arguments(
+    msg: &[u8],
+    base: u32,
+    left: usize,
+    payload: &[u8],
+    d2: &[u16],
+    ends: &[u32],
+    starts: &[u32],
+    stops: &[u32],
+    firsts: &[u64],
+    entry_starts: &[u32],
+    entry_ends: &[u32],
+    tables: Tables,
+    state: State,
+    sheet: &mut [u8],
+    text: &mut [u8],
+) -> Walked
+    requires { ⌜ Ready (now payload) (now d2) state × (base + length (now msg) ≤ length (now payload)) × (left ≤ 64) × (tables .types ≡ 0) × (length (now msg) ≤ 128) ⌝ }
+    ensures { λ r. ⌜ ArgumentsTold (lent (now (payload .entry)) (now (d2 .entry)) (now (ends .entry)) (now (starts .entry)) (now (stops .entry)) (now (firsts .entry)) (now («entry_starts» .entry)) (now («entry_ends» .entry)) tables) (now (msg .entry)) base left state r (now (sheet .entry)) (now (sheet .exit)) (now (text .entry)) (now (text .exit)) ⌝ }
+{
+    let mut nest = [0u64; 128];
+    arguments_at(
+        msg,
+        base,
+        left,
+        0,
+        payload,
+        d2,
+        ends,
+        starts,
+        stops,
+        firsts,
+        entry_starts,
+        entry_ends,
+        tables,
+        state,
+        &mut nest,
+        sheet,
+        text,
+    )
+}
+
+// The same of any: as many wait as types may be entered, in a frame of 16 KB.
+fn long_arguments(
+    msg: &[u8],
+    base: u32,
+    left: usize,
+    payload: &[u8],
+    d2: &[u16],
+    ends: &[u32],
+    starts: &[u32],
+    stops: &[u32],
+    firsts: &[u64],
+    entry_starts: &[u32],
+    entry_ends: &[u32],
+    tables: Tables,
+    state: State,
+    sheet: &mut [u8],
+    text: &mut [u8],
+) -> Walked
+    requires { ⌜ Ready (now payload) (now d2) state × (base + length (now msg) ≤ length (now payload)) × (left ≤ 64) ⌝ }
+    ensures { λ r. ⌜ ArgumentsTold (lent (now (payload .entry)) (now (d2 .entry)) (now (ends .entry)) (now (starts .entry)) (now (stops .entry)) (now (firsts .entry)) (now («entry_starts» .entry)) (now («entry_ends» .entry)) tables) (now (msg .entry)) base left state r (now (sheet .entry)) (now (sheet .exit)) (now (text .entry)) (now (text .exit)) ⌝ }
+{
+    let mut nest = [0u64; 2048];
+    arguments_at(
+        msg,
+        base,
+        left,
+        0,
+        payload,
+        d2,
+        ends,
+        starts,
+        stops,
+        firsts,
+        entry_starts,
+        entry_ends,
+        tables,
+        state,
+        &mut nest,
+        sheet,
+        text,
+    )
+}
+
+// The arguments of a declaration's own type, in the frame that is enough. Two places call `long_arguments`, so that the compiler keeps its frame apart
+// from this one's.
+fn own_arguments(
+    msg: &[u8],
+    base: u32,
+    left: usize,
+    payload: &[u8],
+    d2: &[u16],
+    ends: &[u32],
+    starts: &[u32],
+    stops: &[u32],
+    firsts: &[u64],
+    entry_starts: &[u32],
+    entry_ends: &[u32],
+    tables: Tables,
+    state: State,
+    sheet: &mut [u8],
+    text: &mut [u8],
+) -> Walked
+    requires { ⌜ Ready (now payload) (now d2) state × (base + length (now msg) ≤ length (now payload)) × (left ≤ 64) ⌝ }
+    ensures { λ r. ⌜ ArgumentsTold (lent (now (payload .entry)) (now (d2 .entry)) (now (ends .entry)) (now (starts .entry)) (now (stops .entry)) (now (firsts .entry)) (now («entry_starts» .entry)) (now («entry_ends» .entry)) tables) (now (msg .entry)) base left state r (now (sheet .entry)) (now (sheet .exit)) (now (text .entry)) (now (text .exit)) ⌝ }
+{
+    let types = tables.types;
+    if types == 0 {
+        if msg.len() <= 128 {
+            return short_arguments(
+                msg,
+                base,
+                left,
+                payload,
+                d2,
+                ends,
+                starts,
+                stops,
+                firsts,
+                entry_starts,
+                entry_ends,
+                tables,
+                state,
+                sheet,
+                text,
+            );
+        }
+    }
+    if left == MAX_DEPTH - 1 {
+        return long_arguments(
+            msg,
+            base,
+            MAX_DEPTH - 1,
+            payload,
+            d2,
+            ends,
+            starts,
+            stops,
+            firsts,
+            entry_starts,
+            entry_ends,
+            tables,
+            state,
+            sheet,
+            text,
+        );
+    }
+    long_arguments(
+        msg,
+        base,
+        left,
+        payload,
+        d2,
+        ends,
+        starts,
+        stops,
+        firsts,
+        entry_starts,
+        entry_ends,
+        tables,
+        state,
+        sheet,
+        text,
+    )
+}
+
+// A type whose message is cut. Most have no arguments.
+fn own_type(
+    msg: &[u8],
+    base: u32,
+    left: usize,
+    role: u8,
+    nullable: bool,
+    payload: &[u8],
+    d2: &[u16],
+    ends: &[u32],
+    starts: &[u32],
+    stops: &[u32],
+    firsts: &[u64],
+    entry_starts: &[u32],
+    entry_ends: &[u32],
+    tables: Tables,
+    state: State,
+    sheet: &mut [u8],
+    text: &mut [u8],
+) -> Walked
+    requires { ⌜ Ready (now payload) (now d2) state × (base + length (now msg) ≤ length (now payload)) × (left ≤ 64) ⌝ }
+    ensures { λ r. ⌜ ParseTold (lent (now (payload .entry)) (now (d2 .entry)) (now (ends .entry)) (now (starts .entry)) (now (stops .entry)) (now (firsts .entry)) (now («entry_starts» .entry)) (now («entry_ends» .entry)) tables) (now (msg .entry)) base left role nullable state r (now (sheet .entry)) (now (sheet .exit)) (now (text .entry)) (now (text .exit)) ⌝ }
+{
+    let entered = enter_type(
+        msg,
+        base,
+        left,
+        role,
+        nullable,
+        payload,
+        d2,
+        ends,
+        starts,
+        stops,
+        firsts,
+        entry_starts,
+        entry_ends,
+        tables,
+        state,
+        sheet,
+        text,
+    );
+    let Walked::Done { state: after } = entered else {
+        return entered;
+    };
+    let argument = next_body(msg, base, ARGUMENT, 0);
+    let Piece::Body { start: _, end: _ } = argument else {
+        return entered;
+    };
+    own_arguments(
+        msg,
+        base,
+        less(left),
+        payload,
+        d2,
+        ends,
+        starts,
+        stops,
+        firsts,
+        entry_starts,
+        entry_ends,
+        tables,
+        after,
+        sheet,
+        text,
+    )
+}
+
+// The type at an index of the type table.
+fn looked_up(
+    index: u32,
+    role: u8,
+    payload: &[u8],
+    d2: &[u16],
+    ends: &[u32],
+    starts: &[u32],
+    stops: &[u32],
+    firsts: &[u64],
+    entry_starts: &[u32],
+    entry_ends: &[u32],
+    tables: Tables,
+    state: State,
+    sheet: &mut [u8],
+    text: &mut [u8],
+) -> Picked
+    requires { ⌜ Ready (now payload) (now d2) state ⌝ }
+    ensures { λ r. ⌜ ResolveTold (lent (now (payload .entry)) (now (d2 .entry)) (now (ends .entry)) (now (starts .entry)) (now (stops .entry)) (now (firsts .entry)) (now («entry_starts» .entry)) (now («entry_ends» .entry)) tables) index 64 role state r (now (sheet .entry)) (now (sheet .exit)) (now (text .entry)) (now (text .exit)) ⌝ }
+{
+    let entry = entry_at(payload, entry_starts, entry_ends, tables.types, index);
+    let Piece::Body { start, end } = entry else {
+        return Picked::Dropped;
+    };
+    let nullable = tables.first_nullable <= index as u64;
+    picked(own_type(
+        &payload[start..end],
+        start as u32,
+        MAX_DEPTH - 1,
+        role,
+        nullable,
+        payload,
+        d2,
+        ends,
+        starts,
+        stops,
+        firsts,
+        entry_starts,
+        entry_ends,
+        tables,
+        state,
+        sheet,
+        text,
+    ))
+}
+
+// A declaration's own type: inline in one field of its message, else by its index in another.
+pub fn declared_type(
+    msg: &[u8],
+    base: u32,
+    inline: u32,
+    indexed: u32,
+    role: u8,
+    payload: &[u8],
+    d2: &[u16],
+    ends: &[u32],
+    starts: &[u32],
+    stops: &[u32],
+    firsts: &[u64],
+    entry_starts: &[u32],
+    entry_ends: &[u32],
+    tables: Tables,
+    state: State,
+    sheet: &mut [u8],
+    text: &mut [u8],
+) -> Picked
+    requires { ⌜ Ready (now payload) (now d2) state × (base + length (now msg) ≤ length (now payload)) ⌝ }
+    ensures { λ r. ⌜ DeclaredTold (lent (now (payload .entry)) (now (d2 .entry)) (now (ends .entry)) (now (starts .entry)) (now (stops .entry)) (now (firsts .entry)) (now («entry_starts» .entry)) (now («entry_ends» .entry)) tables) (now (msg .entry)) base inline indexed role state r (now (sheet .entry)) (now (sheet .exit)) (now (text .entry)) (now (text .exit)) ⌝ }
+{
+    let inner = type_field(msg, base, inline, indexed);
+    match inner {
+        Argument::Inline { start, end } => picked(own_type(
+            &msg[start..end],
+            base + start as u32,
+            MAX_DEPTH,
+            role,
+            false,
+            payload,
+            d2,
+            ends,
+            starts,
+            stops,
+            firsts,
+            entry_starts,
+            entry_ends,
+            tables,
+            state,
+            sheet,
+            text,
+        )),
+        Argument::ByIndex { index } => looked_up(
+            index,
+            role,
+            payload,
+            d2,
+            ends,
+            starts,
+            stops,
+            firsts,
+            entry_starts,
+            entry_ends,
+            tables,
+            state,
+            sheet,
+            text,
+        ),
+        Argument::Nothing => Picked::Dropped,
+        Argument::Refused { error } => Picked::Refused {
+            stop: Stop::Wire { error },
+        },
+    }
+}
