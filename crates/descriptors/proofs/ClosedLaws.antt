@@ -18,8 +18,8 @@ use Rattle.wire.specs.Asked.{CheckedTold, NextTold}
 use Rattle.wire.specs.declared.message.Checked.{Checked}
 use Rattle.wire.specs.declared.message.Piece.{Piece}
 use Rattle.wire.specs.declared.message.Piece.the-variants as piece
-use Rattle.names.specs.Characters.{partFrom}
-use Rattle.names.proofs.PartLaws.{rest-is}
+use Rattle.characters.specs.Characters.{partFrom}
+use Rattle.characters.proofs.PartLaws.{rest-is}
 use Rattle.sheet.specs.Rows.{ref, Row, row, bodyText, texts}
 use Rattle.sheet.specs.Put.{PutRows}
 use Rattle.sheet.specs.declared.State.{State}
@@ -39,13 +39,13 @@ use Rattle.schema.specs.declared.Picked.{Picked}
 use Rattle.schema.specs.declared.Picked.the-variants as picked
 use Rattle.schema.proofs.CountLaws.{within-both, affords-less, affords-after, picked-within}
 use Rattle.schema.proofs.ListLaws.{Looping, loop-end, member-in, member-affords, loop-refused, loop-dropped, loop-kept}
+use Rattle.erasure.specs.Told.{PutText}
+use Rattle.erasure.specs.declared.Part.{Part}
+use Rattle.erasure.specs.declared.Part.the-variants as part
 use Rattle.descriptors.specs.Defaults.{Parts, constructorParts, functionParts, descriptor, defaultRow, closedConstructor, closedFunction}
-use Rattle.descriptors.specs.Told.{PutText}
 use Rattle.descriptors.specs.DefaultsTold.{partCost, PartTold, ConstructorDefault, FunctionDefault}
 use Rattle.descriptors.specs.PartsTold.{Gave, PartOf}
 use Rattle.descriptors.specs.ClosedTold.{closeCost, CloseTold}
-use Rattle.descriptors.specs.declared.Part.{Part}
-use Rattle.descriptors.specs.declared.Part.the-variants as part
 use Rattle.descriptors.proofs.JoinLaws.{part-answer, written-within}
 
 -- The descriptor of what a reading has kept.

@@ -18,10 +18,10 @@ use Rattle.wire.specs.Asked.{bodies, NextIs, NextTold, PieceInside, PieceAfter}
 use Rattle.wire.specs.declared.message.Piece.{Piece}
 use Rattle.wire.specs.declared.message.Piece.the-variants as piece
 use Rattle.wire.proofs.WalkLaws.{whole, ok-same}
-use Rattle.names.specs.Characters.{partFrom}
+use Rattle.characters.specs.Characters.{partFrom}
+use Rattle.characters.proofs.PartLaws.{part-part, part-short}
 use Rattle.names.specs.Name.{nameText}
 use Rattle.names.specs.declared.name.Name.{Name}
-use Rattle.names.proofs.PartLaws.{part-part, part-short}
 use Rattle.schema.specs.Fields.{ValueParameter·name, ValueParameter·type, ValueParameter·type-id}
 use Rattle.schema.specs.Declarations.{Ty, Parameter}
 use Rattle.schema.specs.Reading.{Scope, keep, kept, nameIn}
@@ -33,13 +33,13 @@ use Rattle.schema.specs.FoundTold.{TableOf, TypeFound, FoundTold, FoundInside, 
 use Rattle.schema.specs.declared.Found.{Found}
 use Rattle.schema.specs.declared.Found.the-variants as found
 use Rattle.schema.proofs.ListLaws.{First, cut-first}
-use Rattle.descriptors.specs.Erasure.{printReturned}
+use Rattle.erasure.specs.Erasure.{printReturned}
+use Rattle.erasure.specs.declared.Position.{Position}
+use Rattle.erasure.specs.declared.Position.the-variants as position
+use Rattle.erasure.specs.declared.Part as code
+use Rattle.erasure.specs.declared.Part.the-variants as part
 use Rattle.descriptors.specs.DefaultsTold.{erasedAt, partCost, PartWithin, PartTold, ErasedTold, parametersPart, ParametersTold}
 use Rattle.descriptors.specs.PartsTold.{PartRoom, Gave, PartOf, TypeGiven, typePart, ParameterGiven, parameterPart, preceded}
-use Rattle.descriptors.specs.declared.Position.{Position}
-use Rattle.descriptors.specs.declared.Position.the-variants as position
-use Rattle.descriptors.specs.declared.Part as code
-use Rattle.descriptors.specs.declared.Part.the-variants as part
 use Rattle.descriptors.proofs.GivenLaws.{ListGiven, list-given, FirstGiven, first-given, none-given, parameter-skipped, parameter-kept}
 use Rattle.descriptors.proofs.JoinLaws.{both, parameter-part, parameters-cons, text-none, text-then, told-then, told-absent, told-same, preceded-sum}
 

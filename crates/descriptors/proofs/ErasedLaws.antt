@@ -9,24 +9,27 @@ use native.Mathlib.Nat.{zero-add}
 use native.Mathlib.Numerals.{add-one}
 use native.Mathlib.Omega.{arith}
 use lib.ListN.{length, take, drop, getD, set, length-append}
-use lib.Dec.{T}
+use lib.Dec.{T, ltb}
 use lib.Seq.{sets, take-append-seam}
 use Rattle.foundation.specs.Choices.{ifSome, isSome, mapOption, IfSome}
 use Rattle.foundation.specs.Results.{ok, _from_}
 use Rattle.foundation.specs.Texts.{Text}
+use Rattle.foundation.proofs.ChoiceLaws.{if-ind}
 use Rattle.foundation.proofs.ResultLaws.{Gives}
 use Rattle.foundation.proofs.OverlayLaws.{sets-then, sets-front}
 use Rattle.wire.specs.Wire.{Message, cut}
 use Rattle.wire.specs.Messages.{index, flag}
-use Rattle.names.specs.Characters.{isScalar, partFrom, utf8}
-use Rattle.names.specs.WellFormed.{Characters, Units}
+use Rattle.characters.specs.Characters.{isScalar, partFrom, fromUtf16, utf8Of, utf8}
+use Rattle.characters.specs.WellFormed.{Characters, Units}
+use Rattle.characters.proofs.TestLaws.{scalar-below}
 use Rattle.names.specs.Names.{qualifiedName}
-use Rattle.names.specs.Name.{nameText}
+use Rattle.names.specs.Name.{sourceText, nameText}
 use Rattle.names.specs.Stream as stream
-use Rattle.names.specs.Stream.{nameBytes}
+use Rattle.names.specs.Stream.{changeOf, changed, changedBytes, sourceBytes, nameBytes}
 use Rattle.names.specs.declared.name.Name.{Name}
+use Rattle.names.specs.declared.name.Change.{Change}
+use Rattle.names.proofs.NameLaws.{source-units, name-parts, front-none}
 use Rattle.names.proofs.PresentLaws.{name-most}
-use Rattle.names.proofs.TestLaws.{scalar-below}
 use Rattle.names.proofs.ScalarLaws.{Strings, qualified-characters, d2-characters, substituted-keeps}
 use Rattle.schema.specs.Fields.{Type·nullable, Type·class-name}
 use Rattle.schema.specs.Declarations.{Ty}
@@ -36,20 +39,20 @@ use Rattle.schema.specs.TypesTold.{orNullable}
 use Rattle.schema.specs.FoundTold.{TypeFound}
 use Rattle.schema.proofs.FoundLaws.{bind-given, first-same}
 use Rattle.schema.proofs.GivenLaws.{Entered, type-entered}
-use Rattle.descriptors.specs.Erasure.{slashed, meaningOf, Erased, class, arrayOf, firstErased, erased, value, erasedReturn, print, printReturned}
-use Rattle.descriptors.specs.Told.{Means, PutText, PutPart, fixedPart, partAt, printedTold, PrintsAs}
+use Rattle.erasure.specs.Erasure.{slashed, meaningOf, Erased, class, arrayOf, firstErased, erased, value, erasedReturn, print, printReturned}
+use Rattle.erasure.specs.Told.{Means, PutText, PutPart, fixedPart, partAt, printedTold, PrintsAs}
+use Rattle.erasure.specs.declared.Meaning.{Meaning}
+use Rattle.erasure.specs.declared.Meaning.the-variants.{Other}
+use Rattle.erasure.specs.declared.Position.{Position}
+use Rattle.erasure.specs.declared.Position.the-variants.{Parameter, Element, Return}
+use Rattle.erasure.specs.declared.Printed.{Printed}
+use Rattle.erasure.specs.declared.Printed.the-variants as prints
+use Rattle.erasure.proofs.ListedLaws.{too-long, no-kotlin, means-past}
+use Rattle.erasure.proofs.PartLaws.{first-at, element-at, return-at, part-told, part-short}
 use Rattle.descriptors.specs.DefaultsTold.{erasedAt}
 use Rattle.descriptors.specs.ErasedTold.{TypePartIs, PrintedPut, TypePartTold}
-use Rattle.descriptors.specs.declared.Meaning.{Meaning}
-use Rattle.descriptors.specs.declared.Meaning.the-variants.{Other}
-use Rattle.descriptors.specs.declared.Position.{Position}
-use Rattle.descriptors.specs.declared.Position.the-variants.{Parameter, Element, Return}
-use Rattle.descriptors.specs.declared.Printed.{Printed}
-use Rattle.descriptors.specs.declared.Printed.the-variants as prints
 use Rattle.descriptors.specs.declared.erased.TypePart.{TypePart}
 use Rattle.descriptors.specs.declared.erased.TypePart.the-variants as typePart
-use Rattle.descriptors.proofs.ListedLaws.{too-long, means-past}
-use Rattle.descriptors.proofs.PartLaws.{first-at, element-at, return-at, part-told, part-short}
 
 -- A name's bytes, with slashes for dots.
 pub name-short : (payload d2 : List ℕ) (name : Name) → length payload ≤ 32768 → length d2 ≤ 32768 → length (nameBytes payload d2 name true) ≤ 131091
@@ -58,6 +61,28 @@ name-short payload d2 name f g = name-most payload d2 name 32768 f g (omega arit
 name-slashed : (payload d2 : List ℕ) (name : Name) (n : Text) → nameText payload d2 name ≡ some n → nameBytes payload d2 name true ≡ utf8 (slashed n)
 unfolding nameBytes
 name-slashed payload d2 name n e = rw e
+
+-- A name that is no part of the table: its first character isn't k.
+first-byte : (c : ℕ) (bs : List ℕ) → getD (utf8Of c ++ bs) 0 0 ≡ 0x6b → c ≡ 0x6b
+unfolding utf8Of
+first-byte c bs =
+    let P : List ℕ → Type 0 = λ l. getD (l ++ bs) 0 0 ≡ 0x6b → c ≡ 0x6b in
+    if-ind P (ltb c 0x80) (λ t e. e) λ t.
+    if-ind P (ltb c 0x800) (λ t e. absurd (omega arith)) λ t.
+    if-ind P (ltb c 0x10000) (λ t e. absurd (omega arith)) λ t e. absurd (omega arith)
+
+pub not-listed : (payload d2 : List ℕ) (name : Name) → name .source ≡ 3 → (name .operation ≡ 2 → ⊥) → {h : Change} → h ≡ changeOf name true
+    → {code : ℕ} {rest : Text} → fromUtf16 (partFrom (name .start) (name .end) d2) ≡ code ∷ rest → {c : ℕ} → c ≡ changed h code → (c ≡ 0x6b → ⊥)
+    → Means (nameBytes payload d2 name true) Other
+unfolding utf8
+not-listed payload d2 name s o {h} e {code} {rest} f {c} q g =
+    let bytes : nameBytes payload d2 name true ≡ utf8Of (changed h code) ++ changedBytes h rest =
+    name-parts payload d2 name true e (omega arith) (omega arith)
+    ∙ ap (λ (t : Text). utf8 t ++ sourceBytes h (sourceText payload d2 name)) (front-none (name .operation) true o)
+    ∙ ap (sourceBytes h) (source-units payload d2 name s ∙ ap some f) in
+    let other : getD (nameBytes payload d2 name true) 0 0 ≡ 0x6b → ⊥ =
+    λ k. g (q ∙ first-byte (changed h code) (changedBytes h rest) (ap (λ (l : List ℕ). getD l 0 0) (sym bytes) ∙ k)) in
+    means-past (nameBytes payload d2 name true) 36 (no-kotlin other) (omega arith)
 
 -- What a name means, by its bytes in an area that holds every listed name.
 module _ (bytes : List ℕ) {before area : List ℕ} {size : ℕ} (p : stream.PutText bytes 0 size before area) where

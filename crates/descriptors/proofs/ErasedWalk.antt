@@ -19,13 +19,13 @@ use Rattle.schema.specs.FoundTold.{TableOf, TypeFound, FoundTold, FoundInside, 
 use Rattle.schema.specs.declared.Found.{Found}
 use Rattle.schema.specs.declared.Found.the-variants as found
 use Rattle.schema.proofs.GivenLaws.{Entered, type-entered}
-use Rattle.descriptors.specs.Erasure.{Erased, firstErased, value, print, printReturned}
-use Rattle.descriptors.specs.Told.{PutText}
+use Rattle.erasure.specs.Erasure.{Erased, firstErased, value, print, printReturned}
+use Rattle.erasure.specs.Told.{PutText}
+use Rattle.erasure.specs.declared.Position.{Position}
+use Rattle.erasure.specs.declared.Position.the-variants.{Element}
+use Rattle.erasure.specs.declared.Part.the-variants as part
 use Rattle.descriptors.specs.DefaultsTold.{erasedAt, ErasedTold}
 use Rattle.descriptors.specs.ErasedTold.{TypePartIs, TypePartWithin, TypePartTold}
-use Rattle.descriptors.specs.declared.Position.{Position}
-use Rattle.descriptors.specs.declared.Position.the-variants.{Element}
-use Rattle.descriptors.specs.declared.Part.the-variants as part
 use Rattle.descriptors.specs.declared.erased.TypePart.{TypePart}
 use Rattle.descriptors.specs.declared.erased.TypePart.the-variants as typePart
 

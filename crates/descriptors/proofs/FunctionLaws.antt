@@ -12,7 +12,7 @@ use lib.Seq.{sets}
 use Rattle.foundation.specs.Choices.{if_then_else_, ifSome, mapOption}
 use Rattle.foundation.specs.Results.{ok, _from_}
 use Rattle.wire.specs.Wire.{Message, cut}
-use Rattle.names.specs.Characters.{partFrom}
+use Rattle.characters.specs.Characters.{partFrom}
 use Rattle.schema.specs.Fields.{
   Constructor·value-parameter,
   Function·return-type,
@@ -27,15 +27,15 @@ use Rattle.schema.specs.Reading.{Scope}
 use Rattle.schema.specs.Types.{declaredType}
 use Rattle.schema.specs.Members.{bitOf, flagsIn, receiverIn}
 use Rattle.schema.specs.Told.{Lent, EntryAt}
-use Rattle.descriptors.specs.Erasure.{Returned, erasedReturn, print, printReturned}
+use Rattle.erasure.specs.Erasure.{Returned, value, erasedReturn, print, printReturned}
+use Rattle.erasure.specs.Told.{fixedPart, PutText, PutPart}
+use Rattle.erasure.specs.declared.Position.the-variants as position
+use Rattle.erasure.specs.declared.Part.{Part}
+use Rattle.erasure.specs.declared.Part.the-variants as part
+use Rattle.erasure.proofs.PartLaws.{part-short}
 use Rattle.descriptors.specs.Defaults.{suspends, continuation, object, functionParts, constructorParts, descriptor}
-use Rattle.descriptors.specs.Told.{fixedPart, PutText, PutPart}
 use Rattle.descriptors.specs.DefaultsTold.{partCost, PartWithin, PartTold, parametersPart, ParametersTold, ConstructorDefault, FunctionDefault}
 use Rattle.descriptors.specs.PartsTold.{PartRoom, PartOf, TypeGiven, typePart, FunctionGiven, receiverPart, beforePart, afterPart, preceded}
-use Rattle.descriptors.specs.declared.Position.the-variants as position
-use Rattle.descriptors.specs.declared.Part.{Part}
-use Rattle.descriptors.specs.declared.Part.the-variants as part
-use Rattle.descriptors.proofs.PartLaws.{object-part, continuation-part, part-short}
 use Rattle.descriptors.proofs.GivenLaws.{ConstructorGiven, constructor-given, function-given}
 use Rattle.descriptors.proofs.JoinLaws.{
   both,
@@ -143,6 +143,15 @@ module _ (e : Lent) (start end at : ℕ) {r : Part} {A A₁ : List ℕ} (u : Par
       part-answer (sym q)
       (part-more (partCost * (1 + (end - start))) (omega arith)
       (part-then receiverPart (λ f. parametersPart (f .parameters)) beforePart before-part (part-answer w u) p))
+
+-- The parts that the code names.
+pub object-part : fixedPart 24 ≡ value object
+unfolding fixedPart
+object-part = refl
+
+pub continuation-part : fixedPart 38 ≡ value continuation
+unfolding fixedPart
+continuation-part = refl
 
 -- What stands after them.
 abbrev suspended : Option (List ℕ)

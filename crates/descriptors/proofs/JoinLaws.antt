@@ -15,7 +15,11 @@ use Rattle.wire.specs.Wire.{Message}
 use Rattle.schema.specs.Declarations.{Ty, Parameter, Constructor, Function}
 use Rattle.schema.specs.Reading.{Scope, keep}
 use Rattle.schema.specs.Told.{Lent}
-use Rattle.descriptors.specs.Erasure.{Erased, erased, Returned, value, erasedReturn, print, printReturned}
+use Rattle.erasure.specs.Erasure.{Erased, erased, Returned, value, erasedReturn, print, printReturned}
+use Rattle.erasure.specs.Told.{PutText}
+use Rattle.erasure.specs.declared.Position.the-variants as position
+use Rattle.erasure.specs.declared.Part.{Part}
+use Rattle.erasure.specs.declared.Part.the-variants as part
 use Rattle.descriptors.specs.Defaults.{
   parts,
   erasedOption,
@@ -28,12 +32,8 @@ use Rattle.descriptors.specs.Defaults.{
   constructorParts,
   descriptor,
 }
-use Rattle.descriptors.specs.Told.{PutText}
 use Rattle.descriptors.specs.DefaultsTold.{PartWithin, PartTold, parametersPart}
 use Rattle.descriptors.specs.PartsTold.{PartOf, typePart, parameterPart, receiverPart, beforePart, afterPart, preceded}
-use Rattle.descriptors.specs.declared.Position.the-variants as position
-use Rattle.descriptors.specs.declared.Part.{Part}
-use Rattle.descriptors.specs.declared.Part.the-variants as part
 
 -- Two texts, or nothing.
 abbrev pub both : Option (List ℕ) → Option (List ℕ) → Option (List ℕ)
@@ -91,7 +91,7 @@ pub constructor-text : (d : Constructor)
 unfolding constructorParts descriptor
 constructor-text d = go (everyOf (map erasedOption (parameterTypes (d .parameters))))
   where
-    go : (x : Option (List Erased)) → mapOption descriptor (mapOption (λ es. parts es Rattle.descriptors.specs.Erasure.void) x)
+    go : (x : Option (List Erased)) → mapOption descriptor (mapOption (λ es. parts es Rattle.erasure.specs.Erasure.void) x)
         ≡ both (some (0x28 ∷ [])) (both (mapOption printed x) (some (0x29 ∷ 0x56 ∷ [])))
     go none = refl
     go (some es) = refl

@@ -1,9 +1,4 @@
 pub mod WellFormedLaws
-pub mod Letters
-pub mod TextLaws
-pub mod TableLaws
-pub mod ListedLaws
-pub mod PartLaws
 pub mod ErasedLaws
 pub mod ErasedWalk
 pub mod GivenLaws

@@ -9,14 +9,14 @@ use lib.Dec.{T}
 use Rattle.foundation.specs.Choices.{if_then_else_, ifSome, mapOption, bothOf, everyOf, concat, All, IfSome}
 use Rattle.foundation.specs.Texts.{Text, ascii, same}
 use Rattle.foundation.proofs.ChoiceLaws.{if-ind, all-append, all-map}
-use Rattle.names.specs.Characters.{isScalar, utf8, utf8Of}
-use Rattle.names.specs.WellFormed.{Characters, WellFormed, empty, character}
-use Rattle.names.proofs.EveryLaws.{every, every-all}
-use Rattle.names.proofs.Utf8Laws.{utf8-well-formed}
+use Rattle.characters.specs.Characters.{isScalar, utf8, utf8Of}
+use Rattle.characters.specs.WellFormed.{Characters, WellFormed, empty, character}
+use Rattle.characters.proofs.EveryLaws.{every, every-all}
+use Rattle.characters.proofs.Utf8Laws.{utf8-well-formed}
 use Rattle.names.proofs.ScalarLaws.{substituted-keeps}
 use Rattle.schema.specs.Declarations.{Types, noTypes, andType, Ty, Parameter, Constructor, Function}
 use Rattle.schema.proofs.Fine.{FineTypes, FineTy, FineParameter, FineConstructor, FineFunction}
-use Rattle.descriptors.specs.Erasure.{
+use Rattle.erasure.specs.Erasure.{
   Primitive,
   boolean,
   byte,

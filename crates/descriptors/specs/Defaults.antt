@@ -10,7 +10,7 @@ use Rattle.sheet.specs.Rows.{ref, Row, row}
 use Rattle.schema.specs.Declarations.{Ty, Parameter, Constructor, Function}
 use Rattle.schema.specs.Members.{bitOf}
 use Rattle.schema.specs.Rows.{constructorRows, functionRows}
-use Rattle.descriptors.specs.Erasure.{Erased, class, erased, Returned, void, value, erasedReturn, print, printReturned}
+use Rattle.erasure.specs.Erasure.{Erased, class, erased, Returned, void, value, erasedReturn, print, printReturned}
 
 -- The erased parts: those before the last, and the last, which is the return's.
 pub record Parts : Type 0 where

@@ -14,11 +14,11 @@ use Rattle.schema.specs.Reading.{Scope}
 use Rattle.schema.specs.Told.{Lent, Scoped}
 use Rattle.schema.specs.TypesTold.{orNullable}
 use Rattle.schema.specs.FoundTold.{TypeFound}
-use Rattle.descriptors.specs.Erasure.{slashed, Erased, firstErased, print, printReturned}
-use Rattle.descriptors.specs.Told.{PutText, printedTold}
+use Rattle.erasure.specs.Erasure.{slashed, Erased, firstErased, print, printReturned}
+use Rattle.erasure.specs.Told.{PutText, printedTold}
+use Rattle.erasure.specs.declared.Position.{Position}
+use Rattle.erasure.specs.declared.Printed.{Printed}
 use Rattle.descriptors.specs.DefaultsTold.{erasedAt}
-use Rattle.descriptors.specs.declared.Position.{Position}
-use Rattle.descriptors.specs.declared.Printed.{Printed}
 use Rattle.descriptors.specs.declared.erased.TypePart.{TypePart}
 use Rattle.descriptors.specs.declared.erased.TypePart.the-variants as typePart
 

@@ -21,13 +21,13 @@ use Rattle.schema.specs.Reading.{Read, Scope, keep}
 use Rattle.schema.specs.Types.{declaredType}
 use Rattle.schema.specs.Members.{flagsIn, receiverIn, listIn, parameterIn}
 use Rattle.schema.specs.Told.{Lent, Scoped, EntryAt}
-use Rattle.descriptors.specs.Erasure.{erasedReturn, print, printReturned}
+use Rattle.erasure.specs.Erasure.{erasedReturn, print, printReturned}
+use Rattle.erasure.specs.declared.Position.{Position}
+use Rattle.erasure.specs.declared.Position.the-variants as position
+use Rattle.erasure.specs.declared.Part.{Part}
+use Rattle.erasure.specs.declared.Part.the-variants as part
 use Rattle.descriptors.specs.Defaults.{erasedOption, typesBefore, suspends, continuation, object}
 use Rattle.descriptors.specs.DefaultsTold.{erasedAt, PartWithin, PartTold, parametersPart}
-use Rattle.descriptors.specs.declared.Position.{Position}
-use Rattle.descriptors.specs.declared.Position.the-variants as position
-use Rattle.descriptors.specs.declared.Part.{Part}
-use Rattle.descriptors.specs.declared.Part.the-variants as part
 
 -- What a writer of parts starts from: decoded bytes and d2 of 32,768 at most, a message among the decoded bytes, and n bytes that can be
 -- counted from a place on.

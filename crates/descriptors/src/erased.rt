@@ -1,34 +1,37 @@
 // The part of a type at its position, by the place of its message: its class name decides; an array goes on with its first kept argument.
-// The definitions: specs/Erasure.antt; what is told: specs/ErasedTold.antt and `ErasedTold` in specs/DefaultsTold.antt.
-ghost use mathlib.Core.Bool.{true};
+// The definitions: erasure's specs/Erasure.antt; what is told: specs/ErasedTold.antt and `ErasedTold` in specs/DefaultsTold.antt.
+ghost use mathlib.Core.Path.{_≡_};
+ghost use mathlib.Core.Bool.{true, false, _||_};
 ghost use mathlib.Core.List.{[], _∷_, _++_};
 ghost use Prim.Native.Nat.{_^_, _≤_};
 ghost use lib.ListN.{length};
 ghost use Rattle.names.specs.Stream.{nameBytes};
 ghost use Rattle.schema.specs.Told.{lent};
-ghost use Rattle.descriptors.specs.Told.{Means, PutText};
+ghost use Rattle.erasure.specs.Told.{Means, PutText};
 ghost use Rattle.descriptors.specs.ErasedTold.{PrintedPut, TypePartTold};
 ghost use Rattle.descriptors.specs.DefaultsTold.{ErasedTold};
-use crate::Meaning;
-use crate::Part;
-use crate::Position;
-use crate::Printed;
-use crate::meaning_of;
-use crate::printed_as;
-use crate::put_part;
+ghost use Rattle.erasure.specs.declared.Meaning.the-variants.{Other};
+use characters::Character;
+use characters::utf16_at;
+use erasure::Meaning;
+use erasure::Part;
+use erasure::Position;
+use erasure::Printed;
+use erasure::meaning_of;
+use erasure::printed_as;
+use erasure::put_part;
 use names::name::Name;
+use names::name::change_of;
+use names::name::character_of;
 use names::name::is_there;
 use names::stream::put_name;
 use schema::Found;
 use schema::Tables;
-use schema::name::class_name_in;
+use schema::head::type_head;
+use schema::name::class_name_at;
 use schema::places::first_argument;
-use schema::types::is_nullable;
 use schema::types::less;
 use sheet::put;
-
-// Field number of metadata.proto's Type.
-const CLASS_NAME: u32 = 6;
 
 // What one type comes to.
 pub enum TypePart {
@@ -40,11 +43,33 @@ pub enum TypePart {
     Absent,
 }
 
+// Can a name, dots turned into slashes, be listed? All that are begin with k.
+fn may_be_listed(payload: &[u8], d2: &[u16], name: Name) -> bool
+    ensures { λ r. ⌜ (r ≡ false → Means (nameBytes (now (payload .entry)) (now (d2 .entry)) name true) Other) ⌝ }
+{
+    let source = name.source;
+    if source != 3 {
+        return true;
+    }
+    let operation = name.operation;
+    if operation == 2 {
+        return true;
+    }
+    let character = utf16_at(d2, name.start, name.end);
+    let Character::Read { code, next: _ } = character else {
+        return true;
+    };
+    character_of(change_of(name, true), code) == 0x6b
+}
+
 // What a name, dots turned into slashes, means. No listed name is longer than 36 bytes.
 fn name_meaning(payload: &[u8], d2: &[u16], name: Name) -> Meaning
     requires { ⌜ (length (now payload) ≤ 32768) × (length (now d2) ≤ 32768) ⌝ }
     ensures { λ r. ⌜ Means (nameBytes (now (payload .entry)) (now (d2 .entry)) name true) r ⌝ }
 {
+    if !may_be_listed(payload, d2, name) {
+        return Meaning::Other;
+    }
     let mut bytes = [0u8; 36];
     let size = put_name(payload, d2, name, true, &mut bytes, 0);
     if 36 < size {
@@ -91,6 +116,15 @@ fn put_printed(
     }
 }
 
+fn either(a: bool, b: bool) -> bool
+    ensures { λ r. ⌜ (a || b) ≡ r ⌝ }
+{
+    if a {
+        return true;
+    }
+    b
+}
+
 // One type, by its class name.
 fn put_type(
     start: usize,
@@ -113,10 +147,10 @@ fn put_type(
     ensures { λ r. ⌜ TypePartTold (lent (now (payload .entry)) (now (d2 .entry)) (now (ends .entry)) (now (starts .entry)) (now (stops .entry)) (now (firsts .entry)) (now («entry_starts» .entry)) (now («entry_ends» .entry)) tables) start end nullable position at r (now (area .entry)) (now (area .exit)) ⌝ }
 {
     let base = start as u32;
-    let name = class_name_in(
-        &payload[start..end],
-        base,
-        CLASS_NAME,
+    let head = type_head(&payload[start..end], base);
+    let found = head.name;
+    let name = class_name_at(
+        found,
         payload,
         d2,
         ends,
@@ -129,8 +163,7 @@ fn put_type(
         return TypePart::Absent;
     }
     let meaning = name_meaning(payload, d2, name);
-    let either = is_nullable(&payload[start..end], base, nullable);
-    let printed = printed_as(meaning, either, position);
+    let printed = printed_as(meaning, either(nullable, head.nullable), position);
     put_printed(printed, payload, d2, name, area, at)
 }
 

@@ -1,12 +1,12 @@
 use native.Mathlib.Omega.{arith}
-use Rattle.descriptors.proofs.PartLaws.{part-short}
+use Rattle.erasure.proofs.PartLaws.{part-short}
 use Rattle.descriptors.proofs.FunctionLaws.{suspended-put}
 use borrow.Author.Needs.{needs}
 use Rattle.descriptors.proofs.defaults.put_suspended.Statement.{statement}
 use Rattle.descriptors.proofs.defaults.put_suspended.Tie as tie
 use Rattle.descriptors.proofs.defaults.put_suspended.Reads as reads
 use Rattle.descriptors.proofs.defaults.put_suspended.Lts as lts
-use Rattle.descriptors.proofs.put_part.Reads as put-part-reads
+use Rattle.erasure.proofs.put_part.Reads as put-part-reads
 use Rattle.sheet.proofs.put.Reads as put-reads
 
 -- src/defaults.rt:394:9

@@ -5,7 +5,7 @@ use Rattle.descriptors.proofs.erased.put_printed.Tie as tie
 use Rattle.descriptors.proofs.erased.put_printed.Reads as reads
 use Rattle.descriptors.proofs.erased.put_printed.Lts as lts
 use Rattle.descriptors.proofs.erased.put_class.Reads as put-class-reads
-use Rattle.descriptors.proofs.put_part.Reads as put-part-reads
+use Rattle.erasure.proofs.put_part.Reads as put-part-reads
 use Rattle.sheet.proofs.put.Reads as put-reads
 
 -- src/erased.rt:80:26

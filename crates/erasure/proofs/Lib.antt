@@ -1,0 +1,5 @@
+pub mod Letters
+pub mod TextLaws
+pub mod TableLaws
+pub mod ListedLaws
+pub mod PartLaws
