@@ -1,0 +1,3 @@
+pub mod RoomLaws
+pub mod PayloadLaws
+pub mod BodyLaws

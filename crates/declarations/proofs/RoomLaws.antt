@@ -1,0 +1,63 @@
+-- Each field takes two bytes at least, so that half as many entries as there are bytes are enough for the index of the name table's
+-- records and for the places of the type table's entries.
+-- Assumes nothing.
+use mathlib.Core.Path.{_≡_}
+use mathlib.Core.List.{List, [], _∷_}
+use mathlib.Core.Option.{Option, none, some}
+use Prim.Native.Nat.{ℕ, _+_, _*_, _/_, _%_, _^_, _≤_, _<_}
+use native.Mathlib.Nat.{le-refl}
+use native.Mathlib.Omega.{arith}
+use lib.Dec.{eqb, ltb}
+use lib.ListN.{length, take, drop, length-take, length-drop}
+use Rattle.foundation.specs.Choices.{IfSome}
+use Rattle.foundation.specs.Results.{Res, ok, Part, _from_, Got}
+use Rattle.foundation.proofs.ChoiceLaws.{if-ind}
+use Rattle.foundation.proofs.ResultLaws.{Gives, gives-bind, gives-weaken, gives-map, gives-ok}
+use Rattle.wire.specs.Wire.{Value, varint, fixed, body, Field, field, Message, readVarint, readValue, readField, cut}
+use Rattle.wire.specs.Messages.{values, bytesOf, bodiesOf, cutOption, message}
+use Rattle.wire.specs.Asked.{bodies}
+use Rattle.wire.proofs.Readers.{Within, within-shorter, after-shorter, varint-after, value-after}
+use Rattle.wire.proofs.Progress.{every-gives}
+use Rattle.wire.proofs.MessageLaws.{values-few}
+use Rattle.wire.proofs.Places.{CutIn, cut-in, bytesOf-in}
+
+field-two : (p : Part) → Gives (λ g. length (g .1 .bytes) + 2 ≤ length (p .bytes)) (readField p)
+unfolding readField
+field-two p =
+    let P : Got Field → Type 0 = λ g. length (g .1 .bytes) + 2 ≤ length (p .bytes) in
+    gives-bind _ P (readVarint p) _ (varint-after p) λ a q.
+    let value = readValue (p .at) (a .0 % 8) (a .1) in
+    let shorter = gives-weaken _ (λ g. length (g .1 .bytes) + 2 ≤ length (p .bytes)) value (value-after (p .at) (a .0 % 8) (a .1)) λ g w.
+    omega (arith, after-shorter q, after-shorter (w .1)) in
+    if-ind (Gives P) (ltb (a .0 / 8) (2 ^ 32)) (λ t. gives-map P (field (a .0 / 8)) value shorter) λ t. tt
+
+cut-halved : (p : Part) → Gives (λ m. 2 * length m ≤ length (p .bytes)) (cut p)
+unfolding cut
+cut-halved =
+    every-gives readField (λ p m. 2 * length m ≤ length (p .bytes)) _ (λ p. omega arith) field-two λ p g m t h. omega arith
+
+bodies-of-few : (vs : List Value) → length (bodiesOf vs) ≤ length vs
+unfolding bodiesOf
+bodies-of-few [] = omega arith
+bodies-of-few (varint n ∷ vs) = omega (arith, bodies-of-few vs)
+bodies-of-few (fixed w n ∷ vs) = omega (arith, bodies-of-few vs)
+bodies-of-few (body p ∷ vs) = omega (arith, bodies-of-few vs)
+
+pub bodies-few : (k : ℕ) (p : Part) {m : Message} → cut p ≡ ok m → 2 * length (bodies k m) ≤ length (p .bytes)
+bodies-few k p {m} e =
+    omega (arith, bodies-of-few (values k m), values-few k m, gives-ok (λ m. 2 * length m ≤ length (p .bytes)) e (cut-halved p))
+
+-- of a message in the message
+Few : Part → Message → Type 0
+Few p t = 2 * length t ≤ length (p .bytes)
+
+option-few : (p : Part) (o : Option Part) → IfSome (Within p) o → Gives (IfSome (Few p)) (cutOption o)
+unfolding Few
+option-few p none w = tt
+option-few p (some q) w = gives-bind (Few q) (IfSome (Few p)) (cut q) _ (cut-halved q) λ t h. omega (arith, within-shorter w)
+
+pub inner-few : (j k : ℕ) (p : Part) {m table : Message} → cut p ≡ ok m → message j m ≡ ok (some table) → 2 * length (bodies k table) ≤ length (p .bytes)
+unfolding message Few
+inner-few j k p {m} {table} e f =
+    let inside = option-few p (bytesOf j m) (bytesOf-in p j m (gives-ok _ e (cut-in p))) in
+    omega (arith, bodies-of-few (values k table), values-few k table, gives-ok (IfSome (Few p)) f inside)

@@ -1,0 +1,3 @@
+pub mod Payload
+pub mod PayloadTold
+pub mod BodyTold

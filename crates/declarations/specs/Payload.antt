@@ -1,0 +1,43 @@
+-- The decoded bytes as declarations, and declarations as the rows of a sheet.
+-- Assumes nothing.
+use mathlib.Core.List.{List, [], _∷_, _++_, map}
+use mathlib.Core.Option.{Option}
+use Prim.Native.Nat.{ℕ}
+use lib.Dec.{eqb}
+use lib.ListN.{length}
+use Rattle.foundation.specs.Choices.{if_then_else_, concat}
+use Rattle.foundation.specs.Results.{Res, _>>=_, _from_}
+use Rattle.foundation.specs.Texts.{Text}
+use Rattle.wire.specs.Wire.{Message, cut, readDelimited}
+use Rattle.names.specs.Names.{Names, recordsOf}
+use Rattle.sheet.specs.Rows.{num, Row, row}
+use Rattle.schema.specs.Declarations.{Declarations}
+use Rattle.schema.specs.Reading.{Read, allowance}
+use Rattle.schema.specs.Members.{classBody, packageBody}
+use Rattle.schema.specs.Rows.{named, propertyRows}
+use Rattle.descriptors.specs.Defaults.{closedConstructor, closedFunction}
+
+abbrev pub bodyOf : ℕ → Names → Message → Read Declarations
+bodyOf kind = if eqb kind 1 then classBody else packageBody
+
+-- the decoded bytes: a length-delimited name table, then the body
+unfoldable pub payload : ℕ → (ℕ → Res (Option Text)) → List ℕ → Res (Declarations × ℕ)
+payload kind d2 bytes =
+    readDelimited (_from_ 0 bytes) >>= λ (table, rest).
+    cut table >>= λ fields.
+    recordsOf fields >>= λ records.
+    cut rest >>= λ body.
+    bodyOf kind (record { records = records; d2 = d2 }) body allowance
+
+abbrev pub headRow : ℕ → Declarations → Row
+headRow kind d =
+    row 1 (
+    num 1 kind ∷ named (d .name) ∷ num 8 (d .flags) ∷ num 2 (length (d .constructors)) ∷ num 2 (length (d .functions))
+    ∷ num 2 (length (d .properties)) ∷ [])
+
+-- the head, then constructors, functions, properties
+unfoldable pub declarationRows : ℕ → Declarations → List Row
+declarationRows kind d =
+    headRow kind d
+    ∷ (concat (map closedConstructor (d .constructors))
+    ++ (concat (map closedFunction (d .functions)) ++ concat (map propertyRows (d .properties))))

@@ -1,0 +1,3 @@
+pub mod InputLaws
+pub mod OutcomeLaws
+pub mod DecodeLaws
