@@ -33,21 +33,11 @@ use Rattle.foundation.specs.Results.{
 use Rattle.sheet.specs.Rows.{Row, texts, sheetFrom}
 use Rattle.schema.specs.Declarations.{Declarations}
 use Rattle.schema.specs.Reading.{allowance}
-use Rattle.metadata.specs.Refusals.{numberOf}
-use Rattle.metadata.specs.Read.{
-  Input,
-  Answer,
-  kindOf,
-  reading,
-  declarationRows,
-  textLimit,
-  refusal,
-  accepted,
-  sheetWritten,
-  written,
-  answered,
-  read,
-}
+use Rattle.declarations.specs.Payload.{declarationRows}
+use Rattle.decoding.specs.Refusals.{numberOf}
+use Rattle.decoding.specs.Inputs.{Input, kindOf}
+use Rattle.decoding.specs.Answered.{Answer, textLimit, refusal, accepted, sheetWritten, written, answered}
+use Rattle.metadata.specs.Read.{reading, read}
 
 -- no refusal has number 0
 pub refusal-numbered : (c : Cause) → 1 ≤ numberOf c

@@ -3,9 +3,10 @@
 use mathlib.Core.Path.{_≡_, ap, subst, _∙_}
 use mathlib.Core.List.{List}
 use Prim.Native.Nat.{ℕ}
-use Rattle.names.specs.WellFormed.{Units}
-use Rattle.metadata.specs.Read as definition
-use Rattle.metadata.specs.Read.{Input, read}
+use Rattle.characters.specs.WellFormed.{Units}
+use Rattle.decoding.specs.Answered as definition
+use Rattle.decoding.specs.Inputs.{Input}
+use Rattle.metadata.specs.Read.{read}
 use Rattle.metadata.specs.Promises.{Promised}
 use Rattle.metadata.specs.ReadTold.{toldBy}
 use Rattle.metadata.specs.declared.Answer.{Answer}

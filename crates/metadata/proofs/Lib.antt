@@ -3,11 +3,5 @@ pub mod WalkLaws
 pub mod Tabled
 pub mod Sound
 pub mod Promised
-pub mod InputLaws
-pub mod RoomLaws
-pub mod PayloadLaws
-pub mod BodyLaws
-pub mod OutcomeLaws
-pub mod DecodeLaws
 pub mod ReadLaws
 pub mod Answered

@@ -13,7 +13,7 @@ use lib.ListN.{length}
 use Rattle.foundation.specs.Choices.{if_then_else_, ifSome, concat, All}
 use Rattle.foundation.proofs.ChoiceLaws.{if-ind, and-right, all-weaken}
 use Rattle.foundation.proofs.ResultLaws.{Gives, gives-ok}
-use Rattle.names.specs.WellFormed.{WellFormed, Units}
+use Rattle.characters.specs.WellFormed.{WellFormed, Units}
 use Rattle.sheet.specs.Rows.{Row, texts, sheetFrom}
 use Rattle.sheet.specs.Reading.{rowsOf}
 use Rattle.sheet.proofs.ReadBack.{InTable, sheet-back}
@@ -25,7 +25,10 @@ use Rattle.schema.specs.Counting.{countKind, constructorSize, functionSize, pro
 use Rattle.schema.proofs.Fine.{FineDeclarations}
 use Rattle.schema.proofs.TypeCount.{count-append, count-all, constructor-count, function-count, property-count}
 use Rattle.descriptors.specs.Defaults.{constructorParts, functionParts, defaultRow, closedConstructor, closedFunction}
-use Rattle.metadata.specs.Read.{Input, Answer, kindOf, reading, declarationRows, read}
+use Rattle.declarations.specs.Payload.{declarationRows}
+use Rattle.decoding.specs.Inputs.{Input, kindOf}
+use Rattle.decoding.specs.Answered.{Answer}
+use Rattle.metadata.specs.Read.{reading, read}
 use Rattle.metadata.specs.Walk.{walkSheet, walk, sheetOf, ifNone}
 use Rattle.metadata.specs.Promises.{sheetBytes, textBytes, Promised}
 use Rattle.metadata.proofs.Accepted.{Fitting, accepted-reads, sheet-bytes, text-bytes}

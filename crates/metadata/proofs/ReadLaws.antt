@@ -38,21 +38,24 @@ use Rattle.schema.specs.Written as written
 use Rattle.schema.specs.Written.{headCells, headCounts}
 use Rattle.schema.proofs.RecordLaws.{head-put}
 use Rattle.schema.proofs.WrittenLaws.{head-room, head-small}
-use Rattle.metadata.specs.Refusals.{numberOf, detailOf}
-use Rattle.metadata.specs.Read as definition
-use Rattle.metadata.specs.Read.{Input, kindOf, carriesDeclarations, stringLimit, supportedMajor, major, laterFault, faultOf, headAlone, nothingRead, reading, declarationRows, sheetWritten, answered, read}
-use Rattle.metadata.specs.Told.{input, faultTold}
-use Rattle.metadata.specs.DecodeTold.{told, RefusedAs, Kept, start, CoreTold, readingOf, readingBy}
+use Rattle.declarations.specs.Payload.{declarationRows}
+use Rattle.declarations.proofs.BodyLaws.{no-name}
+use Rattle.decoding.specs.Refusals.{numberOf, detailOf}
+use Rattle.decoding.specs.Answered as definition
+use Rattle.decoding.specs.Inputs.{Input, kindOf, carriesDeclarations, stringLimit, supportedMajor, major, laterFault, faultOf}
+use Rattle.decoding.specs.Answered.{headAlone, nothingRead, sheetWritten, answered}
+use Rattle.metadata.specs.Read.{reading, read}
+use Rattle.decoding.specs.Told.{input, faultTold}
+use Rattle.decoding.specs.DecodeTold.{told, RefusedAs, Kept, start, CoreTold, readingOf, readingBy}
 use Rattle.metadata.specs.ReadTold.{toldBy, toldIn}
 use Rattle.metadata.specs.declared.Answer.{Answer}
-use Rattle.metadata.specs.declared.inputs.Fault.{Fault}
-use Rattle.metadata.specs.declared.inputs.Fault.the-variants as fault
-use Rattle.metadata.specs.declared.outcome.Outcome.{Outcome}
-use Rattle.metadata.specs.declared.decode.Core.{Core}
-use Rattle.metadata.specs.declared.decode.Core.the-variants as core
-use Rattle.metadata.proofs.inputs.Fault.{the-type}
-use Rattle.metadata.proofs.BodyLaws.{no-name}
-use Rattle.metadata.proofs.OutcomeLaws.{refused-as}
+use Rattle.decoding.specs.declared.inputs.Fault.{Fault}
+use Rattle.decoding.specs.declared.inputs.Fault.the-variants as fault
+use Rattle.decoding.specs.declared.outcome.Outcome.{Outcome}
+use Rattle.decoding.specs.declared.decode.Core.{Core}
+use Rattle.decoding.specs.declared.decode.Core.the-variants as core
+use Rattle.decoding.proofs.inputs.Fault.{the-type}
+use Rattle.decoding.proofs.OutcomeLaws.{refused-as}
 
 kind-bounds : (k : ℤ) → (1 ≤ kindOf k) × (kindOf k ≤ 5)
 kind-bounds (pos m) =

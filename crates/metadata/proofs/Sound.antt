@@ -20,7 +20,7 @@ use Rattle.encoding.specs.Encoding.{unitLimit, decoded, unpacked, firstAbove255
 use Rattle.wire.specs.Wire.{Message, cut, readDelimited}
 use Rattle.wire.proofs.Readers.{Within, After, after-shorter, delimited-after}
 use Rattle.wire.proofs.Bounds.{Bounded, cut-bounded}
-use Rattle.names.specs.WellFormed.{Characters, Units}
+use Rattle.characters.specs.WellFormed.{Characters, Units}
 use Rattle.names.specs.Names.{Names, recordsOf, stringsFrom, d2String}
 use Rattle.names.proofs.ScalarLaws.{string-characters, qualified-characters, d2-characters}
 use Rattle.schema.specs.Declarations.{Declarations}
@@ -29,7 +29,10 @@ use Rattle.schema.specs.Members.{classBody, packageBody}
 use Rattle.schema.specs.Counting.{declarationsSize}
 use Rattle.schema.proofs.Fine.{NamesFine, FineDeclarations, class-fine, package-fine}
 use Rattle.schema.proofs.TypeCount.{class-enters, package-enters}
-use Rattle.metadata.specs.Read.{Input, kindOf, carriesDeclarations, laterFault, faultOf, headAlone, bodyOf, payload, nothingRead, reading}
+use Rattle.declarations.specs.Payload.{bodyOf, payload}
+use Rattle.decoding.specs.Inputs.{Input, kindOf, carriesDeclarations, laterFault, faultOf}
+use Rattle.decoding.specs.Answered.{headAlone, nothingRead}
+use Rattle.metadata.specs.Read.{reading}
 
 -- the form gives no more bytes than units
 decoded-few : (us : List ℕ) → Gives (λ bs. length bs ≤ length us) (decoded us)

@@ -10,9 +10,9 @@ use lib.ListN.{length}
 use Rattle.foundation.specs.Choices.{mapOption, concat, All, IfSome}
 use Rattle.foundation.specs.Texts.{Text}
 use Rattle.foundation.proofs.ChoiceLaws.{all-append, all-concat, all-map}
-use Rattle.names.specs.Characters.{utf8}
-use Rattle.names.specs.WellFormed.{Characters, WellFormed}
-use Rattle.names.proofs.Utf8Laws.{utf8-well-formed}
+use Rattle.characters.specs.Characters.{utf8}
+use Rattle.characters.specs.WellFormed.{Characters, WellFormed}
+use Rattle.characters.proofs.Utf8Laws.{utf8-well-formed}
 use Rattle.sheet.specs.Rows.{bit, Row, wide}
 use Rattle.sheet.proofs.ReadBack.{InTable, bit-fits}
 use Rattle.sheet.proofs.RefsInOrder.{CellHas, RowHas}
@@ -44,7 +44,7 @@ use Rattle.schema.proofs.Fine.{
 }
 use Rattle.descriptors.specs.Defaults.{Parts, functionParts, constructorParts, descriptor, defaultRow, closedConstructor, closedFunction}
 use Rattle.descriptors.proofs.WellFormedLaws.{function-well-formed, constructor-well-formed}
-use Rattle.metadata.specs.Read.{headRow, declarationRows}
+use Rattle.declarations.specs.Payload.{headRow, declarationRows}
 use Rattle.metadata.proofs.WalkLaws.{if-named}
 
 -- a record of the table with well-formed texts

@@ -11,7 +11,7 @@ use lib.Dec.{eqb}
 use lib.ListN.{length, length-append}
 use Rattle.foundation.specs.Choices.{if_then_else_, ifSome, mapOption, bothOf, concat, All, IfSome}
 use Rattle.foundation.specs.Texts.{Text}
-use Rattle.names.specs.Characters.{utf8, fromUtf8}
+use Rattle.characters.specs.Characters.{utf8, fromUtf8}
 use Rattle.sheet.specs.Rows.{Cell, num, ref, bit, Row, row}
 use Rattle.schema.specs.Declarations.{
   Types,
@@ -28,11 +28,11 @@ use Rattle.schema.specs.Declarations.{
 }
 use Rattle.schema.specs.Members.{signed}
 use Rattle.schema.specs.Rows.{named, returnRole, receiverRole, parameterRole, varargRole, argumentRole, typesRows, typeRows, parameterRows, parametersRows, signatureCells, constructorRows, functionRows, propertyRows}
-use Rattle.names.specs.WellFormed.{Characters}
-use Rattle.names.proofs.Utf8Laws.{utf8-back}
+use Rattle.characters.specs.WellFormed.{Characters}
+use Rattle.characters.proofs.Utf8Laws.{utf8-back}
 use Rattle.schema.proofs.Fine.{Named, FineTypes, FineTy, FineParameter, FineSignature, FineConstructor, FineFunction, FineProperty, FineDeclarations}
 use Rattle.descriptors.specs.Defaults.{functionParts, constructorParts, descriptor, defaultRow, closedConstructor, closedFunction}
-use Rattle.metadata.specs.Read.{declarationRows, headRow}
+use Rattle.declarations.specs.Payload.{declarationRows, headRow}
 use Rattle.metadata.specs.Walk.{
   numOf,
   numAt,

@@ -1,9 +1,4 @@
-pub mod Refusals
 pub mod Read
 pub mod Walk
 pub mod Promises
-pub mod Told
-pub mod PayloadTold
-pub mod BodyTold
-pub mod DecodeTold
 pub mod ReadTold

@@ -7,13 +7,15 @@ use Prim.Native.Nat.{ℕ, _<_}
 use lib.ListN.{take}
 use Rattle.foundation.specs.Choices.{All}
 use Rattle.foundation.specs.Results.{ok}
-use Rattle.names.specs.WellFormed.{WellFormed}
+use Rattle.characters.specs.WellFormed.{WellFormed}
 use Rattle.sheet.specs.Rows.{Row}
 use Rattle.sheet.specs.Reading.{rowsOf}
 use Rattle.sheet.specs.Refs.{refsOf, CutInOrder}
 use Rattle.schema.specs.Declarations.{Declarations}
 use Rattle.schema.specs.Counting.{countKind}
-use Rattle.metadata.specs.Read.{Input, Answer, kindOf, reading}
+use Rattle.decoding.specs.Inputs.{Input, kindOf}
+use Rattle.decoding.specs.Answered.{Answer}
+use Rattle.metadata.specs.Read.{reading}
 use Rattle.metadata.specs.Walk.{walk, sheetOf}
 
 -- what stands in the areas up to the lengths told

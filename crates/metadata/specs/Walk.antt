@@ -8,7 +8,7 @@ use lib.Dec.{eqb}
 use lib.ListN.{length, getElem?}
 use Rattle.foundation.specs.Choices.{if_then_else_, ifSome, mapOption, bothOf}
 use Rattle.foundation.specs.Texts.{Text}
-use Rattle.names.specs.Characters.{fromUtf8}
+use Rattle.characters.specs.Characters.{fromUtf8}
 use Rattle.sheet.specs.Rows.{Cell, num, ref, Row}
 use Rattle.sheet.specs.Reading.{rowsOf}
 use Rattle.schema.specs.Declarations.{

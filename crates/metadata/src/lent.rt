@@ -2,21 +2,22 @@
 // there is too little room, `read`'s own frames serve.
 ghost use mathlib.Core.Path.{_≡_};
 ghost use Prim.Native.Nat.{_≤_};
-ghost use Rattle.metadata.specs.Read.{answered, read};
-ghost use Rattle.metadata.specs.Told.{input};
-ghost use Rattle.metadata.specs.DecodeTold.{told, Kept, readingOf, readingBy};
+ghost use Rattle.decoding.specs.Answered.{answered};
+ghost use Rattle.decoding.specs.Told.{input};
+ghost use Rattle.decoding.specs.DecodeTold.{told, Kept, readingOf, readingBy};
+ghost use Rattle.metadata.specs.Read.{read};
 ghost use Rattle.metadata.specs.ReadTold.{toldBy};
 use crate::Answer;
 use crate::answer_of;
-use crate::decode::Core;
-use crate::decode::decode_in;
 use crate::head_alone;
-use crate::inputs::Fault;
-use crate::inputs::fault_of;
-use crate::inputs::kind_of;
-use crate::outcome::Outcome;
-use crate::outcome::fault_refusal;
 use crate::read_any;
+use decoding::decode::Core;
+use decoding::decode::decode_in;
+use decoding::inputs::Fault;
+use decoding::inputs::fault_of;
+use decoding::inputs::kind_of;
+use decoding::outcome::Outcome;
+use decoding::outcome::fault_refusal;
 
 // A kind that carries declarations.
 fn lent_body(

@@ -3,28 +3,24 @@
 ghost use mathlib.Core.Path.{_≡_};
 ghost use Prim.Native.Nat.{_≤_};
 ghost use lib.ListN.{length};
-ghost use Rattle.metadata.specs.Read.{nothingRead, answered, read};
-ghost use Rattle.metadata.specs.Told.{input};
-ghost use Rattle.metadata.specs.DecodeTold.{told, Kept, readingOf, readingBy};
+ghost use Rattle.decoding.specs.Answered.{nothingRead, answered};
+ghost use Rattle.decoding.specs.Told.{input};
+ghost use Rattle.decoding.specs.DecodeTold.{told, Kept, readingOf, readingBy};
+ghost use Rattle.metadata.specs.Read.{read};
 ghost use Rattle.metadata.specs.ReadTold.{toldBy};
-use decode::Core;
-use decode::decode_in;
-use decode::start;
-use inputs::Fault;
-use inputs::fault_of;
-use inputs::kind_of;
+use decoding::decode::Core;
+use decoding::decode::decode_in;
+use decoding::decode::start;
+use decoding::inputs::Fault;
+use decoding::inputs::fault_of;
+use decoding::inputs::kind_of;
+use decoding::outcome::Outcome;
+use decoding::outcome::fault_refusal;
+use decoding::outcome::refused;
 use names::steps::absent;
-use outcome::Outcome;
-use outcome::fault_refusal;
-use outcome::refused;
 use schema::rows::put_head;
 use schema::rows::put_head_counts;
 
-pub mod inputs; // inputs.rt: refusals 1 to 4, the metadata kind
-pub mod payload; // payload.rt: the name table and the type table indexed
-pub mod body; // body.rt: a body's rows
-pub mod outcome; // outcome.rt: numbers and details of refusals
-pub mod decode; // decode.rt: the measuring walk, then both areas
 pub mod lent; // lent.rt: `read` on lent scratch
 pub mod exported; // exported.rt: the function of the static library
 
@@ -58,7 +54,7 @@ fn head_alone(kind: u8, sheet: &mut [u8], text: &mut [u8]) -> Outcome
     }
 }
 
-// A d1 of 1,024 units at most, as most classes have: a frame of 21 KB.
+// A d1 of 256 units at most, as most classes have: a frame of 6 KB.
 fn read_small(
     kind: u8,
     d1: &[u16],
@@ -67,17 +63,17 @@ fn read_small(
     sheet: &mut [u8],
     text: &mut [u8],
 ) -> Outcome
-    requires { ⌜ Kept (now d1) (now d2) (now ends) × (length (now d1) ≤ 1024) ⌝ }
+    requires { ⌜ Kept (now d1) (now d2) (now ends) × (length (now d1) ≤ 256) ⌝ }
     ensures { λ r. ⌜ answered (now (sheet .entry)) (now (text .entry)) kind (readingOf kind (now (d1 .entry)) (now (d2 .entry)) (now (ends .entry))) ≡ told r (now (sheet .exit)) (now (text .exit)) ⌝ }
 {
-    let mut bytes = [0u8; 1024];
-    let mut starts = [0u32; 512];
-    let mut stops = [0u32; 512];
-    let mut firsts = [0u64; 513];
-    let mut entry_starts = [0u32; 512];
-    let mut entry_ends = [0u32; 512];
-    let mut scratch_sheet = [0u8; 4096];
-    let mut scratch_text = [0u8; 4096];
+    let mut bytes = [0u8; 256];
+    let mut starts = [0u32; 128];
+    let mut stops = [0u32; 128];
+    let mut firsts = [0u64; 129];
+    let mut entry_starts = [0u32; 128];
+    let mut entry_ends = [0u32; 128];
+    let mut scratch_sheet = [0u8; 1024];
+    let mut scratch_text = [0u8; 2048];
     let core = decode_in(
         kind,
         d1,
@@ -100,7 +96,49 @@ fn read_small(
     }
 }
 
-// Any d1.
+// A d1 of 2,048 units at most: a frame of 49 KB.
+fn read_medium(
+    kind: u8,
+    d1: &[u16],
+    d2: &[u16],
+    ends: &[u32],
+    sheet: &mut [u8],
+    text: &mut [u8],
+) -> Outcome
+    requires { ⌜ Kept (now d1) (now d2) (now ends) × (length (now d1) ≤ 2048) ⌝ }
+    ensures { λ r. ⌜ answered (now (sheet .entry)) (now (text .entry)) kind (readingOf kind (now (d1 .entry)) (now (d2 .entry)) (now (ends .entry))) ≡ told r (now (sheet .exit)) (now (text .exit)) ⌝ }
+{
+    let mut bytes = [0u8; 2048];
+    let mut starts = [0u32; 1024];
+    let mut stops = [0u32; 1024];
+    let mut firsts = [0u64; 1025];
+    let mut entry_starts = [0u32; 1024];
+    let mut entry_ends = [0u32; 1024];
+    let mut scratch_sheet = [0u8; 6144];
+    let mut scratch_text = [0u8; 16384];
+    let core = decode_in(
+        kind,
+        d1,
+        d2,
+        ends,
+        &mut bytes,
+        &mut starts,
+        &mut stops,
+        &mut firsts,
+        &mut entry_starts,
+        &mut entry_ends,
+        &mut scratch_sheet,
+        &mut scratch_text,
+        sheet,
+        text,
+    );
+    match core {
+        Core::Answered { outcome } => outcome,
+        Core::NoRoom => refused(0, 0),
+    }
+}
+
+// Any d1: a frame of 540 KB.
 fn read_large(
     kind: u8,
     d1: &[u16],
@@ -118,8 +156,8 @@ fn read_large(
     let mut firsts = [0u64; 16385];
     let mut entry_starts = [0u32; 16384];
     let mut entry_ends = [0u32; 16384];
-    let mut scratch_sheet = [0u8; 32768];
-    let mut scratch_text = [0u8; 32768];
+    let mut scratch_sheet = [0u8; 49152];
+    let mut scratch_text = [0u8; 65536];
     let core = decode_in(
         kind,
         d1,
@@ -142,7 +180,26 @@ fn read_large(
     }
 }
 
-// A kind that carries declarations, in the frame that is enough.
+// A longer d1, in the frame that is enough.
+fn read_longer(
+    kind: u8,
+    d1: &[u16],
+    d2: &[u16],
+    ends: &[u32],
+    sheet: &mut [u8],
+    text: &mut [u8],
+) -> Outcome
+    requires { ⌜ Kept (now d1) (now d2) (now ends) ⌝ }
+    ensures { λ r. ⌜ answered (now (sheet .entry)) (now (text .entry)) kind (readingOf kind (now (d1 .entry)) (now (d2 .entry)) (now (ends .entry))) ≡ told r (now (sheet .exit)) (now (text .exit)) ⌝ }
+{
+    if d1.len() <= 2048 {
+        return read_medium(kind, d1, d2, ends, sheet, text);
+    }
+    read_large(kind, d1, d2, ends, sheet, text)
+}
+
+// A kind that carries declarations. `read_longer` is called from two places, so that the compiler keeps its frames apart from this one's: a
+// frame of many pages costs a small class more than its reading.
 fn read_any(
     kind: u8,
     d1: &[u16],
@@ -154,10 +211,13 @@ fn read_any(
     requires { ⌜ Kept (now d1) (now d2) (now ends) ⌝ }
     ensures { λ r. ⌜ answered (now (sheet .entry)) (now (text .entry)) kind (readingOf kind (now (d1 .entry)) (now (d2 .entry)) (now (ends .entry))) ≡ told r (now (sheet .exit)) (now (text .exit)) ⌝ }
 {
-    if d1.len() <= 1024 {
+    if d1.len() <= 256 {
         return read_small(kind, d1, d2, ends, sheet, text);
     }
-    read_large(kind, d1, d2, ends, sheet, text)
+    if kind == 1 {
+        return read_longer(1, d1, d2, ends, sheet, text);
+    }
+    read_longer(kind, d1, d2, ends, sheet, text)
 }
 
 // What the host has kept to, of a metadata kind.

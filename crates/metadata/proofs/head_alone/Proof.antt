@@ -6,53 +6,53 @@ use Rattle.metadata.proofs.head_alone.Statement.{statement}
 use Rattle.metadata.proofs.head_alone.Tie as tie
 use Rattle.metadata.proofs.head_alone.Reads as reads
 use Rattle.metadata.proofs.head_alone.Lts as lts
-use Rattle.metadata.proofs.decode.start.Reads as start-reads
-use Rattle.metadata.proofs.outcome.refused.Reads as refused-reads
+use Rattle.decoding.proofs.decode.start.Reads as start-reads
+use Rattle.decoding.proofs.outcome.refused.Reads as refused-reads
 use Rattle.names.proofs.steps.absent.Reads as absent-reads
 use Rattle.schema.proofs.rows.put_head.Reads as put-head-reads
 use Rattle.schema.proofs.rows.put_head_counts.Reads as put-head-counts-reads
 
--- src/lib.rt:45:9
+-- src/lib.rt:43:9
 refused-requires : tie.Need-refused-requires
 refused-requires c κs = search needs
 
--- src/lib.rt:45:9
+-- src/lib.rt:43:9
 returns : tie.Need-returns
 returns c = alone-over (c .before .before .before .before .args .kind) (c .before .before .before .before .args .sheet .now) (c .before .before .before .before .args .text .now) (c .before .if1 .taken) (c .refused .ensures)
 
--- src/lib.rt:49:25
+-- src/lib.rt:47:25
 slice-aggregate-put-head : tie.Need-slice-aggregate-put-head
 slice-aggregate-put-head c = search needs
 
--- src/lib.rt:49:35
+-- src/lib.rt:47:35
 slice-aggregate-put-head-2 : tie.Need-slice-aggregate-put-head-2
 slice-aggregate-put-head-2 c = search needs
 
--- src/lib.rt:49:46
+-- src/lib.rt:47:46
 absent-requires : tie.Need-absent-requires
 absent-requires c κs = search needs
 
--- src/lib.rt:49:59
+-- src/lib.rt:47:59
 start-requires : tie.Need-start-requires
 start-requires c κs = search needs
 
--- src/lib.rt:49:9
+-- src/lib.rt:47:9
 put-head-requires : tie.Need-put-head-requires
 put-head-requires c κs = start-room [] [] (omega arith) (omega arith) (c .before .before .start .ensures)
 
--- src/lib.rt:50:5
+-- src/lib.rt:48:5
 put-head-counts-requires : tie.Need-put-head-counts-requires
 put-head-counts-requires c κs = alone-ends (c .before .before .before .before .before .before .before .before .before .before .before .before .before .before .before .args .kind) (c .before .before .before .before .before .before .before .before .before .absent .result) [] [] (omega arith) (omega arith) (c .before .before .before .before .before .before .before .before .start .ensures) (c .before .before .before .before .before .put-head .ensures)
 
--- src/lib.rt:41:1
+-- src/lib.rt:39:1
 same-length : tie.Need-same-length
 same-length c = search needs
 
--- src/lib.rt:41:1
+-- src/lib.rt:39:1
 same-length-2 : tie.Need-same-length-2
 same-length-2 c = search needs
 
--- src/lib.rt:41:1
+-- src/lib.rt:39:1
 returns-2 : tie.Need-returns-2
 returns-2 c = alone-done (c .before .before .before .before .before .before .before .before .before .before .before .before .before .before .before .before .before .before .args .kind) (c .before .before .before .before .before .before .before .before .before .before .before .before .before .before .before .before .before .before .args .sheet .now) (c .before .before .before .before .before .before .before .before .before .before .before .before .before .before .before .before .before .before .args .text .now) (c .before .before .before .before .before .before .before .before .before .before .before .before .absent .result) (c .before .before .before .before .before .before .before .before .before .before .before .before .absent .ensures) [] [] (c .before .before .before .before .before .before .before .before .before .before .before .start .ensures) (c .before .before .before .before .before .before .before .before .put-head .ensures) (c .before .before .put-head-counts .ensures) (c .before .before .before .before .before .before .before .before .before .before .before .before .before .before .before .if1 .left)
 

@@ -2,7 +2,7 @@ use mathlib.Core.Path.{_∙_, ap, sym}
 use lib.IntN.{ℤ}
 use mir.Facts.{toZ-ofZ}
 use Rattle.metadata.specs.Read.{read as readOf}
-use Rattle.metadata.specs.Told.{input}
+use Rattle.decoding.specs.Told.{input}
 use Rattle.metadata.proofs.ReadLaws.{answer-is}
 use borrow.Author.Needs.{needs}
 use Rattle.metadata.proofs.read.Statement.{statement}
@@ -12,23 +12,23 @@ use Rattle.metadata.proofs.read.Lts as lts
 use Rattle.metadata.proofs.answer_of.Reads as answer-of-reads
 use Rattle.metadata.proofs.outcome_of.Reads as outcome-of-reads
 
--- src/lib.rt:191:15
+-- src/lib.rt:189:15
 outcome-of-requires : tie.Need-outcome-of-requires
 outcome-of-requires c κs = search needs
 
--- src/lib.rt:191:5
+-- src/lib.rt:189:5
 answer-of-requires : tie.Need-answer-of-requires
 answer-of-requires c κs = search needs
 
--- src/lib.rt:180:1
+-- src/lib.rt:178:1
 same-length : tie.Need-same-length
 same-length c = search needs
 
--- src/lib.rt:180:1
+-- src/lib.rt:178:1
 same-length-2 : tie.Need-same-length-2
 same-length-2 c = search needs
 
--- src/lib.rt:180:1
+-- src/lib.rt:178:1
 returns : tie.Need-returns
 returns c = (answer-is _ (c .before .before .before .before .before .outcome-of .result) (c .answer-of .result) (c .before .before .before .before .before .outcome-of .last .1 .1 .1 .1 .1 .0) (c .before .before .before .before .before .outcome-of .last .1 .1 .1 .1 .1 .1 .0) (ap (λ (k : ℤ). readOf (c .before .before .before .before .before .before .before .before .before .before .before .before .before .args .sheet .now) (c .before .before .before .before .before .before .before .before .before .before .before .before .before .args .text .now) (input k (c .before .before .before .before .before .before .before .before .before .before .before .before .before .args .version) (c .before .before .before .before .before .before .before .before .before .before .before .before .before .args .d1 .now) (c .before .before .before .before .before .before .before .before .before .before .before .before .before .args .d2 .now) (c .before .before .before .before .before .before .before .before .before .before .before .before .before .args .ends .now))) (sym (toZ-ofZ (c .before .before .before .before .before .before .before .before .before .before .before .before .before .fits .k))) ∙ c .before .before .before .before .before .outcome-of .ensures) (c .answer-of .ensures .0) (c .answer-of .ensures .1) (c .answer-of .ensures .2) (c .answer-of .ensures .3) (c .answer-of .ensures .4), c .answer-of .ensures .5)
 

@@ -8,51 +8,51 @@ use Rattle.metadata.proofs.read_kind.Lts as lts
 use Rattle.metadata.proofs.head_alone.Reads as head-alone-reads
 use Rattle.metadata.proofs.read_any.Reads as read-any-reads
 
--- src/lib.rt:149:9
+-- src/lib.rt:147:9
 head-alone-requires : tie.Need-head-alone-requires
 head-alone-requires c κs = search needs
 
--- src/lib.rt:149:9
+-- src/lib.rt:147:9
 same-length : tie.Need-same-length
 same-length c = search needs
 
--- src/lib.rt:149:9
+-- src/lib.rt:147:9
 same-length-2 : tie.Need-same-length-2
 same-length-2 c = search needs
 
--- src/lib.rt:149:9
+-- src/lib.rt:147:9
 returns : tie.Need-returns
 returns c = kind-alone (c .before .before .before .before .before .before .before .before .before .before .before .before .before .args .sheet .now) (c .before .before .before .before .head-alone .last .1 .0) (c .before .before .before .before .before .before .before .before .before .before .before .before .before .args .text .now) (c .before .before .before .before .head-alone .last .1 .1 .0) (c .before .before .before .before .before .before .before .before .before .before .before .before .before .args .kind) (c .before .before .before .before .before .before .before .before .before .before .before .before .before .args .d1 .now) (c .before .before .before .before .before .before .before .before .before .before .before .before .before .args .d2 .now) (c .before .before .before .before .before .before .before .before .before .before .before .before .before .args .ends .now) 3 refl (c .before .before .before .before .before .before .before .if1 .taken) (c .before .before .before .before .head-alone .ensures)
 
--- src/lib.rt:152:9
+-- src/lib.rt:150:9
 head-alone-requires-2 : tie.Need-head-alone-requires-2
 head-alone-requires-2 c κs = search needs
 
--- src/lib.rt:152:9
+-- src/lib.rt:150:9
 same-length-3 : tie.Need-same-length-3
 same-length-3 c = search needs
 
--- src/lib.rt:152:9
+-- src/lib.rt:150:9
 same-length-4 : tie.Need-same-length-4
 same-length-4 c = search needs
 
--- src/lib.rt:152:9
+-- src/lib.rt:150:9
 returns-2 : tie.Need-returns-2
 returns-2 c = kind-alone (c .before .before .before .before .before .before .before .before .before .before .before .before .before .before .args .sheet .now) (c .before .before .before .before .head-alone2 .last .1 .0) (c .before .before .before .before .before .before .before .before .before .before .before .before .before .before .args .text .now) (c .before .before .before .before .head-alone2 .last .1 .1 .0) (c .before .before .before .before .before .before .before .before .before .before .before .before .before .before .args .kind) (c .before .before .before .before .before .before .before .before .before .before .before .before .before .before .args .d1 .now) (c .before .before .before .before .before .before .before .before .before .before .before .before .before .before .args .d2 .now) (c .before .before .before .before .before .before .before .before .before .before .before .before .before .before .args .ends .now) 4 refl (c .before .before .before .before .before .before .before .if2 .taken) (c .before .before .before .before .head-alone2 .ensures)
 
--- src/lib.rt:154:5
+-- src/lib.rt:152:5
 read-any-requires : tie.Need-read-any-requires
 read-any-requires c κs = search needs
 
--- src/lib.rt:144:1
+-- src/lib.rt:142:1
 same-length-5 : tie.Need-same-length-5
 same-length-5 c = search needs
 
--- src/lib.rt:144:1
+-- src/lib.rt:142:1
 same-length-6 : tie.Need-same-length-6
 same-length-6 c = search needs
 
--- src/lib.rt:144:1
+-- src/lib.rt:142:1
 returns-3 : tie.Need-returns-3
 returns-3 c = kind-carries (c .before .before .before .before .before .before .before .before .before .before .before .before .before .before .args .sheet .now) (c .before .before .before .before .read-any .last .1 .1 .1 .1 .0) (c .before .before .before .before .before .before .before .before .before .before .before .before .before .before .args .text .now) (c .before .before .before .before .read-any .last .1 .1 .1 .1 .1 .0) (c .before .before .before .before .before .before .before .before .before .before .before .before .before .before .args .kind) (c .before .before .before .before .before .before .before .before .before .before .before .before .before .before .args .d1 .now) (c .before .before .before .before .before .before .before .before .before .before .before .before .before .before .args .d2 .now) (c .before .before .before .before .before .before .before .before .before .before .before .before .before .before .args .ends .now) (c .before .before .before .before .before .before .before .before .before .before .before .before .before .before .pre .1) (c .before .before .before .before .before .before .before .before .before .before .before .before .before .before .pre .2) (c .before .before .before .before .before .before .before .before .if1 .left) (c .before .before .before .before .before .before .before .if2 .left) (c .before .before .before .before .read-any .ensures)
 
