@@ -10,7 +10,7 @@ use borrow.Author.Tests.{ltb-true, ltb-false, eqb-true, eqb-false, ne-eqb}
 use Rattle.foundation.specs.Choices.{All}
 use Rattle.foundation.specs.Texts.{Text}
 use Rattle.foundation.proofs.ChoiceLaws.{if-ind, all-weaken, all-append}
-use Rattle.names.specs.Characters.{utf8Of, utf8}
+use Rattle.characters.specs.Characters.{utf8Of, utf8}
 use Rattle.grammar.specs.Grammar.{beforeFirst, segments, Segment, ClassName}
 use Rattle.defaults.proofs.ChoiceLaws.{all-split, all-map-iff}
 

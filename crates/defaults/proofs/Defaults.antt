@@ -6,7 +6,7 @@ use mathlib.Core.List.{List, map}
 use mathlib.Core.Option.{Option, none, some, IsSome, Option·some-injective}
 use Rattle.foundation.specs.Choices.{mapOption, All}
 use Rattle.schema.specs.Declarations.{Ty, Constructor, Function}
-use Rattle.descriptors.specs.Erasure.{print, printReturned}
+use Rattle.erasure.specs.Erasure.{print, printReturned}
 use Rattle.descriptors.specs.Defaults.{Parts, functionParts, constructorParts, descriptor}
 use Rattle.defaults.specs.Needs.{Has, needed, neededByConstructor, partTexts}
 use Rattle.defaults.specs.Told.{ToldBy, Told, ToldConstructor, SameBy, SameText}

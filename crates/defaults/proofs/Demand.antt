@@ -8,10 +8,12 @@ use lib.ListN.{length, length-map}
 use Rattle.foundation.specs.Choices.{ifSome, mapOption, All}
 use Rattle.foundation.specs.Results.{Res, ok}
 use Rattle.foundation.proofs.ChoiceLaws.{all-append}
-use Rattle.names.specs.WellFormed.{Units}
+use Rattle.characters.specs.WellFormed.{Units}
 use Rattle.schema.specs.Declarations.{Function, Declarations}
 use Rattle.descriptors.specs.Defaults.{functionParts, descriptor}
-use Rattle.metadata.specs.Read.{Input, Answer, reading, read}
+use Rattle.decoding.specs.Inputs.{Input}
+use Rattle.decoding.specs.Answered.{Answer}
+use Rattle.metadata.specs.Read.{reading, read}
 use Rattle.metadata.specs.Walk.{walk, Sheet, sheetOf, closedFunctionOf}
 use Rattle.metadata.specs.Promises.{Promised, sheetBytes, textBytes}
 use Rattle.metadata.proofs.Promised.{promised}

@@ -11,8 +11,8 @@ use Rattle.foundation.specs.Texts.{Text, same}
 use Rattle.foundation.proofs.ChoiceLaws.{if-ind, all-append, same-true}
 use Rattle.defaults.proofs.ChoiceLaws.{all-split, some-map, some-both, some-every, same-false}
 use Rattle.schema.specs.Declarations.{Types, noTypes, andType, Ty, typesOf, Constructor, Function}
-use Rattle.descriptors.specs.Erasure.{Meaning, primitive, primitiveArray, array, unit, nothing, mapped, Entry, listed, lookUp, meaningOf}
-use Rattle.descriptors.specs.Erasure.{Erased, arrayOf, erasedAs, firstErased, erased, void, value, returnedAs, erasedReturn}
+use Rattle.erasure.specs.Erasure.{Meaning, primitive, primitiveArray, array, unit, nothing, mapped, Entry, listed, lookUp, meaningOf}
+use Rattle.erasure.specs.Erasure.{Erased, arrayOf, erasedAs, firstErased, erased, void, value, returnedAs, erasedReturn}
 use Rattle.descriptors.specs.Defaults.{Parts, parts, erasedOption, parameterTypes, typesBefore, suspends, suspendedParts}
 use Rattle.descriptors.specs.Defaults.{functionParts, constructorParts}
 use Rattle.defaults.specs.Needs.{withSlashes, kotlin·Array, kotlin·Nothing, HasDescriptor, ends, through, HasDescriptorTy}

@@ -4,9 +4,9 @@ use mathlib.Core.Path.{_≡_, refl}
 use mathlib.Core.List.{List, [], _∷_, _++_, map}
 use Prim.Native.Nat.{ℕ}
 use Rattle.foundation.specs.Choices.{concat, All}
-use Rattle.names.specs.Characters.{utf8}
-use Rattle.descriptors.specs.Erasure.{Primitive, boolean, byte, char, short, int, long, float, double, letter}
-use Rattle.descriptors.specs.Erasure.{Erased, base, class, arrayOf, Returned, void, value, print, printReturned}
+use Rattle.characters.specs.Characters.{utf8}
+use Rattle.erasure.specs.Erasure.{Primitive, boolean, byte, char, short, int, long, float, double, letter}
+use Rattle.erasure.specs.Erasure.{Erased, base, class, arrayOf, Returned, void, value, print, printReturned}
 use Rattle.descriptors.specs.Defaults.{Parts, descriptor}
 use Rattle.grammar.specs.Grammar as grammar
 use Rattle.grammar.specs.Grammar.{ClassName, BaseType, FieldType, baseType, objectType, arrayType}

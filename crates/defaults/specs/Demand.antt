@@ -8,7 +8,9 @@ use lib.ListN.{length}
 use Rattle.foundation.specs.Choices.{ifSome, All}
 use Rattle.foundation.specs.Results.{Res, ok, refused}
 use Rattle.schema.specs.Declarations.{Function, Declarations}
-use Rattle.metadata.specs.Read.{Input, Answer, reading}
+use Rattle.decoding.specs.Inputs.{Input}
+use Rattle.decoding.specs.Answered.{Answer}
+use Rattle.metadata.specs.Read.{reading}
 use Rattle.metadata.specs.Walk.{walk}
 use Rattle.metadata.specs.Promises.{sheetBytes, textBytes}
 use Rattle.defaults.specs.Told.{Told, SameText}

@@ -11,7 +11,9 @@ use lib.IntN.{ℤ}
 use lib.ListN.{length, replicate}
 use Rattle.foundation.specs.Choices.{if_then_else_}
 use Rattle.foundation.specs.Texts.{same}
-use Rattle.metadata.specs.Read.{Input, Answer, read}
+use Rattle.decoding.specs.Inputs.{Input}
+use Rattle.decoding.specs.Answered.{Answer}
+use Rattle.metadata.specs.Read.{read}
 
 abbrev pub hexDigit : ℕ → ℕ
 hexDigit c = if ltb c 0x61 then c - 0x30 else c - 0x57

@@ -13,8 +13,10 @@ use Rattle.foundation.specs.Results.{Res, ok, refused, Cause, Part, _from_, Got
 use Rattle.foundation.specs.Texts.{ascii, same}
 use Rattle.encoding.specs.Encoding.{decoded}
 use Rattle.wire.specs.Wire.{readVarint}
-use Rattle.metadata.specs.Refusals.{numberOf}
-use Rattle.metadata.specs.Read.{Input, Answer, read}
+use Rattle.decoding.specs.Refusals.{numberOf}
+use Rattle.decoding.specs.Inputs.{Input}
+use Rattle.decoding.specs.Answered.{Answer}
+use Rattle.metadata.specs.Read.{read}
 use Rattle.examples.specs.Cases.{Case, Expected, given, gives, hex, holds, area}
 
 pub record Marked : Type 0 where

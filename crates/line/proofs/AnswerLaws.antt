@@ -24,13 +24,16 @@ use Rattle.foundation.specs.Results.{Cause, Res, ok, refused, sheetTooLong, tex
 use Rattle.foundation.specs.Texts.{ascii}
 use Rattle.schema.specs.Declarations.{Declarations}
 use Rattle.sheet.specs.Rows.{Row, sheetFrom, texts}
-use Rattle.metadata.specs.Read as R
-use Rattle.metadata.specs.Read.{read, reading, answered, written, sheetWritten, refusal, accepted, declarationRows, kindOf, textLimit}
+use Rattle.declarations.specs.Payload.{declarationRows}
+use Rattle.decoding.specs.Answered as R
+use Rattle.decoding.specs.Inputs.{Input, kindOf}
+use Rattle.decoding.specs.Answered.{answered, written, sheetWritten, refusal, accepted, textLimit}
+use Rattle.metadata.specs.Read.{read, reading}
 use Rattle.schema.specs.Reading.{allowance}
 use Rattle.line.specs.declared.input.Counts.{Counts}
 use Rattle.line.specs.declared.stream.Taken.{Taken}
 use Rattle.metadata.specs.declared.Answer.{Answer}
-use Rattle.metadata.specs.Told.{input}
+use Rattle.decoding.specs.Told.{input}
 use Rattle.metadata.specs.ReadTold.{toldBy}
 use Rattle.line.specs.Input.{d1Place, d2Place, endsPlace, numberAt, numbersAt, signedOf, countsOf, inputEnd, inputOf, whole, given}
 use Rattle.line.specs.Line.{decimal, partOf, lineOf}
@@ -78,7 +81,7 @@ answered-inside : (S T : List ℕ) (kind : ℕ) (r : Res (Declarations × ℕ)) 
 answered-inside S T kind (refused c p) = refused-inside S T c
 answered-inside S T kind (ok r) = written-inside S T (declarationRows kind (r .0)) (allowance - r .1)
 
-pub read-inside : (S T : List ℕ) (i : R.Input) → Inside S T (read S T i)
+pub read-inside : (S T : List ℕ) (i : Input) → Inside S T (read S T i)
 unfolding read
 read-inside S T i = answered-inside S T (kindOf (i .k)) (reading i)
 
@@ -134,7 +137,7 @@ wrote-whole bs t s h {kept} e {r} {S} {S′} w =
     subst (λ (l : List ℕ). Wrote l 0 r S S′) (sym p) (subst (λ (k : List ℕ). WroteKept k (t .counts) r S S′) e w)
 
 -- what the entry answers lies in the areas
-pub entry-inside : (S T : List ℕ) (i : R.Input) (r : Answer) {S′ T′ : List ℕ} → read S T i ≡ toldBy r S′ T′ → Inside S T (toldBy r S′ T′)
+pub entry-inside : (S T : List ℕ) (i : Input) (r : Answer) {S′ T′ : List ℕ} → read S T i ≡ toldBy r S′ T′ → Inside S T (toldBy r S′ T′)
 entry-inside S T i r e = subst (Inside S T) e (read-inside S T i)
 
 -- what was taken from the bytes kept is what the counts announce
@@ -206,7 +209,7 @@ line-length number detail sheet text h k =
 blank-length : length zeros ≡ 65536
 blank-length = sym (ap length zeros-are) ∙ zeros-length 65536
 
-answer-length : (i : R.Input) → length (answerLine (read zeros zeros i)) ≤ 262190
+answer-length : (i : Input) → length (answerLine (read zeros zeros i)) ≤ 262190
 answer-length i =
     let a = read zeros zeros i in
     let h = read-inside zeros zeros i in
@@ -218,7 +221,7 @@ printed-length : (bs : List ℕ) → length (printed zeros zeros bs) ≤ 262190
 unfolding printed
 printed-length bs = go (given bs)
   where
-    go : (o : Option R.Input) → length (ifSome o (ascii "input\n") λ i. answerLine (read zeros zeros i)) ≤ 262190
+    go : (o : Option Input) → length (ifSome o (ascii "input\n") λ i. answerLine (read zeros zeros i)) ≤ 262190
     go none = omega arith
     go (some i) = answer-length i
 

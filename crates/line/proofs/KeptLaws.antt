@@ -11,7 +11,9 @@ use lib.ListN.{length, getD, take}
 use lib.Seq.{getD-take}
 use Rattle.foundation.specs.Choices.{if_then_else_}
 use Rattle.foundation.specs.Results.{d1TooLong, d2TooLong}
-use Rattle.metadata.specs.Read.{Input, laterFault, faultOf, reading, read, refusal}
+use Rattle.decoding.specs.Inputs.{Input, laterFault, faultOf}
+use Rattle.decoding.specs.Answered.{refusal}
+use Rattle.metadata.specs.Read.{reading, read}
 use Rattle.line.specs.Input.{numberAt, numbersAt, signedOf, d1Count, d2Count, endsCount, countsOf, inputOf, d1Place, d2Place, endsPlace}
 use Rattle.line.specs.Taken.{keptLimit}
 use Rattle.line.specs.Program.{keptInput}
