@@ -9,6 +9,8 @@ use harness::{corpus, slow};
 use timing::Timing;
 
 const USAGE: &str = "bench [--clear] [--reader library|stand-in]
+bench --each                      each real class by itself: those that cost most beside the Rust
+bench --corpus N [--rust]         N times all real classes, for a profiler
 bench --once FILE N [--rust]      N calls on one program input, for a profiler";
 
 fn main() {
@@ -27,7 +29,58 @@ fn main() {
         let count = after("--once", 2).and_then(|count| count.parse().ok()).expect(USAGE);
         return once(&file, count, reader, has("--rust"));
     }
-    all(Timing::new(reader, has("--clear")));
+    if has("--corpus") {
+        let count = after("--corpus", 1).and_then(|count| count.parse().ok()).expect(USAGE);
+        return corpus(count, reader, has("--rust"));
+    }
+    let timing = Timing::new(reader, has("--clear"));
+    if has("--each") {
+        return each(timing);
+    }
+    all(timing);
+}
+
+/// The real classes that the reader's limits let through.
+fn classes() -> Vec<Input> {
+    corpus::classes().into_iter().filter(|class| class.d1.len() <= limits::UNITS).collect()
+}
+
+fn corpus(count: u64, reader: Reader, rust: bool) {
+    let mut timing = Timing::new(reader, false);
+    let classes = classes();
+    for class in &classes {
+        if rust {
+            timing.original(class, count);
+        } else {
+            timing.reader(class, count);
+        }
+    }
+    println!("{} classes", classes.len());
+}
+
+/// How many classes with declarations are slower than the Rust, and the ratios of the ten highest.
+fn each(mut timing: Timing) {
+    let of_kinds: Vec<Input> = classes().into_iter().filter(|class| limits::reads_payload(class.k)).collect();
+    let mut ratios: Vec<(f64, f64, &Input)> = of_kinds
+        .iter()
+        .map(|class| {
+            let [read, decode] = timing.both(class);
+            (read / decode, read, class)
+        })
+        .collect();
+    ratios.sort_by(|a, b| b.0.total_cmp(&a.0));
+    let slower = ratios.iter().filter(|ratio| ratio.0 > 1.0).count();
+    println!("classes of kinds 1, 2 and 5: {}; slower than the Rust's decode: {slower}", ratios.len());
+    println!("median ratio {:.2}, lowest {:.2}", ratios[ratios.len() / 2].0, ratios[ratios.len() - 1].0);
+    for (ratio, read, class) in ratios.iter().take(10) {
+        let units = class.d1.len();
+        println!(
+            "kind {}, {units} units of d1, {} of d2: {:.0} ns, ratio {ratio:.2}",
+            class.k,
+            class.d2.len(),
+            read * 1e9
+        );
+    }
 }
 
 fn once(file: &str, count: u64, reader: Reader, rust: bool) {
@@ -43,7 +96,7 @@ fn once(file: &str, count: u64, reader: Reader, rust: bool) {
 
 fn all(mut timing: Timing) {
     println!("reader: {}; areas of {AREA} bytes, {}", timing.reader.name(), timing.clearing());
-    let classes: Vec<Input> = corpus::classes().into_iter().filter(|class| class.d1.len() <= limits::UNITS).collect();
+    let classes = classes();
     timing.set("real classes, as they are", &classes);
     if let Some(largest) = classes.iter().max_by_key(|class| class.d1.len() + class.d2.len()) {
         timing.set("the largest real class", &[largest.clone()]);

@@ -53,6 +53,14 @@ impl Timing {
         }
     }
 
+    /// Seconds of one call of the reader and of one decode by the Rust.
+    pub fn both(&mut self, input: &Input) -> [f64; 2] {
+        let class = Class::new(input.k, input.mv, &input.d1, input.strings());
+        let mut reader = || self.reader(input, 1);
+        let mut decode = || drop(black_box(class.decode()));
+        medians(ROUND / 10.0, [&mut reader, &mut decode])
+    }
+
     /// Times a set of inputs and prints a line.
     pub fn set(&mut self, words: &str, inputs: &[Input]) {
         if inputs.is_empty() {
@@ -68,7 +76,7 @@ impl Timing {
                 drop(black_box(class.decode().map(|metadata| Sheet::of(&metadata))));
             }
         };
-        let [read, decode, sheet] = medians([&mut reader, &mut decode, &mut sheet]);
+        let [read, decode, sheet] = medians(ROUND, [&mut reader, &mut decode, &mut sheet]);
         let number = self.number;
         let each = |seconds: f64| seconds * 1e9 / inputs.len() as f64;
         println!(
@@ -100,8 +108,8 @@ fn answer(input: &Input, number: u64) -> String {
     format!(", answer {number}{wrong}, {} types, sheet {}", right.types, right.sheet)
 }
 
-/// Seconds of one run of each, as the median of some rounds. The rounds take turns, so that a busy machine slows all.
-fn medians<const N: usize>(mut runs: [&mut dyn FnMut(); N]) -> [f64; N] {
+/// Seconds of one run of each, as the median of some rounds of so many seconds. The rounds take turns, so that a busy machine slows all.
+fn medians<const N: usize>(round: f64, mut runs: [&mut dyn FnMut(); N]) -> [f64; N] {
     let time = |run: &mut dyn FnMut(), times: usize| {
         let start = Instant::now();
         (0..times).for_each(|_| run());
@@ -112,7 +120,7 @@ fn medians<const N: usize>(mut runs: [&mut dyn FnMut(); N]) -> [f64; N] {
     let mut measured = vec![Vec::new(); N];
     for _ in 0..rounds {
         for (place, run) in runs.iter_mut().enumerate() {
-            let times = (ROUND / first[place].max(1e-9)).clamp(1.0, 1e6) as usize;
+            let times = (round / first[place].max(1e-9)).clamp(1.0, 1e6) as usize;
             measured[place].push(time(run, times));
         }
     }

@@ -3,7 +3,7 @@
 use crate::options::{Mode, Options};
 use harness::answer::Whole;
 use harness::exhaustive::Exhaustive;
-use harness::expected::{expected, Basis};
+use harness::expected::{around, expected, Basis};
 use harness::input::{hex, Input};
 use harness::limits::Areas;
 use harness::random::Random;
@@ -36,7 +36,8 @@ impl Source {
             Mode::Damaged => (self.damaged(&mut random, number), vec![Areas::PROGRAM]),
             Mode::Boundaries => {
                 let input = if random.once_in(4) { self.made(&mut random) } else { shapes::input(&mut random) };
-                let areas = around(&input);
+                let large = Areas { sheet: LARGEST, text: LARGEST };
+                let areas = around(&input).into_iter().chain([large, Areas::PROGRAM]).collect();
                 (input, areas)
             }
         })
@@ -62,28 +63,6 @@ impl Source {
         let (input, other) = (one(), one());
         damage::damaged(random, &input, &other)
     }
-}
-
-/// Areas that are just long enough, one byte short in either or in both, empty, and longer than any text may be.
-fn around(input: &Input) -> Vec<Areas> {
-    let large = Areas { sheet: LARGEST, text: LARGEST };
-    let answer = expected(input, large).whole.answer;
-    if answer.number != 0 {
-        return vec![large, Areas::PROGRAM, Areas { sheet: 0, text: 0 }];
-    }
-    let (sheet, text) = (answer.sheet as usize, answer.text as usize);
-    let lengths = [
-        (sheet, text),
-        (sheet - 1, text),
-        (sheet, text.saturating_sub(1)),
-        (sheet - 1, text.saturating_sub(1)),
-        (sheet + 1, text + 1),
-        (19, text),
-        (sheet, 0),
-        (0, 0),
-    ];
-    let some = lengths.map(|(sheet, text)| Areas { sheet, text });
-    some.into_iter().chain([large, Areas::PROGRAM]).collect()
 }
 
 /// What a run saw.

@@ -3,6 +3,7 @@
 use crate::answer::{Answer, Whole};
 use crate::input::Input;
 use crate::limits::{self, Areas};
+use crate::reader::LARGEST;
 use crate::second;
 use original::class::Class;
 use original::sheet::Sheet;
@@ -40,6 +41,26 @@ pub fn expected(input: &Input, areas: Areas) -> Expected {
     let whole = original_answer(input, areas);
     let disagreement = (whole != second).then(|| second.line());
     Expected { whole, basis, disagreement }
+}
+
+/// Areas that are just long enough, one byte short in either or in both, one byte longer, too short for a head, and empty.
+pub fn around(input: &Input) -> Vec<Areas> {
+    let answer = expected(input, Areas { sheet: LARGEST, text: LARGEST }).whole.answer;
+    if answer.number != 0 {
+        return vec![Areas { sheet: 0, text: 0 }];
+    }
+    let (sheet, text) = (answer.sheet as usize, answer.text as usize);
+    let lengths = [
+        (sheet, text),
+        (sheet - 1, text),
+        (sheet, text.saturating_sub(1)),
+        (sheet - 1, text.saturating_sub(1)),
+        (sheet + 1, text + 1),
+        (19, text),
+        (sheet, 0),
+        (0, 0),
+    ];
+    lengths.map(|(sheet, text)| Areas { sheet, text }).to_vec()
 }
 
 fn basis(reading: &second::Reading) -> Basis {

@@ -130,9 +130,9 @@ const PATTERNS: [u8; 2] = [0xa5, 0x5a];
 impl Default for Caller {
     fn default() -> Self {
         Self {
-            d1: Guarded::new(1 << 18),
-            d2: Guarded::new(1 << 18),
-            ends: Guarded::new(1 << 16),
+            d1: Guarded::new(1 << 20),
+            d2: Guarded::new(1 << 20),
+            ends: Guarded::new(1 << 20),
             sheet: Guarded::new(LARGEST),
             text: Guarded::new(LARGEST),
             answer: Guarded::new(64),

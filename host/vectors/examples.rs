@@ -82,7 +82,7 @@ pub fn limits() -> Vec<Input> {
 }
 
 /// Properties whose names are together so many bytes long.
-fn text_of(total: usize) -> Input {
+pub fn text_of(total: usize) -> Input {
     let each = 600;
     let mut body = bytes(4, &number(2, 0)).repeat(total / each);
     body.extend(bytes(4, &number(2, 1)));

@@ -1,6 +1,7 @@
 //! Writes inputs with the original's answer lines, for a program that replays them. See host/README.md.
 
 mod examples;
+mod sized;
 
 use harness::answer::Whole;
 use harness::expected::{expected, Basis};
@@ -16,13 +17,14 @@ const LONGEST: usize = 400;
 
 fn main() {
     let Some(folder) = std::env::args().nth(1) else {
-        eprintln!("vectors FOLDER    writes made, limits and classes, each as .bin and .lines");
+        eprintln!("vectors FOLDER    writes made, limits, sized and classes, each as .bin and .lines");
         std::process::exit(2);
     };
     let folder = Path::new(&folder);
     std::fs::create_dir_all(folder).expect("a folder to write to");
     write(folder, "made", &made_inputs());
     write(folder, "limits", &examples::limits());
+    sized::write(folder);
     let classes = corpus::classes();
     if classes.is_empty() {
         println!("classes: none, no file of real classes in {}", corpus::folder().display());
@@ -35,8 +37,8 @@ fn main() {
 }
 
 /// The answer of an input that a replay may hold: the original's, a limit's, or the 2,049th type.
-fn answer(input: &Input) -> Option<Whole> {
-    let expected = expected(input, Areas::PROGRAM);
+fn answer(input: &Input, areas: Areas) -> Option<Whole> {
+    let expected = expected(input, areas);
     assert!(expected.disagreement.is_none(), "the second reading differs from the Rust");
     let settled = match expected.basis {
         Basis::Original | Basis::Limits => true,
@@ -47,7 +49,8 @@ fn answer(input: &Input) -> Option<Whole> {
 }
 
 fn write(folder: &Path, name: &str, inputs: &[Input]) -> String {
-    let answers: Vec<Whole> = inputs.iter().map(|input| answer(input).expect("an input that is settled")).collect();
+    let program = |input| answer(input, Areas::PROGRAM).expect("an input that is settled");
+    let answers: Vec<Whole> = inputs.iter().map(program).collect();
     let lines: String = answers.iter().map(|whole| whole.line() + "\n").collect();
     std::fs::write(folder.join(format!("{name}.bin")), corpus::join(inputs)).expect("a file written");
     std::fs::write(folder.join(format!("{name}.lines")), &lines).expect("a file written");
@@ -61,17 +64,10 @@ fn made_inputs() -> Vec<Input> {
     let mut inputs = examples::marked_examples();
     let mut seen = [0; 13];
     for number in 0..4000 {
-        let mut random = Random::of(2026, number);
-        let input = match number % 8 {
-            0..=3 => made::input(&mut random),
-            4..=5 => shapes::input(&mut random),
-            _ => {
-                let (one, other) = (made::input(&mut random), made::input(&mut random));
-                damage::damaged(&mut random, &one, &other)
-            }
-        };
+        let input = numbered(number);
         let short = input.d1.len() <= LONGEST && input.d2.len() <= LONGEST && input.ends.len() <= LONGEST;
-        let Some(whole) = answer(&input).filter(|whole| short && whole.sheet.len() <= 4 * LONGEST) else {
+        let Some(whole) = answer(&input, Areas::PROGRAM).filter(|whole| short && whole.sheet.len() <= 4 * LONGEST)
+        else {
             continue;
         };
         let place = whole.answer.number as usize;
@@ -83,4 +79,17 @@ fn made_inputs() -> Vec<Input> {
         }
     }
     inputs
+}
+
+/// An input of any kind, by its number.
+fn numbered(number: u64) -> Input {
+    let mut random = Random::of(2026, number);
+    match number % 8 {
+        0..=3 => made::input(&mut random),
+        4..=5 => shapes::input(&mut random),
+        _ => {
+            let (one, other) = (made::input(&mut random), made::input(&mut random));
+            damage::damaged(&mut random, &one, &other)
+        }
+    }
 }

@@ -1,0 +1,82 @@
+//! Inputs with the sizes of the areas that they are read into, and the answers with all bytes of both areas.
+
+use crate::{answer, examples, numbered};
+use harness::answer::{Answer, Whole};
+use harness::expected::around;
+use harness::input::{hex, Input};
+use harness::limits::{Areas, TEXT};
+use std::path::Path;
+
+/// What the areas hold before an input is read into them.
+const PATTERN: u8 = 0xa5;
+/// Whole areas are written down, so inputs are short and few.
+const LONGEST: usize = 80;
+const HEAD: u64 = 20;
+const LONGEST_SHEET: u64 = 150;
+const ACCEPTED: usize = 26;
+const REFUSED: usize = 4;
+
+pub fn write(folder: &Path) {
+    let (mut bin, mut lines) = (Vec::new(), String::new());
+    let pairs = pairs();
+    for (input, areas) in &pairs {
+        let whole = answer(input, *areas).expect("an input that is settled");
+        let bytes = input.to_bytes();
+        for number in [bytes.len(), areas.sheet, areas.text] {
+            bin.extend((number as u32).to_le_bytes());
+        }
+        bin.extend(bytes);
+        lines += &line(&whole, *areas);
+    }
+    std::fs::write(folder.join("sized.bin"), &bin).expect("a file written");
+    std::fs::write(folder.join("sized.lines"), &lines).expect("a file written");
+    println!("sized: {} inputs with areas, {} bytes", pairs.len(), bin.len() + lines.len());
+}
+
+/// Both lengths, the number of types, number, detail, and the areas with the bytes that stay as they were.
+fn line(whole: &Whole, areas: Areas) -> String {
+    let Answer { number, detail, sheet, text, types } = whole.answer;
+    let area = |size: usize, bytes: &[u8]| {
+        let mut area = vec![PATTERN; size];
+        area[..bytes.len()].copy_from_slice(bytes);
+        if area.is_empty() {
+            "-".to_string()
+        } else {
+            hex(&area)
+        }
+    };
+    let (sheet_area, text_area) = (area(areas.sheet, &whole.sheet), area(areas.text, &whole.text));
+    format!("{sheet} {text} {types} {number} {detail} {sheet_area} {text_area}\n")
+}
+
+fn pairs() -> Vec<(Input, Areas)> {
+    let mut pairs = Vec::new();
+    let mut seen = [0; 13];
+    let examples = examples::marked_examples();
+    let count = examples.len();
+    for (place, input) in examples.into_iter().chain((0..4000).map(numbered)).enumerate() {
+        let Some(whole) = answer(&input, Areas::PROGRAM) else {
+            continue;
+        };
+        let Answer { number, sheet, .. } = whole.answer;
+        let longest = if number == 0 { LONGEST } else { 4 * LONGEST };
+        let short = input.d1.len() <= longest && input.d2.len() <= longest && input.ends.len() <= longest;
+        // Of the sheets that are a head alone, the examples have enough.
+        let shows = number != 0 || (sheet <= LONGEST_SHEET && (sheet > HEAD || place < count));
+        let most = if number == 0 { ACCEPTED } else { REFUSED };
+        if !short || !shows || seen[number as usize] == most {
+            continue;
+        }
+        seen[number as usize] += 1;
+        let mut areas = around(&input);
+        if number != 0 {
+            areas.push(Areas { sheet: 32, text: 16 });
+        }
+        pairs.extend(areas.into_iter().map(|areas| (input.clone(), areas)));
+    }
+    // The longest text, in an area of just its length.
+    let longest = examples::text_of(TEXT as usize);
+    let enough = around(&longest)[0];
+    pairs.push((longest, enough));
+    pairs
+}
