@@ -190,9 +190,9 @@ def record_text(sheet, text):
 
 
 def refusal_text(number, detail):
-    what, todo = REFUSALS[number]
+    what, advice = REFUSALS[number]
     told = f' ({DETAILS[number]}: {detail})' if number in DETAILS else ''
-    return f'refused, {number}: {what}{told}. What to do: {todo}.'
+    return f'refused, {number}: {what}{told}. What to do: {advice}.'
 
 
 def line_text(line, form):
