@@ -83,6 +83,7 @@ pub fn type_field(msg: &[u8], base: u32, inline: u32, indexed: u32) -> Argument
 }
 
 // The argument from a place to another of a message, whose first byte has the offset `base`.
+// It requires that the part lies in the message and the message among the decoded bytes, so that it can be sliced and its offset fits.
 pub fn argument_at(msg: &[u8], base: u32, from: usize, to: usize) -> Argument
     requires { ⌜ (from ≤ to) × (to ≤ length (now msg)) × (base + length (now msg) ≤ 32768) ⌝ }
     ensures { λ r. ⌜ ArgumentTold base (now (msg .entry)) from to r ⌝ }
