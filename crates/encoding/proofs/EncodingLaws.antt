@@ -8,6 +8,7 @@ use Prim.Native.Nat.{ℕ, zero, suc, _+_, _-_, _*_, _/_, _≤_, _<_}
 use native.Mathlib.Numerals.{add-one}
 use native.Mathlib.Omega.{arith}
 use borrow.Author.Tests.{lt-ltb, le-ltb, eq-eqb, ne-eqb, ltb-false}
+use lib.Bits.{bitOr, or-add-and, and-le-l, and-le-r}
 use lib.Dec.{eqb, ltb}
 use lib.ListN.{length, getD, take, drop, set, length-drop, drop-of-length-le}
 use lib.Seq.{sets, drop-cons, take-all}
@@ -35,6 +36,15 @@ module _ (us : List ℕ) (i : ℕ) (inside : i < length us) where
 pub above-end : (us : List ℕ) (i : ℕ) → length us ≤ i → firstAbove255 (drop i us) ≡ none
 unfolding firstAbove255
 above-end us i h = rw (drop-of-length-le us h)
+
+-- the bits of all units before a place are those of a byte: none of them is above 255
+pub bytes-next : {w : Option ℕ} (us : List ℕ) (i all : ℕ) → i < length us → (all < 256 → firstAbove255 (drop i us) ≡ w)
+    → bitOr all (getD us i 0) < 256
+    → firstAbove255 (drop (i + 1) us) ≡ w
+bytes-next us i all inside h o =
+    let unit = getD us i 0 in
+    sym (above-passed us i inside (omega (arith, or-add-and all unit, and-le-l all unit)))
+    ∙ h (omega (arith, or-add-and all unit, and-le-r all unit))
 
 pub above-unit : (o : Option ℕ) {unit : ℕ} {r : Above} → r ≡ aboveOf o → r ≡ above.Unit unit → o ≡ some unit
 above-unit none e f = cc

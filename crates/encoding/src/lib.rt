@@ -1,5 +1,6 @@
 // From d1's units to bytes, into a lent area. The definitions: specs/Encoding.antt, specs/Outcome.antt.
 ghost use mathlib.Core.Path.{_≡_};
+ghost use mathlib.Core.Bool.{true};
 ghost use mathlib.Core.Option.{none};
 ghost use Prim.Native.Nat.{_*_, _/_, _≤_};
 ghost use lib.ListN.{length};
@@ -28,10 +29,26 @@ enum Above {
     Nothing,
 }
 
+// Are all units bytes? The loop has no way out, so that the machine tests many at once.
+fn all_bytes(units: &[u16]) -> bool
+    ensures { λ r. ⌜ (r ≡ true → firstAbove255 (now (units .entry)) ≡ none) ⌝ }
+{
+    let mut all: u16 = 0;
+    let mut i = 0;
+    while i < units.len() {
+        all |= units[i];
+        i += 1;
+    }
+    all < 256
+}
+
 // The first, in order, of the units above 255.
 fn first_above_255(units: &[u16]) -> Above
     ensures { λ r. ⌜ r ≡ aboveOf (firstAbove255 (now (units .entry))) ⌝ }
 {
+    if all_bytes(&*units) {
+        return Above::Nothing;
+    }
     let mut i = 0;
     while i < units.len() {
         let unit = units[i];

@@ -16,6 +16,12 @@ Inv-loop units i₀ i = firstAbove255 (drop i units) ≡ firstAbove255 units
 abbrev μ-loop : tie.MeasureT-loop
 μ-loop units i₀ i = length units - i
 
+all-bytes-requires : tie.Need-all-bytes-requires Inv-loop μ-loop
+all-bytes-requires c κs = search needs
+
+returns : tie.Need-returns Inv-loop μ-loop
+returns c = sym (ap aboveOf (c .before .all-bytes .ensures (c .if1 .taken)))
+
 loop-holds : tie.Need-loop-holds Inv-loop μ-loop
 loop-holds c = refl
 
@@ -25,8 +31,8 @@ mul-unit c = search needs
 shared-slice-read-unit : tie.Need-shared-slice-read-unit Inv-loop μ-loop
 shared-slice-read-unit c = search needs
 
-returns : tie.Need-returns Inv-loop μ-loop
-returns c = ap aboveOf (sym (above-found _ _ (c .before .before .loop-test .taken) (c .if1 .taken)) ∙ c .before .before .before .loop .inv)
+returns-2 : tie.Need-returns-2 Inv-loop μ-loop
+returns-2 c = ap aboveOf (sym (above-found _ _ (c .before .before .loop-test .taken) (c .if2 .taken)) ∙ c .before .before .before .loop .inv)
 
 add-i : tie.Need-add-i Inv-loop μ-loop
 add-i c = search needs
@@ -35,10 +41,10 @@ loop-less : tie.Need-loop-less Inv-loop μ-loop
 loop-less c = search needs
 
 loop-again : tie.Need-loop-again Inv-loop μ-loop
-loop-again c = sym (above-passed _ _ (c .before .before .loop-test .taken) (c .if1 .left)) ∙ c .before .before .before .loop .inv
+loop-again c = sym (above-passed _ _ (c .before .before .loop-test .taken) (c .if2 .left)) ∙ c .before .before .before .loop .inv
 
-returns-2 : tie.Need-returns-2 Inv-loop μ-loop
-returns-2 c = ap aboveOf (sym (above-end _ _ (c .loop-test .left)) ∙ c .before .loop .inv)
+returns-3 : tie.Need-returns-3 Inv-loop μ-loop
+returns-3 c = ap aboveOf (sym (above-end _ _ (c .loop-test .left)) ∙ c .before .loop .inv)
 
 pub first-above-255-spec : {M : Type 1} → statement M
 first-above-255-spec =
@@ -46,11 +52,13 @@ first-above-255-spec =
     (tie.spec
     Inv-loop
     μ-loop
+    all-bytes-requires
+    returns
     loop-holds
     mul-unit
     shared-slice-read-unit
-    returns
+    returns-2
     add-i
     loop-less
     loop-again
-    returns-2)
+    returns-3)
