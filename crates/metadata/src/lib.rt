@@ -54,7 +54,7 @@ fn head_alone(kind: u8, sheet: &mut [u8], text: &mut [u8]) -> Outcome
     }
 }
 
-// A d1 of 256 units at most, as most classes have: a frame of 6 KB.
+// A d1 of 256 units at most, as most classes have: a frame of 5 KB.
 fn read_small(
     kind: u8,
     d1: &[u16],
@@ -72,8 +72,8 @@ fn read_small(
     let mut firsts = [0u64; 129];
     let mut entry_starts = [0u32; 128];
     let mut entry_ends = [0u32; 128];
-    let mut scratch_sheet = [0u8; 1024];
-    let mut scratch_text = [0u8; 2048];
+    let mut scratch_sheet = [0u8; 512];
+    let mut scratch_text = [0u8; 1024];
     let core = decode_in(
         kind,
         d1,
@@ -96,7 +96,7 @@ fn read_small(
     }
 }
 
-// A d1 of 2,048 units at most: a frame of 49 KB.
+// A d1 of 1,024 units at most: a frame of 21 KB.
 fn read_medium(
     kind: u8,
     d1: &[u16],
@@ -105,17 +105,59 @@ fn read_medium(
     sheet: &mut [u8],
     text: &mut [u8],
 ) -> Outcome
-    requires { ⌜ Kept (now d1) (now d2) (now ends) × (length (now d1) ≤ 2048) ⌝ }
+    requires { ⌜ Kept (now d1) (now d2) (now ends) × (length (now d1) ≤ 1024) ⌝ }
     ensures { λ r. ⌜ answered (now (sheet .entry)) (now (text .entry)) kind (readingOf kind (now (d1 .entry)) (now (d2 .entry)) (now (ends .entry))) ≡ told r (now (sheet .exit)) (now (text .exit)) ⌝ }
 {
-    let mut bytes = [0u8; 2048];
-    let mut starts = [0u32; 1024];
-    let mut stops = [0u32; 1024];
-    let mut firsts = [0u64; 1025];
-    let mut entry_starts = [0u32; 1024];
-    let mut entry_ends = [0u32; 1024];
-    let mut scratch_sheet = [0u8; 6144];
-    let mut scratch_text = [0u8; 16384];
+    let mut bytes = [0u8; 1024];
+    let mut starts = [0u32; 512];
+    let mut stops = [0u32; 512];
+    let mut firsts = [0u64; 513];
+    let mut entry_starts = [0u32; 512];
+    let mut entry_ends = [0u32; 512];
+    let mut scratch_sheet = [0u8; 2048];
+    let mut scratch_text = [0u8; 6144];
+    let core = decode_in(
+        kind,
+        d1,
+        d2,
+        ends,
+        &mut bytes,
+        &mut starts,
+        &mut stops,
+        &mut firsts,
+        &mut entry_starts,
+        &mut entry_ends,
+        &mut scratch_sheet,
+        &mut scratch_text,
+        sheet,
+        text,
+    );
+    match core {
+        Core::Answered { outcome } => outcome,
+        Core::NoRoom => refused(0, 0),
+    }
+}
+
+// A d1 of 8,192 units at most: a frame of 164 KB.
+fn read_big(
+    kind: u8,
+    d1: &[u16],
+    d2: &[u16],
+    ends: &[u32],
+    sheet: &mut [u8],
+    text: &mut [u8],
+) -> Outcome
+    requires { ⌜ Kept (now d1) (now d2) (now ends) × (length (now d1) ≤ 8192) ⌝ }
+    ensures { λ r. ⌜ answered (now (sheet .entry)) (now (text .entry)) kind (readingOf kind (now (d1 .entry)) (now (d2 .entry)) (now (ends .entry))) ≡ told r (now (sheet .exit)) (now (text .exit)) ⌝ }
+{
+    let mut bytes = [0u8; 8192];
+    let mut starts = [0u32; 4096];
+    let mut stops = [0u32; 4096];
+    let mut firsts = [0u64; 4097];
+    let mut entry_starts = [0u32; 4096];
+    let mut entry_ends = [0u32; 4096];
+    let mut scratch_sheet = [0u8; 12288];
+    let mut scratch_text = [0u8; 45056];
     let core = decode_in(
         kind,
         d1,
@@ -192,8 +234,11 @@ fn read_longer(
     requires { ⌜ Kept (now d1) (now d2) (now ends) ⌝ }
     ensures { λ r. ⌜ answered (now (sheet .entry)) (now (text .entry)) kind (readingOf kind (now (d1 .entry)) (now (d2 .entry)) (now (ends .entry))) ≡ told r (now (sheet .exit)) (now (text .exit)) ⌝ }
 {
-    if d1.len() <= 2048 {
+    if d1.len() <= 1024 {
         return read_medium(kind, d1, d2, ends, sheet, text);
+    }
+    if d1.len() <= 8192 {
+        return read_big(kind, d1, d2, ends, sheet, text);
     }
     read_large(kind, d1, d2, ends, sheet, text)
 }
