@@ -49,6 +49,25 @@ module _ (ends : List ℕ) (units at i : ℕ) where
   unfolding endsFit
   ends-over h = rw (drop-of-length-le ends h)
 
+-- The same of ends some of which may have fallen before that place.
+module _ {whole : Bool} (ends : List ℕ) (units at i : ℕ) where
+  pub seen-fall : (falls : Bool) → i < length ends → getD ends i 0 < at → whole ≡ (if falls then false else endsFit at (drop i ends) units) → whole ≡ false
+  seen-fall true h l e = e
+  seen-fall false h l e = e ∙ ends-fall ends units at i h l
+
+  pub seen-next : (falls : Bool) → i < length ends → at ≤ getD ends i 0 → whole ≡ (if falls then false else endsFit at (drop i ends) units)
+      → whole ≡ (if falls then false else endsFit (getD ends i 0) (drop (i + 1) ends) units)
+  seen-next true h l e = e
+  seen-next false h l e = e ∙ ends-next ends units at i h l
+
+  pub seen-over : (falls : Bool) → length ends ≤ i → falls ≡ false → whole ≡ (if falls then false else endsFit at (drop i ends) units) → whole ≡ eqb at units
+  seen-over true h f e = cc
+  seen-over false h f e = e ∙ ends-over ends units at i h
+
+pub seen-fallen : {whole : Bool} (other falls : Bool) → falls ≡ true → whole ≡ (if falls then false else other) → whole ≡ false
+seen-fallen other true f e = e
+seen-fallen other false f e = cc
+
 -- A number of mv, read from its bits.
 pub major-read : (mv : List ℤ) (b : Bool) → mag (getD mv 0 (pos 0)) < 2 ^ 31 → ltZ supportedMajor (toZ w32 (ofZ w32 (getD mv 0 (pos 0)))) ≡ b
     → ltZ supportedMajor (getD mv 0 (pos 0)) ≡ b

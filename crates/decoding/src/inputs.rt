@@ -36,21 +36,31 @@ pub fn kind_of(k: i32) -> u8
     }
 }
 
-// Ends that don't fall and whose last (0 if there are none) is the unit count.
+fn wide(end: u32) -> usize
+    ensures { λ r. ⌜ r ≡ end ⌝ }
+{
+    end as usize
+}
+
+// Ends that don't fall and whose last (0 if there are none) is the unit count. The loop has no way out, so that the machine tests several at once.
 pub fn ends_fit(ends: &[u32], count: usize) -> bool
     ensures { λ r. ⌜ endsFit 0 (now (ends .entry)) count ≡ r ⌝ }
 {
-    let mut at: usize = 0;
+    let mut at: u32 = 0;
+    let mut falls = false;
     let mut i = 0;
     while i < ends.len() {
-        let end = ends[i] as usize;
-        if end < at {
-            return false;
-        }
-        at = end;
+        let last = at;
+        at = ends[i];
         i += 1;
+        if at < last {
+            falls = true;
+        }
     }
-    at == count
+    if falls {
+        return false;
+    }
+    wide(at) == count
 }
 
 // The first of refusals 1 to 4 that is due.
