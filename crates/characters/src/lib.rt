@@ -103,7 +103,7 @@ pub fn utf8_at(s: &[u8], at: usize) -> Character
     let FirstByte::Leads(bits, following, low, high) = first else {
         return replaced(next);
     };
-    go_on(s, next, bits, following, low, high)
+    go_on(&*s, next, bits, following, low, high)
 }
 
 fn wide_unit(unit: u16) -> u32
@@ -157,7 +157,7 @@ pub fn utf16_at(units: &[u16], at: usize, end: usize) -> Character
     if 0xdbff < unit {
         return replaced(next);
     }
-    paired_at(units, next, end, unit)
+    paired_at(&*units, next, end, unit)
 }
 
 // How many bytes UTF-8 gives a character.
@@ -188,7 +188,7 @@ pub fn find_place(s: &[u8], place: usize) -> Place
     let mut left = place;
     let mut at = 0;
     while 0 < left {
-        let character = utf8_at(s, at);
+        let character = utf8_at(&*s, at);
         let Character::Read { code, next } = character else {
             return Place::Nothing;
         };

@@ -73,15 +73,15 @@ pub fn measure(
     requires { ⌜ Kept (now bytes) (now d2) (now ends) ⌝ }
     ensures { λ r. ⌜ MeasuredTold kind (now (bytes .entry)) (now (d2 .entry)) (now (ends .entry)) (now (starts .exit)) (now (stops .exit)) (now (firsts .exit)) (now («entry_starts» .exit)) (now («entry_ends» .exit)) r (now («scratch_sheet» .exit)) (now («scratch_text» .exit)) ⌝ }
 {
-    let opened = open_payload(bytes, starts, stops, firsts, entry_starts, entry_ends);
+    let opened = open_payload(&*bytes, starts, stops, firsts, entry_starts, entry_ends);
     match opened {
         Opened::Body { at, tables } => {
             let walked = body_in(
                 kind,
-                bytes,
+                &*bytes,
                 at,
-                d2,
-                ends,
+                &*d2,
+                &*ends,
                 starts,
                 stops,
                 firsts,
@@ -141,15 +141,15 @@ fn write_out(
     }
     body_in(
         kind,
-        bytes,
+        &*bytes,
         at,
-        d2,
-        ends,
-        starts,
-        stops,
-        firsts,
-        entry_starts,
-        entry_ends,
+        &*d2,
+        &*ends,
+        &*starts,
+        &*stops,
+        &*firsts,
+        &*entry_starts,
+        &*entry_ends,
         tables,
         start(),
         sheet,
@@ -192,19 +192,19 @@ fn write_in(
     }
     write_out(
         kind,
-        bytes,
+        &*bytes,
         at,
-        d2,
-        ends,
-        starts,
-        stops,
-        firsts,
-        entry_starts,
-        entry_ends,
+        &*d2,
+        &*ends,
+        &*starts,
+        &*stops,
+        &*firsts,
+        &*entry_starts,
+        &*entry_ends,
         tables,
         end,
-        scratch_sheet,
-        scratch_text,
+        &*scratch_sheet,
+        &*scratch_text,
         sheet,
         text,
     );
@@ -238,9 +238,9 @@ pub fn read_in(
 {
     let measured = measure(
         kind,
-        bytes,
-        d2,
-        ends,
+        &*bytes,
+        &*d2,
+        &*ends,
         starts,
         stops,
         firsts,
@@ -253,10 +253,10 @@ pub fn read_in(
         Measured::Read { at, tables, end } => Core::Answered {
             outcome: write_in(
                 kind,
-                bytes,
+                &*bytes,
                 at,
-                d2,
-                ends,
+                &*d2,
+                &*ends,
                 starts,
                 stops,
                 firsts,
@@ -297,13 +297,13 @@ pub fn decode_in(
     requires { ⌜ Kept (now d1) (now d2) (now ends) ⌝ }
     ensures { λ r. ⌜ CoreTold kind (readingOf kind (now (d1 .entry)) (now (d2 .entry)) (now (ends .entry))) (FrameRoom (now (d1 .entry)) (now (bytes .exit)) (now (starts .exit)) (now (stops .exit)) (now (firsts .exit)) (now («entry_starts» .exit)) (now («entry_ends» .exit))) r (now (sheet .entry)) (now (sheet .exit)) (now (text .entry)) (now (text .exit)) ⌝ }
 {
-    let decoded = decode(d1, bytes);
+    let decoded = decode(&*d1, bytes);
     match decoded {
         Decoded::Bytes { length } => read_in(
             kind,
             &bytes[..length],
-            d2,
-            ends,
+            &*d2,
+            &*ends,
             starts,
             stops,
             firsts,

@@ -76,7 +76,7 @@ pub fn fault_of(d1: &[u16], d2: &[u16], ends: &[u32], version: [i32; 3]) -> Faul
     if STRING_LIMIT < ends.len() {
         return Fault::D2TooLong;
     }
-    if !ends_fit(ends, d2.len()) {
+    if !ends_fit(&*ends, d2.len()) {
         return Fault::StringEnds;
     }
     // compared as signed: a negative major is read

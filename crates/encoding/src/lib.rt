@@ -112,7 +112,7 @@ pub fn decode(d1: &[u16], area: &mut [u8]) -> Decoded
     if d1.len() == 0 {
         return Decoded::Empty;
     }
-    if let Above::Unit(unit) = first_above_255(d1) {
+    if let Above::Unit(unit) = first_above_255(&*d1) {
         return Decoded::NotAByte { unit };
     }
     if d1[0] == BYTE_STRING_MARKER {
@@ -129,6 +129,6 @@ pub fn decode(d1: &[u16], area: &mut [u8]) -> Decoded
     if area.len() < length {
         return Decoded::NoRoom;
     }
-    unpack(d1, area);
+    unpack(&*d1, area);
     Decoded::Bytes { length }
 }

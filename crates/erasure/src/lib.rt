@@ -170,8 +170,8 @@ fn is_joined(name: &[u8], first: &[u8], second: &[u8]) -> bool
     if name.len() < n {
         return false;
     }
-    if equal(&name[..n], first) {
-        return equal(&name[n..], second);
+    if equal(&name[..n], &*first) {
+        return equal(&name[n..], &*second);
     }
     false
 }
@@ -202,7 +202,7 @@ fn is_listed(name: &[u8], row: usize) -> bool
     let start = wide16(starts[row]);
     let end = wide16(starts[row + 1]);
     let names: &[u8] = &NAMES;
-    is_joined(name, b"kotlin/", &names[start..end])
+    is_joined(&*name, b"kotlin/", &names[start..end])
 }
 
 fn meaning_at(row: usize) -> Meaning
@@ -225,11 +225,11 @@ fn meaning_at(row: usize) -> Meaning
 pub fn meaning_of(name: &[u8]) -> Meaning
     ensures { λ r. ⌜ Means (now (name .entry)) r ⌝ }
 {
-    let row = row_of(name);
+    let row = row_of(&*name);
     if 36 <= row {
         return Meaning::Other;
     }
-    if is_listed(name, row) {
+    if is_listed(&*name, row) {
         return meaning_at(row);
     }
     Meaning::Other

@@ -23,7 +23,7 @@ pub extern "C" fn sheet_read(
     ensures { λ _. ⌜ read (now (sheet .entry)) (now (text .entry)) (input k (major ∷ minor ∷ patch ∷ []) (now (d1 .entry)) (now (d2 .entry)) (now (ends .entry))) ≡ toldIn (now (answer .exit)) (now (sheet .exit)) (now (text .exit)) ⌝ }
 {
     let version = [major, minor, patch];
-    let r = read(k, version, d1, d2, ends, sheet, text);
+    let r = read(k, version, &*d1, &*d2, &*ends, sheet, text);
     *answer = [
         r.number,
         r.detail,

@@ -41,9 +41,9 @@ fn lent_body(
 {
     let core = decode_in(
         kind,
-        d1,
-        d2,
-        ends,
+        &*d1,
+        &*d2,
+        &*ends,
         bytes,
         starts,
         stops,
@@ -57,7 +57,7 @@ fn lent_body(
     );
     match core {
         Core::Answered { outcome } => outcome,
-        Core::NoRoom => read_any(kind, d1, d2, ends, sheet, text),
+        Core::NoRoom => read_any(kind, &*d1, &*d2, &*ends, sheet, text),
     }
 }
 
@@ -88,9 +88,9 @@ fn lent_kind(
     }
     lent_body(
         kind,
-        d1,
-        d2,
-        ends,
+        &*d1,
+        &*d2,
+        &*ends,
         bytes,
         starts,
         stops,
@@ -123,15 +123,15 @@ fn lent_outcome(
 ) -> Outcome
     ensures { λ r. ⌜ read (now (sheet .entry)) (now (text .entry)) (input k version (now (d1 .entry)) (now (d2 .entry)) (now (ends .entry))) ≡ told r (now (sheet .exit)) (now (text .exit)) ⌝ }
 {
-    let fault = fault_of(d1, d2, ends, version);
+    let fault = fault_of(&*d1, &*d2, &*ends, version);
     let Fault::Nothing = fault else {
         return fault_refusal(fault);
     };
     lent_kind(
         kind_of(k),
-        d1,
-        d2,
-        ends,
+        &*d1,
+        &*d2,
+        &*ends,
         bytes,
         starts,
         stops,
@@ -168,9 +168,9 @@ pub fn read_lent(
     let outcome = lent_outcome(
         k,
         version,
-        d1,
-        d2,
-        ends,
+        &*d1,
+        &*d2,
+        &*ends,
         bytes,
         starts,
         stops,

@@ -76,9 +76,9 @@ fn read_small(
     let mut scratch_text = [0u8; 1024];
     let core = decode_in(
         kind,
-        d1,
-        d2,
-        ends,
+        &*d1,
+        &*d2,
+        &*ends,
         &mut bytes,
         &mut starts,
         &mut stops,
@@ -118,9 +118,9 @@ fn read_medium(
     let mut scratch_text = [0u8; 6144];
     let core = decode_in(
         kind,
-        d1,
-        d2,
-        ends,
+        &*d1,
+        &*d2,
+        &*ends,
         &mut bytes,
         &mut starts,
         &mut stops,
@@ -160,9 +160,9 @@ fn read_big(
     let mut scratch_text = [0u8; 45056];
     let core = decode_in(
         kind,
-        d1,
-        d2,
-        ends,
+        &*d1,
+        &*d2,
+        &*ends,
         &mut bytes,
         &mut starts,
         &mut stops,
@@ -202,9 +202,9 @@ fn read_large(
     let mut scratch_text = [0u8; 65536];
     let core = decode_in(
         kind,
-        d1,
-        d2,
-        ends,
+        &*d1,
+        &*d2,
+        &*ends,
         &mut bytes,
         &mut starts,
         &mut stops,
@@ -235,12 +235,12 @@ fn read_longer(
     ensures { λ r. ⌜ answered (now (sheet .entry)) (now (text .entry)) kind (readingOf kind (now (d1 .entry)) (now (d2 .entry)) (now (ends .entry))) ≡ told r (now (sheet .exit)) (now (text .exit)) ⌝ }
 {
     if d1.len() <= 1024 {
-        return read_medium(kind, d1, d2, ends, sheet, text);
+        return read_medium(kind, &*d1, &*d2, &*ends, sheet, text);
     }
     if d1.len() <= 8192 {
-        return read_big(kind, d1, d2, ends, sheet, text);
+        return read_big(kind, &*d1, &*d2, &*ends, sheet, text);
     }
-    read_large(kind, d1, d2, ends, sheet, text)
+    read_large(kind, &*d1, &*d2, &*ends, sheet, text)
 }
 
 // A kind that carries declarations. `read_longer` is called from two places, so that the compiler keeps its frames apart from this one's: a
@@ -257,12 +257,12 @@ fn read_any(
     ensures { λ r. ⌜ answered (now (sheet .entry)) (now (text .entry)) kind (readingOf kind (now (d1 .entry)) (now (d2 .entry)) (now (ends .entry))) ≡ told r (now (sheet .exit)) (now (text .exit)) ⌝ }
 {
     if d1.len() <= 256 {
-        return read_small(kind, d1, d2, ends, sheet, text);
+        return read_small(kind, &*d1, &*d2, &*ends, sheet, text);
     }
     if kind == 1 {
-        return read_longer(1, d1, d2, ends, sheet, text);
+        return read_longer(1, &*d1, &*d2, &*ends, sheet, text);
     }
-    read_longer(kind, d1, d2, ends, sheet, text)
+    read_longer(kind, &*d1, &*d2, &*ends, sheet, text)
 }
 
 // What the host has kept to, of a metadata kind.
@@ -283,7 +283,7 @@ fn read_kind(
     if kind == 4 {
         return head_alone(kind, sheet, text);
     }
-    read_any(kind, d1, d2, ends, sheet, text)
+    read_any(kind, &*d1, &*d2, &*ends, sheet, text)
 }
 
 // The answer without the version.
@@ -298,11 +298,11 @@ fn outcome_of(
 ) -> Outcome
     ensures { λ r. ⌜ read (now (sheet .entry)) (now (text .entry)) (input k version (now (d1 .entry)) (now (d2 .entry)) (now (ends .entry))) ≡ told r (now (sheet .exit)) (now (text .exit)) ⌝ }
 {
-    let fault = fault_of(d1, d2, ends, version);
+    let fault = fault_of(&*d1, &*d2, &*ends, version);
     let Fault::Nothing = fault else {
         return fault_refusal(fault);
     };
-    read_kind(kind_of(k), d1, d2, ends, sheet, text)
+    read_kind(kind_of(k), &*d1, &*d2, &*ends, sheet, text)
 }
 
 fn answer_of(outcome: Outcome, version: [i32; 3]) -> Answer
@@ -330,5 +330,8 @@ pub fn read(
 ) -> Answer
     ensures { λ r. ⌜ (read (now (sheet .entry)) (now (text .entry)) (input k version (now (d1 .entry)) (now (d2 .entry)) (now (ends .entry))) ≡ toldBy r (now (sheet .exit)) (now (text .exit))) × (r .version ≡ version) ⌝ }
 {
-    answer_of(outcome_of(k, version, d1, d2, ends, sheet, text), version)
+    answer_of(
+        outcome_of(k, version, &*d1, &*d2, &*ends, sheet, text),
+        version,
+    )
 }

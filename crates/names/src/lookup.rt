@@ -78,7 +78,7 @@ pub fn d2_extent(ends: &[u32], index: u32) -> Extent
 fn d2_name(ends: &[u32], index: u32) -> Name
     ensures { λ r. ⌜ ((payload units : List ℕ) → endsFit 0 (now (ends .entry)) (length units) ≡ true → d2String (stringsFrom 0 (now (ends .entry)) units) index ≡ ok (nameText payload units r)) ⌝ }
 {
-    let extent = d2_extent(ends, index);
+    let extent = d2_extent(&*ends, index);
     let Extent::Part { start, end } = extent else {
         return absent();
     };
@@ -128,7 +128,7 @@ fn read_record(bytes: &[u8], start: usize, end: usize) -> Decided
     let text = read.string;
     let predefined = read.predefined;
     if decides(text, predefined) {
-        let name = record_name(bytes, start, read);
+        let name = record_name(&*bytes, start, read);
         return Decided::Yes { name };
     }
     Decided::No
@@ -186,7 +186,7 @@ fn record_at(bytes: &[u8], start: usize, end: usize) -> Decided
             }
         }
     }
-    read_record(bytes, start, end)
+    read_record(&*bytes, start, end)
 }
 
 // The name that the record of an index builds, if it decides: it has a string or a predefined index, even if its text can't be built.
@@ -200,15 +200,15 @@ pub fn by_record(
 ) -> Decided
     ensures { λ r. ⌜ DecidedTold (now (bytes .entry)) (now (starts .entry)) (now (ends .entry)) (now (firsts .entry)) count index r ⌝ }
 {
-    let found = find_record(firsts, count, index);
+    let found = find_record(&*firsts, count, index);
     let Found::Record { at } = found else {
         return Decided::No;
     };
-    let place = place_of(bytes, starts, ends, at);
+    let place = place_of(&*bytes, &*starts, &*ends, at);
     let Extent::Part { start, end } = place else {
         return Decided::No;
     };
-    record_at(bytes, start, end)
+    record_at(&*bytes, start, end)
 }
 
 // The string with an index, of the name table whose index stands in `starts`, `ends` and `firsts`; d2's strings end at `d2ends`.
@@ -223,9 +223,9 @@ pub fn string(
 ) -> Name
     ensures { λ r. ⌜ ((units : List ℕ) (records : List Record) → endsFit 0 (now (d2ends .entry)) (length units) ≡ true → IndexOf (now (bytes .entry)) (now (starts .entry)) (now (ends .entry)) (now (firsts .entry)) count records → string (record { records = records; d2 = d2String (stringsFrom 0 (now (d2ends .entry)) units) }) index ≡ ok (nameText (now (bytes .entry)) units r)) ⌝ }
 {
-    let answer = by_record(bytes, starts, ends, firsts, count, index);
+    let answer = by_record(&*bytes, &*starts, &*ends, &*firsts, count, index);
     let Decided::Yes { name } = answer else {
-        return d2_name(d2ends, index);
+        return d2_name(&*d2ends, index);
     };
     name
 }

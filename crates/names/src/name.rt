@@ -148,9 +148,9 @@ pub fn base_text<'p, 'l: 'p>(
     ensures { λ r. ⌜ now r ≡ partFrom start end (baseOf source (now (payload .entry)) (now (list .entry))) ⌝ }
 {
     if source == 2 {
-        return part_of(shortened(list, payload), start, end);
+        return part_of(shortened(&*list, &*payload), start, end);
     }
-    part_of(payload, start, end)
+    part_of(&*payload, start, end)
 }
 
 // The same where both are lent for one lifetime, as to a caller that holds the list itself.
@@ -163,7 +163,7 @@ pub fn base_part<'a>(
 ) -> &'a [u8]
     ensures { λ r. ⌜ now r ≡ partFrom start end (baseOf source (now (payload .entry)) (now (list .entry))) ⌝ }
 {
-    base_text(payload, list, source, start, end)
+    base_text(&*payload, &*list, source, start, end)
 }
 
 // What is done to each character of a name, in this order.

@@ -35,7 +35,7 @@ fn last_of(s: &[u8]) -> Last
 {
     let mut at = 0;
     while at < s.len() {
-        let character = utf8_at(s, at);
+        let character = utf8_at(&*s, at);
         let Character::Read { code, next } = character else {
             return Last::Nothing;
         };
@@ -51,7 +51,7 @@ fn last_of(s: &[u8]) -> Last
 fn unwrapped_part(s: &[u8], from: u32, to: u32) -> Extent
     ensures { λ r. ⌜ UnwrapTold (now (s .entry)) from to r ⌝ }
 {
-    let character = utf8_at(s, 0);
+    let character = utf8_at(&*s, 0);
     let Character::Read { code, next } = character else {
         return Extent::Nothing;
     };
@@ -97,7 +97,7 @@ fn qualified_bytes(payload: &[u8], name: Name) -> Name
     if name.operation == 2 {
         return qualified_part(name, start, end);
     }
-    let s = base_part(payload, &PREDEFINED, source, start, end);
+    let s = base_part(&*payload, &PREDEFINED, source, start, end);
     let part = unwrapped_part(s, name.from, name.to);
     let Extent::Part { start: a, end: b } = part else {
         return qualified_part(name, start, end);
@@ -136,11 +136,11 @@ fn is_wrapped(units: &[u16], start: usize, end: usize) -> bool
 fn qualified_units(units: &[u16], ends: &[u32], index: u32) -> Name
     ensures { λ r. ⌜ QualifiedUnits (now (units .entry)) (now (ends .entry)) index r ⌝ }
 {
-    let extent = d2_extent(ends, index);
+    let extent = d2_extent(&*ends, index);
     let Extent::Part { start, end: limit } = extent else {
         return absent();
     };
-    let end = clipped(units, limit);
+    let end = clipped(&*units, limit);
     let name = Name {
         source: 3,
         start,
@@ -150,7 +150,7 @@ fn qualified_units(units: &[u16], ends: &[u32], index: u32) -> Name
         operation: 0,
         qualified: true,
     };
-    if is_wrapped(units, start, end) {
+    if is_wrapped(&*units, start, end) {
         return qualified_part(name, start + 1, end - 1);
     }
     name
@@ -169,9 +169,9 @@ pub fn qualified_name(
 ) -> Name
     ensures { λ r. ⌜ ((records : List Record) → endsFit 0 (now (d2ends .entry)) (length (now (units .entry))) ≡ true → IndexOf (now (bytes .entry)) (now (starts .entry)) (now (ends .entry)) (now (firsts .entry)) count records → qualifiedName (record { records = records; d2 = d2String (stringsFrom 0 (now (d2ends .entry)) (now (units .entry))) }) index ≡ ok (nameText (now (bytes .entry)) (now (units .entry)) r)) ⌝ }
 {
-    let answer = by_record(bytes, starts, ends, firsts, count, index);
+    let answer = by_record(&*bytes, &*starts, &*ends, &*firsts, count, index);
     let Decided::Yes { name } = answer else {
-        return qualified_units(units, d2ends, index);
+        return qualified_units(&*units, &*d2ends, index);
     };
-    qualified_bytes(bytes, name)
+    qualified_bytes(&*bytes, name)
 }

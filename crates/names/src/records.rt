@@ -100,7 +100,7 @@ fn firsts_in(s: &[u8], base: u32) -> Firsts
     };
     let mut at = 0;
     while at < s.len() {
-        let step = field_at(s, base, at);
+        let step = field_at(&*s, base, at);
         let FieldStep::Field {
             number,
             value,
@@ -178,7 +178,7 @@ fn two_in(s: &[u8], base: u32, number: u32, found: Found) -> Two
     let Found::Value { value: _ } = found else {
         return Two::Neither;
     };
-    let numbers = first_two(s, base, number);
+    let numbers = first_two(&*s, base, number);
     let FirstTwo::Numbers { two } = numbers else {
         return Two::Neither;
     };
@@ -200,7 +200,7 @@ pub struct Record {
 pub fn record_in(s: &[u8], base: u32) -> Record
     ensures { λ r. ⌜ RecordTold base (now (s .entry)) r ⌝ }
 {
-    let firsts = firsts_in(s, base);
+    let firsts = firsts_in(&*s, base);
     let range = firsts.range;
     let predefined = firsts.predefined;
     let operation = firsts.operation;
@@ -212,8 +212,8 @@ pub fn record_in(s: &[u8], base: u32) -> Record
         string: piece_in(string),
         predefined: index_in(predefined),
         operation: operation_in(operation),
-        substring: two_in(s, base, SUBSTRING_INDEX, substring),
-        replaced: two_in(s, base, REPLACE_CHAR, replaced),
+        substring: two_in(&*s, base, SUBSTRING_INDEX, substring),
+        replaced: two_in(&*s, base, REPLACE_CHAR, replaced),
     }
 }
 
@@ -277,7 +277,7 @@ fn note_records(
     let mut count: usize = 0;
     let mut i = at;
     while i < bytes.len() {
-        let piece = next_body(bytes, 0, RECORD, i);
+        let piece = next_body(&*bytes, 0, RECORD, i);
         let Piece::Body { start, end } = piece else {
             return RecordIndex::Records { count };
         };
@@ -316,7 +316,7 @@ pub fn index_records(
     if 4294967295 < at {
         return RecordIndex::NoRoom;
     }
-    let noted = note_records(bytes, at, starts, ends, firsts);
+    let noted = note_records(&*bytes, at, starts, ends, firsts);
     match noted {
         RecordIndex::Records { count } => {
             let checked = check_varints(&bytes[at..], at as u32, LOCAL_NAME);

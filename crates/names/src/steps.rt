@@ -51,7 +51,7 @@ fn substring(s: &[u8], first: usize, last: usize) -> Extent
     if last < first {
         return Extent::Nothing;
     }
-    let begins = find_place(s, first);
+    let begins = find_place(&*s, first);
     let Place::At { source: start } = begins else {
         return Extent::Nothing;
     };
@@ -112,7 +112,7 @@ fn part_of(payload: &[u8], source: u8, start: usize, end: usize, first: u32, las
     requires { ⌜ (0 < source) × (source ≤ 2) ⌝ }
     ensures { λ r. ⌜ PartTold (now (payload .entry)) (substringOf first last) source start end r ⌝ }
 {
-    let s = base_part(payload, &PREDEFINED, source, start, end);
+    let s = base_part(&*payload, &PREDEFINED, source, start, end);
     let part = substring(s, wide(first), wide(last));
     let Extent::Part { start: a, end: b } = part else {
         return Base::Nothing;
@@ -196,7 +196,7 @@ fn substring_of(payload: &[u8], source: u8, start: usize, end: usize, numbers: T
     ensures { λ r. ⌜ PartTold (now (payload .entry)) (stepped substringOf (bothOf numbers)) source start end r ⌝ }
 {
     match numbers {
-        Two::Both { first, second } => part_of(payload, source, start, end, first, second),
+        Two::Both { first, second } => part_of(&*payload, source, start, end, first, second),
         _ => Base::Part { source, start, end },
     }
 }
@@ -215,7 +215,7 @@ pub fn record_name(payload: &[u8], from: usize, read: Record) -> Name
     let Base::Part { source, start, end } = base else {
         return absent();
     };
-    let part = substring_of(payload, source, start, end, numbers);
+    let part = substring_of(&*payload, source, start, end, numbers);
     let Base::Part {
         source: of,
         start: a,

@@ -23,7 +23,7 @@ fn put_utf8(s: &[u8], change: Change, area: &mut [u8], at: usize) -> usize
     let mut i = 0;
     let mut to = at;
     loop {
-        let character = characters::utf8_at(s, i);
+        let character = characters::utf8_at(&*s, i);
         let Character::Read { code, next } = character else {
             return to;
         };
@@ -48,7 +48,7 @@ fn put_utf16(
     let mut i = start;
     let mut to = at;
     loop {
-        let character = characters::utf16_at(units, i, end);
+        let character = characters::utf16_at(&*units, i, end);
         let Character::Read { code, next } = character else {
             return to;
         };
@@ -65,18 +65,18 @@ fn put_bytes(s: &[u8], change: Change, area: &mut [u8], at: usize) -> usize
     ensures { λ r. ⌜ PutText (changedBytes change (fromUtf8 (now (s .entry)))) at r (now (area .entry)) (now (area .exit)) ⌝ }
 {
     if change.from == change.to {
-        if ascii::ascii_bytes(s) {
+        if ascii::ascii_bytes(&*s) {
             let next = at + s.len();
             if area.len() <= at {
                 return next;
             }
             if next <= area.len() {
-                ascii::copy_bytes(s, change.dots, change.slashes, area, at);
+                ascii::copy_bytes(&*s, change.dots, change.slashes, area, at);
                 return next;
             }
         }
     }
-    put_utf8(s, change, area, at)
+    put_utf8(&*s, change, area, at)
 }
 
 // Is a part of d2 there, and made of characters below 128?
@@ -89,7 +89,7 @@ fn plain_units(units: &[u16], start: usize, end: usize) -> bool
     if units.len() < end {
         return false;
     }
-    ascii::ascii_units(units, start, end)
+    ascii::ascii_units(&*units, start, end)
 }
 
 // The same of units of d2.
@@ -105,18 +105,18 @@ fn put_units(
     ensures { λ r. ⌜ PutText (changedBytes change (fromUtf16 (partFrom start end (now (units .entry))))) at r (now (area .entry)) (now (area .exit)) ⌝ }
 {
     if change.from == change.to {
-        if plain_units(units, start, end) {
+        if plain_units(&*units, start, end) {
             let next = at + (end - start);
             if area.len() <= at {
                 return next;
             }
             if next <= area.len() {
-                ascii::copy_units(units, start, end, change.dots, change.slashes, area, at);
+                ascii::copy_units(&*units, start, end, change.dots, change.slashes, area, at);
                 return next;
             }
         }
     }
-    put_utf16(units, start, end, change, area, at)
+    put_utf16(&*units, start, end, change, area, at)
 }
 
 // What operation 2 puts in front.
@@ -159,12 +159,12 @@ fn put_source(
     let start = name.start;
     let end = name.end;
     if source == 3 {
-        return put_units(d2, start, end, change, area, at);
+        return put_units(&*d2, start, end, change, area, at);
     }
     if source == 2 {
         return put_listed(start, end, change, area, at);
     }
-    put_bytes(part_of(payload, start, end), change, area, at)
+    put_bytes(part_of(&*payload, start, end), change, area, at)
 }
 
 // A name's text in UTF-8, as far as the area goes; an absent one has none. Answers the place after it.
@@ -188,7 +188,7 @@ pub fn put_name(
     }
     let change = change_of(name, slashes);
     let next = put_prefix(name.operation, slashes, area, at);
-    put_source(payload, d2, name, change, area, next)
+    put_source(&*payload, &*d2, name, change, area, next)
 }
 
 // Is the text of some bytes, each character changed, what `text` holds from a place on?
@@ -198,7 +198,7 @@ fn same_bytes(s: &[u8], change: Change, text: &[u8], from: usize) -> bool
     let mut i = 0;
     let mut k = from;
     loop {
-        let character = characters::utf8_at(s, i);
+        let character = characters::utf8_at(&*s, i);
         let Character::Read { code, next } = character else {
             return text.len() <= k;
         };
@@ -227,7 +227,7 @@ fn same_units(
     let mut i = start;
     let mut k = from;
     loop {
-        let character = characters::utf16_at(units, i, end);
+        let character = characters::utf16_at(&*units, i, end);
         let Character::Read { code, next } = character else {
             return text.len() <= k;
         };
@@ -271,12 +271,12 @@ fn skip_prefix(operation: u8, slashes: bool, text: &[u8]) -> Prefix
         return Prefix::Ends { at: 0 };
     }
     if slashes {
-        if begins(text, b"kotlin/collections/") {
+        if begins(&*text, b"kotlin/collections/") {
             return Prefix::Ends { at: 19 };
         }
         return Prefix::Missing;
     }
-    if begins(text, b"kotlin.collections.") {
+    if begins(&*text, b"kotlin.collections.") {
         return Prefix::Ends { at: 19 };
     }
     Prefix::Missing
@@ -286,7 +286,7 @@ fn skip_prefix(operation: u8, slashes: bool, text: &[u8]) -> Prefix
 fn same_listed(start: usize, end: usize, change: Change, text: &[u8], from: usize) -> bool
     ensures { λ r. ⌜ r ≡ sameFrom change (fromUtf8 (partFrom start end predefinedList)) (now (text .entry)) from ⌝ }
 {
-    same_bytes(part_of(&PREDEFINED, start, end), change, text, from)
+    same_bytes(part_of(&PREDEFINED, start, end), change, &*text, from)
 }
 
 // Are the characters of a name's source, changed, what `text` holds from a place on?
@@ -305,12 +305,12 @@ fn same_source(
     let start = name.start;
     let end = name.end;
     if source == 3 {
-        return same_units(d2, start, end, change, text, from);
+        return same_units(&*d2, start, end, change, &*text, from);
     }
     if source == 2 {
-        return same_listed(start, end, change, text, from);
+        return same_listed(start, end, change, &*text, from);
     }
-    same_bytes(part_of(payload, start, end), change, text, from)
+    same_bytes(part_of(&*payload, start, end), change, &*text, from)
 }
 
 // Is the name there, and `text` its text? The bytes of `text` stand for characters of their number.
@@ -324,10 +324,10 @@ pub fn same_name(payload: &[u8], d2: &[u16], name: Name, slashes: bool, text: &[
     if 3 < source {
         return false;
     }
-    let prefix = skip_prefix(name.operation, slashes, text);
+    let prefix = skip_prefix(name.operation, slashes, &*text);
     let Prefix::Ends { at } = prefix else {
         return false;
     };
     let change = change_of(name, slashes);
-    same_source(payload, d2, name, change, text, at)
+    same_source(&*payload, &*d2, name, change, &*text, at)
 }

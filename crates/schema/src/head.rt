@@ -143,7 +143,7 @@ fn seen_in(msg: &[u8], base: u32) -> Seen
     };
     let mut at = 0;
     while at < msg.len() {
-        let step = field_at(msg, base, at);
+        let step = field_at(&*msg, base, at);
         let FieldStep::Field {
             number,
             value,
@@ -162,7 +162,7 @@ fn seen_in(msg: &[u8], base: u32) -> Seen
 pub fn type_head(msg: &[u8], base: u32) -> TypeHead
     ensures { λ r. ⌜ HeadTold base (now (msg .entry)) r ⌝ }
 {
-    let seen = seen_in(msg, base);
+    let seen = seen_in(&*msg, base);
     let name = seen.name;
     TypeHead {
         name,

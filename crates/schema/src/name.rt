@@ -30,11 +30,19 @@ pub fn name_in(
 ) -> Name
     ensures { λ r. ⌜ ((units : List ℕ) (s : Scope) → NamesOf (now (payload .entry)) units (now (ends .entry)) (now (starts .entry)) (now (stops .entry)) (now (firsts .entry)) records (s .names) → (m : Message) → cut (_from_ base (now (msg .entry))) ≡ ok m → (l : ℕ) → nameIn s number m l ≡ ok (nameText (now (payload .entry)) units r, l)) ⌝ }
 {
-    let found = index(msg, base, number);
+    let found = index(&*msg, base, number);
     let Indexed::At { index } = found else {
         return absent();
     };
-    string(payload, starts, stops, firsts, records, ends, index)
+    string(
+        &*payload,
+        &*starts,
+        &*stops,
+        &*firsts,
+        records,
+        &*ends,
+        index,
+    )
 }
 
 // The class name at an index that was found in a field.
@@ -53,7 +61,16 @@ pub fn class_name_at(
     let Indexed::At { index } = found else {
         return absent();
     };
-    qualified_name(payload, starts, stops, firsts, records, d2, ends, index)
+    qualified_name(
+        &*payload,
+        &*starts,
+        &*stops,
+        &*firsts,
+        records,
+        &*d2,
+        &*ends,
+        index,
+    )
 }
 
 // The class name at the index in a field.
@@ -71,6 +88,15 @@ pub fn class_name_in(
 ) -> Name
     ensures { λ r. ⌜ ((s : Scope) → NamesOf (now (payload .entry)) (now (d2 .entry)) (now (ends .entry)) (now (starts .entry)) (now (stops .entry)) (now (firsts .entry)) records (s .names) → (m : Message) → cut (_from_ base (now (msg .entry))) ≡ ok m → (l : ℕ) → classNameIn s number m l ≡ ok (nameText (now (payload .entry)) (now (d2 .entry)) r, l)) ⌝ }
 {
-    let found = index(msg, base, number);
-    class_name_at(found, payload, d2, ends, starts, stops, firsts, records)
+    let found = index(&*msg, base, number);
+    class_name_at(
+        found,
+        &*payload,
+        &*d2,
+        &*ends,
+        &*starts,
+        &*stops,
+        &*firsts,
+        records,
+    )
 }

@@ -37,7 +37,7 @@ fn entry_place(
     if left == 0 {
         return Found::Nothing;
     }
-    let entry = entry_at(payload, entry_starts, entry_ends, tables.types, index);
+    let entry = entry_at(&*payload, &*entry_starts, &*entry_ends, tables.types, index);
     let Piece::Body { start, end } = entry else {
         return Found::Nothing;
     };
@@ -82,7 +82,7 @@ fn type_place(
             let Indexed::At { index: i } = found else {
                 return Found::Nothing;
             };
-            entry_place(i, left, payload, entry_starts, entry_ends, tables)
+            entry_place(i, left, &*payload, &*entry_starts, &*entry_ends, tables)
         }
     }
 }
@@ -102,14 +102,14 @@ pub fn declared_place(
     ensures { λ r. ⌜ DeclaredFound (now (payload .entry)) (now («entry_starts» .entry)) (now («entry_ends» .entry)) tables start end inline indexed r ⌝ }
 {
     type_place(
-        payload,
+        &*payload,
         start,
         end,
         inline,
         indexed,
         MAX_DEPTH,
-        entry_starts,
-        entry_ends,
+        &*entry_starts,
+        &*entry_ends,
         tables,
     )
 }
@@ -137,14 +137,14 @@ pub fn first_argument(
         let first = start + a;
         let last = start + b;
         let found = type_place(
-            payload,
+            &*payload,
             first,
             last,
             ARGUMENT_TYPE,
             ARGUMENT_TYPE_ID,
             left,
-            entry_starts,
-            entry_ends,
+            &*entry_starts,
+            &*entry_ends,
             tables,
         );
         let Found::Nothing = found else {

@@ -52,7 +52,7 @@ pub fn put_named(
             types: state.types,
         };
     }
-    let next = put_name(payload, d2, name, false, text, offset);
+    let next = put_name(&*payload, &*d2, name, false, text, offset);
     put_ref(sheet, at, offset as u64, (next - offset) as u64);
     State {
         sheet: at + 4,
@@ -138,8 +138,8 @@ pub fn put_signature(
     if !is_there(descriptor) {
         return put_unsigned(state, sheet);
     }
-    let next = put_named(payload, d2, name, state, sheet, text);
-    put_named(payload, d2, descriptor, next, sheet, text)
+    let next = put_named(&*payload, &*d2, name, state, sheet, text);
+    put_named(&*payload, &*d2, descriptor, next, sheet, text)
 }
 
 // The name of a constructor whose signature has none.
@@ -173,13 +173,13 @@ fn put_init_signature(
     let name = signature.name;
     let descriptor = signature.descriptor;
     if is_there(name) {
-        return put_signature(payload, d2, signature, state, sheet, text);
+        return put_signature(&*payload, &*d2, signature, state, sheet, text);
     }
     if !is_there(descriptor) {
         return put_unsigned(state, sheet);
     }
     let next = put_init(state, sheet, text);
-    put_named(payload, d2, descriptor, next, sheet, text)
+    put_named(&*payload, &*d2, descriptor, next, sheet, text)
 }
 
 // Kind 2, up to the parameter count.
@@ -197,7 +197,7 @@ pub fn put_constructor(
 {
     let begun = put_kind(2, state, sheet);
     let flagged = put_wide(8, flags, begun, sheet);
-    put_init_signature(payload, d2, signature, flagged, sheet, text)
+    put_init_signature(&*payload, &*d2, signature, flagged, sheet, text)
 }
 
 // Kind 3, up to the parameter count.
@@ -216,9 +216,9 @@ pub fn put_function(
     ensures { λ r. ⌜ PutHead 3 (functionCells (nameText (now (payload .entry)) (now (d2 .entry)) name) flags (signatureBy (now (payload .entry)) (now (d2 .entry)) signature) receiver) (state .types) state r (now (sheet .entry)) (now (sheet .exit)) (now (text .entry)) (now (text .exit)) ⌝ }
 {
     let begun = put_kind(3, state, sheet);
-    let named = put_named(payload, d2, name, begun, sheet, text);
+    let named = put_named(&*payload, &*d2, name, begun, sheet, text);
     let flagged = put_wide(8, flags, named, sheet);
-    let signed = put_signature(payload, d2, signature, flagged, sheet, text);
+    let signed = put_signature(&*payload, &*d2, signature, flagged, sheet, text);
     put_flag(receiver, signed, sheet)
 }
 
@@ -254,9 +254,9 @@ fn put_property_signatures(
     requires { ⌜ Room (2 ^ 61 + 2 ^ 60) (now payload) (now d2) state ⌝ }
     ensures { λ r. ⌜ PutCells (propertySignatures (signatureBy (now (payload .entry)) (now (d2 .entry)) field) (signatureBy (now (payload .entry)) (now (d2 .entry)) getter) (signatureBy (now (payload .entry)) (now (d2 .entry)) setter)) (state .types) state r (now (sheet .entry)) (now (sheet .exit)) (now (text .entry)) (now (text .exit)) ⌝ }
 {
-    let first = put_signature(payload, d2, field, state, sheet, text);
-    let second = put_signature(payload, d2, getter, first, sheet, text);
-    put_signature(payload, d2, setter, second, sheet, text)
+    let first = put_signature(&*payload, &*d2, field, state, sheet, text);
+    let second = put_signature(&*payload, &*d2, getter, first, sheet, text);
+    put_signature(&*payload, &*d2, setter, second, sheet, text)
 }
 
 // Kind 4, whole.
@@ -279,7 +279,7 @@ pub fn put_property(
     ensures { λ r. ⌜ PutRows (row 4 (propertyCells (nameText (now (payload .entry)) (now (d2 .entry)) name) flags receiver «getter_default» «setter_default» (signatureBy (now (payload .entry)) (now (d2 .entry)) field) (signatureBy (now (payload .entry)) (now (d2 .entry)) getter) (signatureBy (now (payload .entry)) (now (d2 .entry)) setter)) ∷ []) (state .types) state r (now (sheet .entry)) (now (sheet .exit)) (now (text .entry)) (now (text .exit)) ⌝ }
 {
     let begun = put_kind(4, state, sheet);
-    let named = put_named(payload, d2, name, begun, sheet, text);
+    let named = put_named(&*payload, &*d2, name, begun, sheet, text);
     let flagged = put_property_flags(
         flags,
         receiver,
@@ -288,7 +288,7 @@ pub fn put_property(
         named,
         sheet,
     );
-    put_property_signatures(payload, d2, field, getter, setter, flagged, sheet, text)
+    put_property_signatures(&*payload, &*d2, field, getter, setter, flagged, sheet, text)
 }
 
 // Kind 5, whole.
@@ -305,7 +305,7 @@ pub fn put_parameter(
     ensures { λ r. ⌜ PutRows (row 5 (parameterCells (nameText (now (payload .entry)) (now (d2 .entry)) name) default) ∷ []) (state .types) state r (now (sheet .entry)) (now (sheet .exit)) (now (text .entry)) (now (text .exit)) ⌝ }
 {
     let begun = put_kind(5, state, sheet);
-    let named = put_named(payload, d2, name, begun, sheet, text);
+    let named = put_named(&*payload, &*d2, name, begun, sheet, text);
     put_flag(default, named, sheet)
 }
 
@@ -356,7 +356,7 @@ pub fn put_head(
 {
     let begun = put_kind(1, state, sheet);
     let told = put_wide(1, kind as u64, begun, sheet);
-    let named = put_named(payload, d2, name, told, sheet, text);
+    let named = put_named(&*payload, &*d2, name, told, sheet, text);
     put_wide(8, flags, named, sheet)
 }
 

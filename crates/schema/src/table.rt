@@ -56,7 +56,7 @@ fn note_entries(bytes: &[u8], at: usize, starts: &mut [u32], ends: &mut [u32]) -
     let mut count: usize = 0;
     let mut i = at;
     loop {
-        let piece = next_body(bytes, 0, TYPE, i);
+        let piece = next_body(&*bytes, 0, TYPE, i);
         let Piece::Body { start, end } = piece else {
             return Entries::Noted { count };
         };
@@ -82,7 +82,7 @@ fn note_entries(bytes: &[u8], at: usize, starts: &mut [u32], ends: &mut [u32]) -
 fn first_nullable(table: &[u8], base: u32) -> u64
     ensures { λ r. ⌜ ((m : Message) → cut (_from_ base (now (table .entry))) ≡ ok m → index TypeTable·first-nullable m ≡ as32 r) ⌝ }
 {
-    let found = index(table, base, FIRST_NULLABLE);
+    let found = index(&*table, base, FIRST_NULLABLE);
     let Indexed::At { index: first } = found else {
         return NONE;
     };
@@ -129,7 +129,13 @@ pub fn index_types(
     }
     let table = message(&payload[at..], at as u32, number);
     match table {
-        Embedded::Inline { start, end } => note_table(payload, at + start, at + end, starts, ends),
+        Embedded::Inline { start, end } => note_table(
+            &*payload,
+            at + start,
+            at + end,
+            starts,
+            ends,
+        ),
         Embedded::Refused { error } => TypeIndex::Refused { error },
         Embedded::Nothing => TypeIndex::Types {
             count: 0,

@@ -47,7 +47,7 @@ pub fn is_nullable(msg: &[u8], base: u32, said: bool) -> bool
     if said {
         return true;
     }
-    flag(msg, base, NULLABLE)
+    flag(&*msg, base, NULLABLE)
 }
 
 // Where an entry of the type table stands, if there is one at the index.

@@ -62,7 +62,7 @@ pub fn put_all(area: &mut [u8], at: usize, src: &[u8])
     }
     let room = area.len() - at;
     if src.len() <= room {
-        copy_in(area, at, src);
+        copy_in(area, at, &*src);
     } else {
         copy_in(area, at, &src[..room]);
     }

@@ -62,7 +62,7 @@ fn index_in(found: Found) -> Indexed
 pub fn type_field(msg: &[u8], base: u32, inline: u32, indexed: u32) -> Argument
     ensures { λ r. ⌜ TypeFieldTold base (now (msg .entry)) inline indexed r ⌝ }
 {
-    let found = find_two(msg, base, inline, indexed);
+    let found = find_two(&*msg, base, inline, indexed);
     let first = found.first;
     let piece = bytes_in(first);
     let Piece::Body { start, end } = piece else {
@@ -113,18 +113,18 @@ fn is_kept(
 ) -> bool
     ensures { λ r. ⌜ KeptTold (now (payload .entry)) (now («entry_starts» .entry)) (now («entry_ends» .entry)) tables (now (msg .entry)) base left r ⌝ }
 {
-    let inner = bytes(msg, base, ARGUMENT_TYPE);
+    let inner = bytes(&*msg, base, ARGUMENT_TYPE);
     let Piece::Nothing = inner else {
         return true;
     };
     if left == 0 {
         return false;
     }
-    let found = index(msg, base, ARGUMENT_TYPE_ID);
+    let found = index(&*msg, base, ARGUMENT_TYPE_ID);
     let Indexed::At { index: i } = found else {
         return false;
     };
-    let entry = entry_at(payload, entry_starts, entry_ends, tables.types, i);
+    let entry = entry_at(&*payload, &*entry_starts, &*entry_ends, tables.types, i);
     let Piece::Nothing = entry else {
         return true;
     };
@@ -147,7 +147,7 @@ pub fn count_kept(
     let mut at = 0;
     let mut count: usize = 0;
     loop {
-        let piece = next_body(msg, base, ARGUMENT, at);
+        let piece = next_body(&*msg, base, ARGUMENT, at);
         let Piece::Body { start, end } = piece else {
             return count;
         };
@@ -156,9 +156,9 @@ pub fn count_kept(
             &msg[start..end],
             base + start as u32,
             left,
-            payload,
-            entry_starts,
-            entry_ends,
+            &*payload,
+            &*entry_starts,
+            &*entry_ends,
             tables,
         ) {
             count += 1;

@@ -56,7 +56,7 @@ fn put_type(
         text: state.text,
         types: state.types - 1,
     };
-    let head = put_named(payload, d2, name, entered, sheet, text);
+    let head = put_named(&*payload, &*d2, name, entered, sheet, text);
     let counted = head.sheet;
     put_number(sheet, counted, 2, count as u64);
     State {
@@ -98,14 +98,22 @@ fn count_arguments(
     if !some {
         return Counted::Count { count: 0 };
     }
-    let checked = check_messages(msg, base, ARGUMENT);
+    let checked = check_messages(&*msg, base, ARGUMENT);
     let Checked::Whole = checked else {
         return Counted::Refused {
             error: checked.error(),
         };
     };
     Counted::Count {
-        count: count_kept(msg, base, left, payload, entry_starts, entry_ends, tables),
+        count: count_kept(
+            &*msg,
+            base,
+            left,
+            &*payload,
+            &*entry_starts,
+            &*entry_ends,
+            tables,
+        ),
     }
 }
 
@@ -138,15 +146,15 @@ pub fn enter_type(
             stop: Stop::TooManyTypes,
         };
     }
-    let own = type_head(msg, base);
+    let own = type_head(&*msg, base);
     let arguments = count_arguments(
-        msg,
+        &*msg,
         base,
         less(left),
         own.arguments,
-        payload,
-        entry_starts,
-        entry_ends,
+        &*payload,
+        &*entry_starts,
+        &*entry_ends,
         tables,
     );
     match arguments {
@@ -158,15 +166,25 @@ pub fn enter_type(
             let found = own.name;
             let name = class_name_at(
                 found,
-                payload,
-                d2,
-                ends,
-                starts,
-                stops,
-                firsts,
+                &*payload,
+                &*d2,
+                &*ends,
+                &*starts,
+                &*stops,
+                &*firsts,
                 tables.records,
             );
-            let after = put_type(role, nulls, payload, d2, name, count, state, sheet, text);
+            let after = put_type(
+                role,
+                nulls,
+                &*payload,
+                &*d2,
+                name,
+                count,
+                state,
+                sheet,
+                text,
+            );
             Walked::Done { state: after }
         }
     }

@@ -72,7 +72,7 @@ pub fn arguments_at(
             continue;
         };
         at = to;
-        let argument = argument_at(msg, base, from, to);
+        let argument = argument_at(&*msg, base, from, to);
         match argument {
             Argument::Inline {
                 start: first,
@@ -84,14 +84,14 @@ pub fn arguments_at(
                     deep,
                     ARGUMENT_ROLE,
                     false,
-                    payload,
-                    d2,
-                    ends,
-                    starts,
-                    stops,
-                    firsts,
-                    entry_starts,
-                    entry_ends,
+                    &*payload,
+                    &*d2,
+                    &*ends,
+                    &*starts,
+                    &*stops,
+                    &*firsts,
+                    &*entry_starts,
+                    &*entry_ends,
                     tables,
                     next,
                     sheet,
@@ -113,14 +113,14 @@ pub fn arguments_at(
                     deep,
                     ARGUMENT_ROLE,
                     height,
-                    payload,
-                    d2,
-                    ends,
-                    starts,
-                    stops,
-                    firsts,
-                    entry_starts,
-                    entry_ends,
+                    &*payload,
+                    &*d2,
+                    &*ends,
+                    &*starts,
+                    &*stops,
+                    &*firsts,
+                    &*entry_starts,
+                    &*entry_ends,
                     tables,
                     next,
                     nest,
@@ -169,19 +169,19 @@ pub fn parse_at(
     ensures { λ r. ⌜ ParseTold (lent (now (payload .entry)) (now (d2 .entry)) (now (ends .entry)) (now (starts .entry)) (now (stops .entry)) (now (firsts .entry)) (now («entry_starts» .entry)) (now («entry_ends» .entry)) tables) (now (msg .entry)) base left role nullable state r (now (sheet .entry)) (now (sheet .exit)) (now (text .entry)) (now (text .exit)) × (take top (now (nest .exit)) ≡ take top (now (nest .entry))) ⌝ }
 {
     let entered = enter_type(
-        msg,
+        &*msg,
         base,
         left,
         role,
         nullable,
-        payload,
-        d2,
-        ends,
-        starts,
-        stops,
-        firsts,
-        entry_starts,
-        entry_ends,
+        &*payload,
+        &*d2,
+        &*ends,
+        &*starts,
+        &*stops,
+        &*firsts,
+        &*entry_starts,
+        &*entry_ends,
         tables,
         state,
         sheet,
@@ -191,18 +191,18 @@ pub fn parse_at(
         return entered;
     };
     arguments_at(
-        msg,
+        &*msg,
         base,
         less(left),
         top,
-        payload,
-        d2,
-        ends,
-        starts,
-        stops,
-        firsts,
-        entry_starts,
-        entry_ends,
+        &*payload,
+        &*d2,
+        &*ends,
+        &*starts,
+        &*stops,
+        &*firsts,
+        &*entry_starts,
+        &*entry_ends,
         tables,
         after,
         nest,
@@ -237,7 +237,7 @@ pub fn resolve_at(
     if left == 0 {
         return Picked::Dropped;
     }
-    let entry = entry_at(payload, entry_starts, entry_ends, tables.types, index);
+    let entry = entry_at(&*payload, &*entry_starts, &*entry_ends, tables.types, index);
     let Piece::Body { start, end } = entry else {
         return Picked::Dropped;
     };
@@ -249,14 +249,14 @@ pub fn resolve_at(
         role,
         nullable,
         top,
-        payload,
-        d2,
-        ends,
-        starts,
-        stops,
-        firsts,
-        entry_starts,
-        entry_ends,
+        &*payload,
+        &*d2,
+        &*ends,
+        &*starts,
+        &*stops,
+        &*firsts,
+        &*entry_starts,
+        &*entry_ends,
         tables,
         state,
         nest,

@@ -89,7 +89,7 @@ fn long_varint_at(s: &[u8], base: u32, at: usize) -> Varint
         scale *= 128;
         left -= 1;
     }
-    tenth_at(s, base, place, i, value)
+    tenth_at(&*s, base, place, i, value)
 }
 
 // The varint at a place. Most have one byte.
@@ -110,7 +110,7 @@ pub fn varint_at(s: &[u8], base: u32, at: usize) -> Varint
             next: at + 1,
         };
     }
-    long_varint_at(s, base, at)
+    long_varint_at(&*s, base, at)
 }
 
 // A number of `width` bytes, the lowest first.
@@ -150,7 +150,7 @@ fn fixed_at(s: &[u8], base: u32, at: usize, width: usize) -> ValueStep
             },
         };
     }
-    let number = fixed_number(s, at, width);
+    let number = fixed_number(&*s, at, width);
     ValueStep::Value {
         value: WireValue::Fixed { width, number },
         next: at + width,
@@ -185,7 +185,7 @@ pub fn delimited_at(s: &[u8], base: u32, at: usize) -> Delimited
             },
         };
     }
-    let size = varint_at(s, base, at);
+    let size = varint_at(&*s, base, at);
     let Varint::Read { value, next } = size else {
         return Delimited::Refused {
             error: size.error(),
@@ -235,10 +235,10 @@ fn value_at(s: &[u8], base: u32, place: usize, kind: u8, at: usize) -> ValueStep
     ensures { λ r. ⌜ ValueTold base (now (s .entry)) (readValue place kind (restOf base (now (s .entry)) at)) r ⌝ }
 {
     match kind {
-        0 => varint_value(varint_at(s, base, at)),
-        1 => fixed_at(s, base, at, 8),
-        2 => body_value(delimited_at(s, base, at)),
-        5 => fixed_at(s, base, at, 4),
+        0 => varint_value(varint_at(&*s, base, at)),
+        1 => fixed_at(&*s, base, at, 8),
+        2 => body_value(delimited_at(&*s, base, at)),
+        5 => fixed_at(&*s, base, at, 4),
         _ => ValueStep::Refused {
             error: WireError::WireType { kind, place },
         },
@@ -294,7 +294,7 @@ fn tagged_at(s: &[u8], base: u32, at: usize, tag: u64, next: usize) -> FieldStep
             error: WireError::FieldTooLarge { place },
         };
     }
-    let step = value_at(s, base, place, (tag % 8) as u8, next);
+    let step = value_at(&*s, base, place, (tag % 8) as u8, next);
     let ValueStep::Value { value, next: after } = step else {
         return FieldStep::Refused {
             error: step.error(),
@@ -353,11 +353,11 @@ fn long_field_at(s: &[u8], base: u32, at: usize) -> FieldStep
             },
         };
     }
-    let tag = long_varint_at(s, base, at);
+    let tag = long_varint_at(&*s, base, at);
     let Varint::Read { value, next } = tag else {
         return FieldStep::Refused { error: tag.error() };
     };
-    tagged_at(s, base, at, value, next)
+    tagged_at(&*s, base, at, value, next)
 }
 
 // The field at a place whose tag, which ends at `next`, and the varint after it have one or two bytes each.
@@ -382,11 +382,11 @@ fn short_field_at(
         };
     }
     if kind != 2 {
-        return tagged_at(s, base, at, tag, next);
+        return tagged_at(&*s, base, at, tag, next);
     }
     let left = (s.len() - start) as u64;
     if left < first {
-        return tagged_at(s, base, at, tag, next);
+        return tagged_at(&*s, base, at, tag, next);
     }
     let end = start + first as usize;
     FieldStep::Field {
@@ -400,16 +400,24 @@ fn short_field_at(
 pub fn field_at(s: &[u8], base: u32, at: usize) -> FieldStep
     ensures { λ r. ⌜ (at ≤ length (now (s .entry)) → FieldTold base (now (s .entry)) (readField (restOf base (now (s .entry)) at)) r) ⌝ }
 {
-    let tag = short_varint(s, at);
+    let tag = short_varint(&*s, at);
     if tag.size == 0 {
-        return long_field_at(s, base, at);
+        return long_field_at(&*s, base, at);
     }
     let next = at + tag.size;
-    let first = short_varint(s, next);
+    let first = short_varint(&*s, next);
     if first.size == 0 {
-        return tagged_at(s, base, at, tag.value, next);
+        return tagged_at(&*s, base, at, tag.value, next);
     }
-    short_field_at(s, base, at, tag.value, next, first.value, next + first.size)
+    short_field_at(
+        &*s,
+        base,
+        at,
+        tag.value,
+        next,
+        first.value,
+        next + first.size,
+    )
 }
 
 // Where the field at a place ends, if its tag and the varint after it have one or two bytes each, and its number is neither `one` nor
@@ -417,7 +425,7 @@ pub fn field_at(s: &[u8], base: u32, at: usize) -> FieldStep
 fn short_end(s: &[u8], one: u32, other: u32, at: usize) -> usize
     ensures { λ r. ⌜ SkipTold (now (s .entry)) one at r × SkipTold (now (s .entry)) other at r ⌝ }
 {
-    let tag = short_varint(s, at);
+    let tag = short_varint(&*s, at);
     if tag.size == 0 {
         return at;
     }
@@ -429,7 +437,7 @@ fn short_end(s: &[u8], one: u32, other: u32, at: usize) -> usize
         return at;
     }
     let next = at + tag.size;
-    let first = short_varint(s, next);
+    let first = short_varint(&*s, next);
     if first.size == 0 {
         return at;
     }
@@ -454,7 +462,7 @@ pub fn skip_two(s: &[u8], one: u32, other: u32, at: usize) -> usize
 {
     let mut i = at;
     loop {
-        let end = short_end(s, one, other, i);
+        let end = short_end(&*s, one, other, i);
         if end <= i {
             return i;
         }
@@ -466,5 +474,5 @@ pub fn skip_two(s: &[u8], one: u32, other: u32, at: usize) -> usize
 pub fn skip_fields(s: &[u8], number: u32, at: usize) -> usize
     ensures { λ r. ⌜ SkipTold (now (s .entry)) number at r ⌝ }
 {
-    skip_two(s, number, number, at)
+    skip_two(&*s, number, number, at)
 }

@@ -37,9 +37,9 @@ impl Checked {
 pub fn check_from(s: &[u8], base: u32, at: usize) -> Checked
     ensures { λ r. ⌜ CheckedTold (cut (restOf base (now (s .entry)) at)) r ⌝ }
 {
-    let mut i = skip_fields(s, NO_NUMBER, at);
+    let mut i = skip_fields(&*s, NO_NUMBER, at);
     while i < s.len() {
-        let step = field_at(s, base, i);
+        let step = field_at(&*s, base, i);
         let FieldStep::Field {
             number: _,
             value: _,
@@ -50,7 +50,7 @@ pub fn check_from(s: &[u8], base: u32, at: usize) -> Checked
                 error: step.error(),
             };
         };
-        i = skip_fields(s, NO_NUMBER, next);
+        i = skip_fields(&*s, NO_NUMBER, next);
     }
     Checked::Whole
 }
@@ -59,7 +59,7 @@ pub fn check_from(s: &[u8], base: u32, at: usize) -> Checked
 pub fn check(s: &[u8], base: u32) -> Checked
     ensures { λ r. ⌜ CheckedTold (cut (_from_ base (now (s .entry)))) r ⌝ }
 {
-    check_from(s, base, 0)
+    check_from(&*s, base, 0)
 }
 
 pub enum Found {
@@ -71,7 +71,7 @@ pub enum Found {
 fn short_found(s: &[u8], number: u32, at: usize) -> Found
     ensures { λ r. ⌜ FoundAt (now (s .entry)) number at r ⌝ }
 {
-    let tag = short_varint(s, at);
+    let tag = short_varint(&*s, at);
     if tag.size == 0 {
         return Found::Nothing;
     }
@@ -79,7 +79,7 @@ fn short_found(s: &[u8], number: u32, at: usize) -> Found
         return Found::Nothing;
     }
     let next = at + tag.size;
-    let first = short_varint(s, next);
+    let first = short_varint(&*s, next);
     if first.size == 0 {
         return Found::Nothing;
     }
@@ -109,7 +109,7 @@ fn long_find(s: &[u8], base: u32, number: u32, at: usize) -> Found
 {
     let mut i = at;
     while i < s.len() {
-        let step = field_at(s, base, i);
+        let step = field_at(&*s, base, i);
         let FieldStep::Field {
             number: n,
             value,
@@ -121,7 +121,7 @@ fn long_find(s: &[u8], base: u32, number: u32, at: usize) -> Found
         if n == number {
             return Found::Value { value };
         }
-        i = skip_fields(s, number, next);
+        i = skip_fields(&*s, number, next);
     }
     Found::Nothing
 }
@@ -130,22 +130,22 @@ fn long_find(s: &[u8], base: u32, number: u32, at: usize) -> Found
 fn find_from(s: &[u8], base: u32, number: u32, at: usize) -> Found
     ensures { λ r. ⌜ FoundFrom base (now (s .entry)) number at r ⌝ }
 {
-    let i = skip_fields(s, number, at);
+    let i = skip_fields(&*s, number, at);
     if s.len() <= i {
         return Found::Nothing;
     }
-    let here = short_found(s, number, i);
+    let here = short_found(&*s, number, i);
     let Found::Nothing = here else {
         return here;
     };
-    long_find(s, base, number, i)
+    long_find(&*s, base, number, i)
 }
 
 // The first occurrence of a field, of whatever wire type.
 pub fn find(s: &[u8], base: u32, number: u32) -> Found
     ensures { λ r. ⌜ FoundTold base (now (s .entry)) number r ⌝ }
 {
-    find_from(s, base, number, 0)
+    find_from(&*s, base, number, 0)
 }
 
 pub struct TwoFound {
@@ -157,30 +157,30 @@ pub struct TwoFound {
 pub fn find_two(s: &[u8], base: u32, first: u32, second: u32) -> TwoFound
     ensures { λ r. ⌜ FoundTold base (now (s .entry)) first (r .first) × FoundTold base (now (s .entry)) second (r .second) ⌝ }
 {
-    let at = skip_two(s, first, second, 0);
+    let at = skip_two(&*s, first, second, 0);
     if s.len() <= at {
         return TwoFound {
             first: Found::Nothing,
             second: Found::Nothing,
         };
     }
-    let here = short_found(s, first, at);
+    let here = short_found(&*s, first, at);
     let Found::Nothing = here else {
         return TwoFound {
             first: here,
-            second: find_from(s, base, second, at),
+            second: find_from(&*s, base, second, at),
         };
     };
-    let there = short_found(s, second, at);
+    let there = short_found(&*s, second, at);
     let Found::Nothing = there else {
         return TwoFound {
-            first: find_from(s, base, first, at),
+            first: find_from(&*s, base, first, at),
             second: there,
         };
     };
     TwoFound {
-        first: find_from(s, base, first, at),
-        second: find_from(s, base, second, at),
+        first: find_from(&*s, base, first, at),
+        second: find_from(&*s, base, second, at),
     }
 }
 
@@ -237,7 +237,7 @@ impl Found {
 pub fn varint(s: &[u8], base: u32, number: u32) -> Number
     ensures { λ r. ⌜ ((m : Message) → cut (_from_ base (now (s .entry))) ≡ ok m → varintOf number m ≡ numberTold r) ⌝ }
 {
-    let found = find(s, base, number);
+    let found = find(&*s, base, number);
     let Found::Value { value } = found else {
         return Number::Nothing;
     };
@@ -248,7 +248,7 @@ pub fn varint(s: &[u8], base: u32, number: u32) -> Number
 pub fn bytes(s: &[u8], base: u32, number: u32) -> Piece
     ensures { λ r. ⌜ BytesTold base (now (s .entry)) number r ⌝ }
 {
-    let found = find(s, base, number);
+    let found = find(&*s, base, number);
     let Found::Value { value } = found else {
         return Piece::Nothing;
     };
@@ -264,7 +264,7 @@ pub enum Indexed {
 pub fn index(s: &[u8], base: u32, number: u32) -> Indexed
     ensures { λ r. ⌜ ((m : Message) → cut (_from_ base (now (s .entry))) ≡ ok m → index number m ≡ indexTold r) ⌝ }
 {
-    let found = varint(s, base, number);
+    let found = varint(&*s, base, number);
     let Number::Value { value } = found else {
         return Indexed::Nothing;
     };
@@ -279,7 +279,7 @@ pub fn index(s: &[u8], base: u32, number: u32) -> Indexed
 pub fn flag(s: &[u8], base: u32, number: u32) -> bool
     ensures { λ r. ⌜ ((m : Message) → cut (_from_ base (now (s .entry))) ≡ ok m → flag number m ≡ r) ⌝ }
 {
-    let found = varint(s, base, number);
+    let found = varint(&*s, base, number);
     let Number::Value { value } = found else {
         return false;
     };
@@ -296,7 +296,7 @@ pub enum Embedded {
 pub fn message(s: &[u8], base: u32, number: u32) -> Embedded
     ensures { λ r. ⌜ EmbeddedTold base (now (s .entry)) number r ⌝ }
 {
-    let found = bytes(s, base, number);
+    let found = bytes(&*s, base, number);
     let Piece::Body { start, end } = found else {
         return Embedded::Nothing;
     };
@@ -325,7 +325,7 @@ fn long_next_body(s: &[u8], base: u32, number: u32, at: usize) -> Piece
 {
     let mut i = at;
     while i < s.len() {
-        let step = field_at(s, base, i);
+        let step = field_at(&*s, base, i);
         let FieldStep::Field {
             number: n,
             value,
@@ -338,7 +338,7 @@ fn long_next_body(s: &[u8], base: u32, number: u32, at: usize) -> Piece
         let Piece::Nothing = piece else {
             return piece;
         };
-        i = skip_fields(s, number, next);
+        i = skip_fields(&*s, number, next);
     }
     Piece::Nothing
 }
@@ -347,16 +347,16 @@ fn long_next_body(s: &[u8], base: u32, number: u32, at: usize) -> Piece
 pub fn next_body(s: &[u8], base: u32, number: u32, at: usize) -> Piece
     ensures { λ r. ⌜ NextTold base (now (s .entry)) number at r ⌝ }
 {
-    let i = skip_fields(s, number, at);
+    let i = skip_fields(&*s, number, at);
     if s.len() <= i {
         return Piece::Nothing;
     }
-    let here = short_found(s, number, i);
+    let here = short_found(&*s, number, i);
     let piece = here.bytes();
     let Piece::Nothing = piece else {
         return piece;
     };
-    long_next_body(s, base, number, i)
+    long_next_body(&*s, base, number, i)
 }
 
 // Cuts every message of a list, before the first is read.
@@ -365,7 +365,7 @@ pub fn check_messages(s: &[u8], base: u32, number: u32) -> Checked
 {
     let mut at = 0;
     while at < s.len() {
-        let piece = next_body(s, base, number, at);
+        let piece = next_body(&*s, base, number, at);
         let Piece::Body { start, end } = piece else {
             return Checked::Whole;
         };

@@ -39,8 +39,8 @@ sub-left c =
     let h = varint-inside (a .base) (a .s .now) (a .at) (c .before .before .before .varint-at .ensures (omega arith)) (c .before .size .given .1) (omega arith) in
     omega arith
 
-add-t17 : tie.Need-add-t17
-add-t17 c = search needs
+add-t19 : tie.Need-add-t19
+add-t19 c = search needs
 
 returns-3 : tie.Need-returns-3
 returns-3 c =
@@ -67,7 +67,7 @@ delimited-at-spec =
     error-requires
     returns-2
     sub-left
-    add-t17
+    add-t19
     returns-3
     add-t8
     returns-4)

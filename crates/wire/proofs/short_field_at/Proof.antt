@@ -40,8 +40,8 @@ add-end : tie.Need-add-end
 add-end c = let h = c .before .before .before .before .pre in omega arith
 
 -- src/lib.rt:385:17
-cast-t18 : tie.Need-cast-t18
-cast-t18 c = search needs
+cast-t22 : tie.Need-cast-t22
+cast-t22 c = search needs
 
 -- src/lib.rt:364:1
 returns-4 : tie.Need-returns-4
@@ -59,5 +59,5 @@ short-field-at-spec =
     tagged-at-requires-2
     returns-3
     add-end
-    cast-t18
+    cast-t22
     returns-4)

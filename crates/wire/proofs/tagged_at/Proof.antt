@@ -34,8 +34,8 @@ returns-2 c =
     let a = c .before .before .before .before .before .before .args in
     λ e. field-not (a .base) (a .s .now) (a .at) (a .next) e (c .before .before .before .before .if1 .left) (c .before .before .before .value-at .ensures) (c .before .enum-told .given .1) (c .error .ensures _ (c .before .enum-told .given .1))
 
-cast-t17 : tie.Need-cast-t17
-cast-t17 c = search needs
+cast-t19 : tie.Need-cast-t19
+cast-t19 c = search needs
 
 returns-3 : tie.Need-returns-3
 returns-3 c =
@@ -54,5 +54,5 @@ tagged-at-spec =
     enum-told
     error-requires
     returns-2
-    cast-t17
+    cast-t19
     returns-3)

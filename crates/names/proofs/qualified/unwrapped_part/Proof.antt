@@ -71,8 +71,8 @@ returns-4 : tie.Need-returns-4
 returns-4 c = unwrap-open (c .before .before .before .before .before .before .before .before .before .before .before .before .before .before .args .s .now) (c .before .before .before .before .before .before .before .before .before .before .before .before .before .before .args .from) (c .before .before .before .before .before .before .before .before .before .before .before .before .before .before .args .to) (sym (c .before .before .before .before .before .before .before .before .before .before .before .before .utf8-at .ensures) ∙ c .before .before .before .before .before .before .before .before .before .before .character .given .1) (c .before .before .before .before .before .before .before .before .instead .ensures) (c .before .before .before .before .before .last-of .result) (c .before .before .before .before .before .last-of .ensures) (c .before .before .before .ending .given .1) (c .before .instead2 .ensures) (c .if2 .taken)
 
 -- src/qualified.rt:70:14
-add-t13 : tie.Need-add-t13
-add-t13 c = let h = place-inside (c .before .before .before .before .before .before .before .before .before .before .before .before .before .before .args .s .now) (c .before .before .before .before .before .before .before .before .before .before .before .before .before .before .args .from) (c .before .before .before .before .before .before .before .before .before .before .before .before .before .before .args .to) (sym (c .before .before .before .before .before .before .before .before .before .before .before .before .utf8-at .ensures) ∙ c .before .before .before .before .before .before .before .before .before .before .character .given .1) (c .before .before .before .before .before .before .before .before .instead .ensures) (c .before .before .before .before .before .last-of .result) (c .before .before .before .before .before .last-of .ensures) (c .before .before .before .ending .given .1) (c .before .instead2 .ensures) in omega arith
+add-t15 : tie.Need-add-t15
+add-t15 c = let h = place-inside (c .before .before .before .before .before .before .before .before .before .before .before .before .before .before .args .s .now) (c .before .before .before .before .before .before .before .before .before .before .before .before .before .before .args .from) (c .before .before .before .before .before .before .before .before .before .before .before .before .before .before .args .to) (sym (c .before .before .before .before .before .before .before .before .before .before .before .before .utf8-at .ensures) ∙ c .before .before .before .before .before .before .before .before .before .before .character .given .1) (c .before .before .before .before .before .before .before .before .instead .ensures) (c .before .before .before .before .before .last-of .result) (c .before .before .before .before .before .last-of .ensures) (c .before .before .before .ending .given .1) (c .before .instead2 .ensures) in omega arith
 
 -- src/qualified.rt:51:1
 returns-5 : tie.Need-returns-5
@@ -97,5 +97,5 @@ unwrapped-part-spec =
     returns-3
     instead-requires-2
     returns-4
-    add-t13
+    add-t15
     returns-5)

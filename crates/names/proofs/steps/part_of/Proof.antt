@@ -48,14 +48,14 @@ unfolding predefinedList
 returns c = let t = rw (c .before .before .before .before .wide .ensures, c .before .before .before .wide2 .ensures) at (subst (SubstringTold (c .before .before .before .before .before .base-part .result .now) (c .before .before .before .before .wide .result) (c .before .before .before .wide2 .result)) (c .enum-told .given .1) (c .before .before .substring .ensures)) in part-none (c .before .before .before .before .before .before .before .before .args .payload .now) (c .before .before .before .before .before .base-part .result .now) (c .before .before .before .before .before .before .before .before .args .source) (c .before .before .before .before .before .before .before .before .args .start) (c .before .before .before .before .before .before .before .before .args .end) (c .before .before .before .before .before .before .before .before .args .first) (c .before .before .before .before .before .before .before .before .args .last) (c .before .before .before .before .before .before .before .before .pre .0) (c .before .before .before .before .before .before .before .before .pre .1) (c .before .before .before .before .before .base-part .ensures) t
 
 -- src/steps.rt:120:16
-add-t14 : tie.Need-add-t14
+add-t16 : tie.Need-add-t16
 unfolding predefinedList
-add-t14 c = let t = rw (c .before .before .before .before .before .wide .ensures, c .before .before .before .before .wide2 .ensures) at (subst (SubstringTold (c .before .before .before .before .before .before .base-part .result .now) (c .before .before .before .before .before .wide .result) (c .before .before .before .before .wide2 .result)) (c .before .part .given .1) (c .before .before .before .substring .ensures)) in let h = part-ends (c .before .before .before .before .before .before .before .before .before .args .payload .now) (c .before .before .before .before .before .before .base-part .result .now) (c .before .before .before .before .before .before .before .before .before .args .source) (c .before .before .before .before .before .before .before .before .before .args .start) (c .before .before .before .before .before .before .before .before .before .args .end) (c .before .before .before .before .before .before .before .before .before .args .first) (c .before .before .before .before .before .before .before .before .before .args .last) (c .before .before .before .before .before .before .before .before .before .pre .0) (c .before .before .before .before .before .before .before .before .before .pre .1) (c .before .before .before .before .before .before .base-part .ensures) t in omega arith
+add-t16 c = let t = rw (c .before .before .before .before .before .wide .ensures, c .before .before .before .before .wide2 .ensures) at (subst (SubstringTold (c .before .before .before .before .before .before .base-part .result .now) (c .before .before .before .before .before .wide .result) (c .before .before .before .before .wide2 .result)) (c .before .part .given .1) (c .before .before .before .substring .ensures)) in let h = part-ends (c .before .before .before .before .before .before .before .before .before .args .payload .now) (c .before .before .before .before .before .before .base-part .result .now) (c .before .before .before .before .before .before .before .before .before .args .source) (c .before .before .before .before .before .before .before .before .before .args .start) (c .before .before .before .before .before .before .before .before .before .args .end) (c .before .before .before .before .before .before .before .before .before .args .first) (c .before .before .before .before .before .before .before .before .before .args .last) (c .before .before .before .before .before .before .before .before .before .pre .0) (c .before .before .before .before .before .before .before .before .before .pre .1) (c .before .before .before .before .before .before .base-part .ensures) t in omega arith
 
 -- src/steps.rt:121:14
-add-t15 : tie.Need-add-t15
+add-t17 : tie.Need-add-t17
 unfolding predefinedList
-add-t15 c = let t = rw (c .before .before .before .before .before .wide .ensures, c .before .before .before .before .wide2 .ensures) at (subst (SubstringTold (c .before .before .before .before .before .before .base-part .result .now) (c .before .before .before .before .before .wide .result) (c .before .before .before .before .wide2 .result)) (c .before .part .given .1) (c .before .before .before .substring .ensures)) in let h = part-ends (c .before .before .before .before .before .before .before .before .before .args .payload .now) (c .before .before .before .before .before .before .base-part .result .now) (c .before .before .before .before .before .before .before .before .before .args .source) (c .before .before .before .before .before .before .before .before .before .args .start) (c .before .before .before .before .before .before .before .before .before .args .end) (c .before .before .before .before .before .before .before .before .before .args .first) (c .before .before .before .before .before .before .before .before .before .args .last) (c .before .before .before .before .before .before .before .before .before .pre .0) (c .before .before .before .before .before .before .before .before .before .pre .1) (c .before .before .before .before .before .before .base-part .ensures) t in omega arith
+add-t17 c = let t = rw (c .before .before .before .before .before .wide .ensures, c .before .before .before .before .wide2 .ensures) at (subst (SubstringTold (c .before .before .before .before .before .before .base-part .result .now) (c .before .before .before .before .before .wide .result) (c .before .before .before .before .wide2 .result)) (c .before .part .given .1) (c .before .before .before .substring .ensures)) in let h = part-ends (c .before .before .before .before .before .before .before .before .before .args .payload .now) (c .before .before .before .before .before .before .base-part .result .now) (c .before .before .before .before .before .before .before .before .before .args .source) (c .before .before .before .before .before .before .before .before .before .args .start) (c .before .before .before .before .before .before .before .before .before .args .end) (c .before .before .before .before .before .before .before .before .before .args .first) (c .before .before .before .before .before .before .before .before .before .args .last) (c .before .before .before .before .before .before .before .before .before .pre .0) (c .before .before .before .before .before .before .before .before .before .pre .1) (c .before .before .before .before .before .before .base-part .ensures) t in omega arith
 
 -- src/steps.rt:109:1
 returns-2 : tie.Need-returns-2
@@ -74,6 +74,6 @@ part-of-spec =
     enum-known-part
     enum-told
     returns
-    add-t14
-    add-t15
+    add-t16
+    add-t17
     returns-2)

@@ -57,8 +57,8 @@ returns-3 : tie.Need-returns-3
 returns-3 c = sub-past (c .before .before .before .before .before .before .before .before .before .before .args .s .now) (c .before .before .before .before .before .before .before .before .before .before .args .first) (c .before .before .before .before .before .before .before .before .before .before .args .last) (c .before .before .before .before .before .before .before .before .if1 .left) (c .before .before .before .before .before .before .before .find-place .ensures) (c .before .before .before .before .before .begins .given .1) (c .before .before .find-place2 .ensures) (c .enum-told2 .given .1)
 
 -- src/steps.rt:62:14
-add-t10 : tie.Need-add-t10
-add-t10 c = let h = sub-end (c .before .before .before .before .before .before .before .before .before .before .before .args .s .now) (c .before .before .before .before .before .before .before .before .before .before .before .args .first) (c .before .before .before .before .before .before .before .before .before .before .before .args .last) (c .before .before .before .before .before .before .before .before .before .if1 .left) (c .before .before .before .before .before .before .before .before .find-place .ensures) (c .before .before .before .before .before .before .begins .given .1) (c .before .before .before .find-place2 .ensures) (c .before .goes .given .1) in omega arith
+add-t12 : tie.Need-add-t12
+add-t12 c = let h = sub-end (c .before .before .before .before .before .before .before .before .before .before .before .args .s .now) (c .before .before .before .before .before .before .before .before .before .before .before .args .first) (c .before .before .before .before .before .before .before .before .before .before .before .args .last) (c .before .before .before .before .before .before .before .before .before .if1 .left) (c .before .before .before .before .before .before .before .before .find-place .ensures) (c .before .before .before .before .before .before .begins .given .1) (c .before .before .before .find-place2 .ensures) (c .before .goes .given .1) in omega arith
 
 -- src/steps.rt:46:1
 returns-4 : tie.Need-returns-4
@@ -80,5 +80,5 @@ substring-spec =
     enum-known-goes
     enum-told-2
     returns-3
-    add-t10
+    add-t12
     returns-4)

@@ -27,8 +27,8 @@ returns-2 : tie.Need-returns-2
 returns-2 c = entry-nowhere (c .before .before .before .before .before .before .before .args .payload .now) (c .before .before .before .before .before .before .before .args .entry-starts .now) (c .before .before .before .before .before .before .before .args .entry-ends .now) (c .before .before .before .before .before .before .before .args .tables) (c .before .before .before .before .before .before .before .args .index) (c .before .before .before .before .before .before .before .args .left) (c .before .before .entry-at .ensures) (c .enum-told .given .1)
 
 -- src/places.rt:49:15
-sub-t12 : tie.Need-sub-t12
-sub-t12 c = search needs
+sub-t18 : tie.Need-sub-t18
+sub-t18 c = search needs
 
 -- src/places.rt:27:1
 returns-3 : tie.Need-returns-3
@@ -37,4 +37,4 @@ returns-3 c = entry-there (c .before .before .before .before .before .before .be
 pub entry-place-spec : {M : Type 1} → statement M
 entry-place-spec =
     tie.close
-    (tie.spec returns entry-at-requires enum-known-entry enum-told returns-2 sub-t12 returns-3)
+    (tie.spec returns entry-at-requires enum-known-entry enum-told returns-2 sub-t18 returns-3)

@@ -45,8 +45,8 @@ put-ref-requires : tie.Need-put-ref-requires
 put-ref-requires c κs = search needs
 
 -- src/rows.rt:52:16
-add-t22 : tie.Need-add-t22
-add-t22 c = search needs
+add-t26 : tie.Need-add-t26
+add-t26 c = search needs
 
 -- src/rows.rt:28:1
 same-length-2 : tie.Need-same-length-2
@@ -72,7 +72,7 @@ put-named-spec =
     put-name-requires
     sub-put-ref
     put-ref-requires
-    add-t22
+    add-t26
     same-length-2
     same-length-3
     returns-2)

@@ -20,8 +20,8 @@ returns c = λ m w. index-nothing (c .before .before .before .before .args .numb
 returns-2 : tie.Need-returns-2
 returns-2 c = λ m w. index-large (c .before .before .before .before .before .before .args .number) m (c .before .before .before .before .varint .ensures m w) (c .before .before .found .given .1) (c .if1 .taken)
 
-cast-t7 : tie.Need-cast-t7
-cast-t7 c = search needs
+cast-t9 : tie.Need-cast-t9
+cast-t9 c = search needs
 
 returns-3 : tie.Need-returns-3
 returns-3 c = λ m w. index-small (c .before .before .before .before .before .before .args .number) m (c .before .before .before .before .varint .ensures m w) (c .before .before .found .given .1) (c .if1 .left)
@@ -29,4 +29,4 @@ returns-3 c = λ m w. index-small (c .before .before .before .before .before .be
 pub index-spec : {M : Type 1} → statement M
 index-spec =
     tie.close
-    (tie.spec varint-requires enum-known-found enum-told returns returns-2 cast-t7 returns-3)
+    (tie.spec varint-requires enum-known-found enum-told returns returns-2 cast-t9 returns-3)
