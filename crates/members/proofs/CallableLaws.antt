@@ -43,7 +43,7 @@ use Rattle.schema.specs.Written.{cellLimit, signatureBy, initBy, constructorCel
 use Rattle.schema.specs.Told.{Lent, NamesOf, Scoped, WalkedSpends, WalkedTold}
 use Rattle.schema.specs.TypesTold.{pickedOf}
 use Rattle.schema.specs.MembersTold.{Affords, Within, ListedTold, parameterCost, memberCost, MemberTold, ListTold}
-use Rattle.members.specs.OptionalTold.{OptionalTold}
+use Rattle.type_references.specs.OptionalTold.{OptionalTold}
 use Rattle.members.specs.SignaturesTold.{SignedTold}
 use Rattle.members.specs.CallablesTold.{ReceiverTold, functionHeadCost, FunctionHead, functionTypes, FunctionTypesAre, FunctionTypesTold}
 use Rattle.schema.specs.declared.rows.SignatureNames.{SignatureNames}

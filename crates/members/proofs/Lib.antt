@@ -1,6 +1,5 @@
 pub mod SignatureLaws
 pub mod FlagLaws
-pub mod OptionalLaws
 pub mod ReceiverLaws
 pub mod PropertyLaws
 pub mod ParameterLaws

@@ -36,7 +36,7 @@ use Rattle.schema.specs.Written.{parameterCells}
 use Rattle.schema.specs.Told.{Lent, NamesOf, Scoped, nameLimit, Spends, WalkedSpends, WalkedTold, PickedTold}
 use Rattle.schema.specs.TypesTold.{pickedOf}
 use Rattle.schema.specs.MembersTold.{Affords, Within, PickedWithin, parameterCost, MemberTold}
-use Rattle.members.specs.OptionalTold.{OptionalTold}
+use Rattle.type_references.specs.OptionalTold.{OptionalTold}
 use Rattle.members.specs.ParametersTold.{both, parameterTypesIn, parameterTypesRows, ParameterTypesTold}
 use Rattle.schema.specs.declared.Stop.{Stop}
 use Rattle.schema.specs.declared.Picked.{Picked}

@@ -45,7 +45,7 @@ use Rattle.schema.specs.Rows.{returnRole, receiverRole, typeRows, propertyRows}
 use Rattle.schema.specs.Written.{Room, cellLimit, signatureBy, propertyCells}
 use Rattle.schema.specs.Told.{Lent, Scoped, Ready, refusal, WalkedSpends, WalkedTold, PickedTold}
 use Rattle.schema.specs.MembersTold.{Affords, Within, PickedWithin, memberCost, MemberTold}
-use Rattle.members.specs.OptionalTold.{OptionalTold}
+use Rattle.type_references.specs.OptionalTold.{OptionalTold}
 use Rattle.members.specs.SignaturesTold.{AccessorTold, ThreeTold, PropertySignedTold, AccessorsDue}
 use Rattle.members.specs.PropertiesTold.{recordCost, RecordTold, NamedPropertyTold}
 use Rattle.schema.specs.declared.Stop.{Stop}

@@ -1,4 +1,3 @@
-pub mod OptionalTold
 pub mod SignaturesTold
 pub mod CallablesTold
 pub mod PropertiesTold

@@ -12,7 +12,6 @@ ghost use Rattle.schema.specs.declared.Listed.the-variants as listed;
 ghost use Rattle.schema.specs.declared.Picked.the-variants as picked;
 use crate::flags::OMITTED;
 use crate::flags::flags_in;
-use crate::optional::optional_type;
 use crate::parameters::parameters_in;
 use crate::signatures::Signed;
 use crate::signatures::or_name;
@@ -32,6 +31,7 @@ use schema::rows::put_count;
 use schema::rows::put_function;
 use schema::types::picked;
 use sheet::State;
+use type_references::declared_type;
 use wire::message::Found;
 use wire::message::Piece;
 use wire::message::bytes;
@@ -229,7 +229,7 @@ fn function_types(
     requires { ⌜ Ready (now payload) (now d2) state × (base + length (now msg) ≤ length (now payload)) ⌝ }
     ensures { λ r. ⌜ FunctionTypesTold (lent (now (payload .entry)) (now (d2 .entry)) (now (ends .entry)) (now (starts .entry)) (now (stops .entry)) (now (firsts .entry)) (now («entry_starts» .entry)) (now («entry_ends» .entry)) tables) (now (msg .entry)) base signed state r (now (sheet .entry)) (now (sheet .exit)) (now (text .entry)) (now (text .exit)) ⌝ }
 {
-    let receiver = optional_type(
+    let receiver = declared_type(
         &*msg,
         base,
         RECEIVER_TYPE,
@@ -256,7 +256,7 @@ fn function_types(
             stop: Stop::Wire { error },
         };
     }
-    optional_type(
+    declared_type(
         &*msg,
         base,
         RETURN_TYPE,

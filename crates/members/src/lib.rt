@@ -2,7 +2,6 @@
 // definitions: schema's specs/Members.antt and specs/Rows.antt; what the readers tell: schema's specs/MembersTold.antt.
 pub mod signatures; // signatures.rt: signatures by their two names
 pub mod flags; // flags.rt: flags in a field
-pub mod optional; // optional.rt: a declaration's own type, if it is there
 pub mod parameters; // parameters.rt: value parameters
 pub mod callables; // callables.rt: constructors and functions
 pub mod properties; // properties.rt: properties

@@ -14,7 +14,6 @@ ghost use Rattle.schema.specs.ListsTold.{ListAtTold};
 ghost use Rattle.members.specs.ParametersTold.{ParameterTypesTold};
 use crate::flags::OMITTED_SMALL;
 use crate::flags::flags_in;
-use crate::optional::optional_type;
 use names::name::is_there;
 use schema::Listed;
 use schema::Picked;
@@ -25,6 +24,7 @@ use schema::name::name_in;
 use schema::rows::put_parameter;
 use schema::types::picked;
 use sheet::State;
+use type_references::declared_type;
 use wire::message::Checked;
 use wire::message::Piece;
 use wire::message::check_messages;
@@ -75,7 +75,7 @@ fn parameter_types(
     requires { ⌜ Ready (now payload) (now d2) state × (base + length (now msg) ≤ length (now payload)) ⌝ }
     ensures { λ r. ⌜ ParameterTypesTold (lent (now (payload .entry)) (now (d2 .entry)) (now (ends .entry)) (now (starts .entry)) (now (stops .entry)) (now (firsts .entry)) (now («entry_starts» .entry)) (now («entry_ends» .entry)) tables) (now (msg .entry)) base state r (now (sheet .entry)) (now (sheet .exit)) (now (text .entry)) (now (text .exit)) ⌝ }
 {
-    let own = optional_type(
+    let own = declared_type(
         &*msg,
         base,
         TYPE,
@@ -97,7 +97,7 @@ fn parameter_types(
     let Walked::Done { state: next } = own else {
         return own;
     };
-    optional_type(
+    declared_type(
         &*msg,
         base,
         VARARG_TYPE,

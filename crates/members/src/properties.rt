@@ -15,7 +15,6 @@ use crate::callables::has_receiver;
 use crate::flags::OMITTED;
 use crate::flags::OMITTED_SMALL;
 use crate::flags::flags_in;
-use crate::optional::optional_type;
 use crate::signatures::PropertyNames;
 use crate::signatures::PropertySigned;
 use crate::signatures::check_accessors;
@@ -30,6 +29,7 @@ use schema::Walked;
 use schema::name::name_in;
 use schema::rows::put_property;
 use sheet::State;
+use type_references::declared_type;
 use wire::message::Checked;
 use wire::message::Piece;
 use wire::message::check_messages;
@@ -137,7 +137,7 @@ fn named_property(
         sheet,
         text,
     );
-    let received = optional_type(
+    let received = declared_type(
         &*msg,
         base,
         RECEIVER_TYPE,
@@ -165,7 +165,7 @@ fn named_property(
                     stop: Stop::Wire { error },
                 },
                 Checked::Whole => {
-                    let typed = optional_type(
+                    let typed = declared_type(
                         &*msg,
                         base,
                         RETURN_TYPE,

@@ -4,3 +4,4 @@ pub mod PendingLaws
 pub mod StackLaws
 pub mod WalkLaws
 pub mod CycleLaws
+pub mod OptionalLaws

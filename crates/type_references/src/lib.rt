@@ -5,20 +5,19 @@ ghost use mathlib.Core.Path.{_≡_};
 ghost use Prim.Native.Nat.{_+_, _≤_};
 ghost use lib.ListN.{length};
 ghost use Rattle.schema.specs.Told.{lent, Ready};
-ghost use Rattle.schema.specs.TypesTold.{ParseTold, ResolveTold, DeclaredTold};
+ghost use Rattle.schema.specs.TypesTold.{ParseTold};
 ghost use Rattle.type_references.specs.ParseTold.{ArgumentsTold};
+ghost use Rattle.type_references.specs.OptionalTold.{LookedTold, OptionalTold};
 use arguments::ARGUMENT;
 use arguments::Argument;
 use arguments::type_field;
 use enter::enter_type;
 use parse::arguments_at;
-use schema::Picked;
 use schema::Stop;
 use schema::Tables;
 use schema::Walked;
 use schema::types::entry_at;
 use schema::types::less;
-use schema::types::picked;
 use sheet::State;
 use wire::message::Piece;
 use wire::message::next_body;
@@ -267,7 +266,7 @@ fn own_type(
     )
 }
 
-// The type at an index of the type table.
+// The type at an index of the type table, or nothing.
 fn looked_up(
     index: u32,
     role: u8,
@@ -283,16 +282,16 @@ fn looked_up(
     state: State,
     sheet: &mut [u8],
     text: &mut [u8],
-) -> Picked
+) -> Walked
     requires { ⌜ Ready (now payload) (now d2) state ⌝ }
-    ensures { λ r. ⌜ ResolveTold (lent (now (payload .entry)) (now (d2 .entry)) (now (ends .entry)) (now (starts .entry)) (now (stops .entry)) (now (firsts .entry)) (now («entry_starts» .entry)) (now («entry_ends» .entry)) tables) index 64 role state r (now (sheet .entry)) (now (sheet .exit)) (now (text .entry)) (now (text .exit)) ⌝ }
+    ensures { λ r. ⌜ LookedTold (lent (now (payload .entry)) (now (d2 .entry)) (now (ends .entry)) (now (starts .entry)) (now (stops .entry)) (now (firsts .entry)) (now («entry_starts» .entry)) (now («entry_ends» .entry)) tables) index role state r (now (sheet .entry)) (now (sheet .exit)) (now (text .entry)) (now (text .exit)) ⌝ }
 {
     let entry = entry_at(&*payload, &*entry_starts, &*entry_ends, tables.types, index);
     let Piece::Body { start, end } = entry else {
-        return Picked::Dropped;
+        return Walked::Done { state };
     };
     let nullable = tables.first_nullable <= index as u64;
-    picked(own_type(
+    own_type(
         &payload[start..end],
         start as u32,
         MAX_DEPTH - 1,
@@ -310,10 +309,10 @@ fn looked_up(
         state,
         sheet,
         text,
-    ))
+    )
 }
 
-// A declaration's own type: inline in one field of its message, else by its index in another.
+// A declaration's own type, if it is there: inline in one field of its message, else by its index in another.
 pub fn declared_type(
     msg: &[u8],
     base: u32,
@@ -332,13 +331,13 @@ pub fn declared_type(
     state: State,
     sheet: &mut [u8],
     text: &mut [u8],
-) -> Picked
+) -> Walked
     requires { ⌜ Ready (now payload) (now d2) state × (base + length (now msg) ≤ length (now payload)) ⌝ }
-    ensures { λ r. ⌜ DeclaredTold (lent (now (payload .entry)) (now (d2 .entry)) (now (ends .entry)) (now (starts .entry)) (now (stops .entry)) (now (firsts .entry)) (now («entry_starts» .entry)) (now («entry_ends» .entry)) tables) (now (msg .entry)) base inline indexed role state r (now (sheet .entry)) (now (sheet .exit)) (now (text .entry)) (now (text .exit)) ⌝ }
+    ensures { λ r. ⌜ OptionalTold (lent (now (payload .entry)) (now (d2 .entry)) (now (ends .entry)) (now (starts .entry)) (now (stops .entry)) (now (firsts .entry)) (now («entry_starts» .entry)) (now («entry_ends» .entry)) tables) (now (msg .entry)) base inline indexed role state r (now (sheet .entry)) (now (sheet .exit)) (now (text .entry)) (now (text .exit)) ⌝ }
 {
     let inner = type_field(&*msg, base, inline, indexed);
     match inner {
-        Argument::Inline { start, end } => picked(own_type(
+        Argument::Inline { start, end } => own_type(
             &msg[start..end],
             base + start as u32,
             MAX_DEPTH,
@@ -356,7 +355,7 @@ pub fn declared_type(
             state,
             sheet,
             text,
-        )),
+        ),
         Argument::ByIndex { index } => looked_up(
             index,
             role,
@@ -373,8 +372,8 @@ pub fn declared_type(
             sheet,
             text,
         ),
-        Argument::Nothing => Picked::Dropped,
-        Argument::Refused { error } => Picked::Refused {
+        Argument::Nothing => Walked::Done { state },
+        Argument::Refused { error } => Walked::Refused {
             stop: Stop::Wire { error },
         },
     }

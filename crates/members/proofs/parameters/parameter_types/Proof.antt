@@ -7,11 +7,11 @@ use Rattle.members.proofs.parameters.parameter_types.Statement.{stateme
 use Rattle.members.proofs.parameters.parameter_types.Tie as tie
 use Rattle.members.proofs.parameters.parameter_types.Reads as reads
 use Rattle.members.proofs.parameters.parameter_types.Lts as lts
-use Rattle.members.proofs.optional.optional_type.Reads as optional-type-reads
+use Rattle.type_references.proofs.declared_type.Reads as declared-type-reads
 
 -- src/parameters.rt:78:9
-optional-type-requires : tie.Need-optional-type-requires
-optional-type-requires c κs = search needs
+declared-type-requires : tie.Need-declared-type-requires
+declared-type-requires c κs = search needs
 
 -- src/parameters.rt:97:31
 enum-known-own : tie.Need-enum-known-own
@@ -31,11 +31,11 @@ same-length-2 c = search needs
 
 -- src/parameters.rt:98:9
 returns : tie.Need-returns
-returns c = types-refused (c .before .before .before .before .before .before .optional-type .ensures) (c .enum-told .given .1)
+returns c = types-refused (c .before .before .before .before .before .before .declared-type .ensures) (c .enum-told .given .1)
 
 -- src/parameters.rt:100:5
-optional-type-requires-2 : tie.Need-optional-type-requires-2
-optional-type-requires-2 c κs = (ready-after (c .before .before .before .before .before .before .before .before .before .before .before .before .before .before .before .before .before .before .before .before .before .before .before .pre .0) (subst (WalkedSpends (c .before .before .before .before .before .before .before .before .before .before .before .before .before .before .before .before .before .before .before .before .before .before .before .args .state)) (c .before .before .before .own .given .1) (c .before .before .before .before .before .before .before .before .before .optional-type .ensures .spends)), c .before .before .before .before .before .before .before .before .before .before .before .before .before .before .before .before .before .before .before .before .before .before .before .pre .1)
+declared-type-requires-2 : tie.Need-declared-type-requires-2
+declared-type-requires-2 c κs = (ready-after (c .before .before .before .before .before .before .before .before .before .before .before .before .before .before .before .before .before .before .before .before .before .before .before .pre .0) (subst (WalkedSpends (c .before .before .before .before .before .before .before .before .before .before .before .before .before .before .before .before .before .before .before .before .before .before .before .args .state)) (c .before .before .before .own .given .1) (c .before .before .before .before .before .before .before .before .before .declared-type .ensures .spends)), c .before .before .before .before .before .before .before .before .before .before .before .before .before .before .before .before .before .before .before .before .before .before .before .pre .1)
 
 -- src/parameters.rt:59:1
 same-length-3 : tie.Need-same-length-3
@@ -47,19 +47,19 @@ same-length-4 c = search needs
 
 -- src/parameters.rt:59:1
 returns-2 : tie.Need-returns-2
-returns-2 c = types-then (c .before .before .before .before .before .before .before .before .before .before .before .before .before .before .optional-type .ensures) (c .before .before .before .before .before .before .before .before .own .given .1) (c .before .before .before .before .optional-type2 .ensures)
+returns-2 c = types-then (c .before .before .before .before .before .before .before .before .before .before .before .before .before .before .declared-type .ensures) (c .before .before .before .before .before .before .before .before .own .given .1) (c .before .before .before .before .declared-type2 .ensures)
 
 pub parameter-types-spec : {M : Type 1} → statement M
 parameter-types-spec =
     tie.close
     (tie.spec
-    optional-type-requires
+    declared-type-requires
     enum-known-own
     enum-told
     same-length
     same-length-2
     returns
-    optional-type-requires-2
+    declared-type-requires-2
     same-length-3
     same-length-4
     returns-2)

@@ -10,7 +10,23 @@ use Rattle.schema.specs.Reading.{Scope}
 use Rattle.schema.specs.Types.{declaredType}
 use Rattle.schema.specs.Rows.{typeRows}
 use Rattle.schema.specs.Told.{Lent, Scoped, WalkedSpends, WalkedTold}
+use Rattle.schema.specs.TypesTold.{ResolveTold}
 use Rattle.schema.specs.declared.Walked.{Walked}
+use Rattle.schema.specs.declared.Walked.the-variants as walked
+use Rattle.schema.specs.declared.Picked.{Picked}
+use Rattle.schema.specs.declared.Picked.the-variants as picked
+
+-- what is there or not, as what is done: nothing is written of what isn't there
+abbrev pub optionalOf : State → Picked → Walked
+optionalOf s (picked.Kept s′) = walked.Done s′
+optionalOf s picked.Dropped = walked.Done s
+optionalOf s (picked.Refused stop) = walked.Refused stop
+
+-- a type by its index, from depth 0
+pub record LookedTold (e : Lent) (index role : ℕ) (s : State) (r : Walked) (S S′ T T′ : List ℕ) : Type 0 where
+  pub found : Picked
+  pub told : ResolveTold e index 64 role s found S S′ T T′
+  pub is : r ≡ optionalOf s found
 
 -- the type and its rows, or nothing and none
 pub record OptionalTold (e : Lent) (msg : List ℕ) (base inline indexed role : ℕ) (s : State) (r : Walked) (S S′ T T′ : List ℕ) : Type 0 where

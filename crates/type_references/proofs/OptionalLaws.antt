@@ -14,9 +14,10 @@ use Rattle.schema.specs.Reading.{Scope}
 use Rattle.schema.specs.Types.{declaredType}
 use Rattle.schema.specs.Rows.{typeRows}
 use Rattle.schema.specs.Told.{Lent, Scoped, PickedSpends, PickedTold}
-use Rattle.schema.specs.TypesTold.{rowsIn, DeclaredTold}
-use Rattle.members.specs.OptionalTold.{OptionalTold}
+use Rattle.schema.specs.TypesTold.{rowsIn, pickedOf, ResolveTold, DeclaredTold}
+use Rattle.type_references.specs.OptionalTold.{optionalOf, LookedTold, OptionalTold}
 use Rattle.schema.specs.declared.Stop.{Stop}
+use Rattle.schema.specs.declared.Walked.{Walked}
 use Rattle.schema.specs.declared.Walked.the-variants as walked
 use Rattle.schema.specs.declared.Picked.{Picked}
 use Rattle.schema.specs.declared.Picked.the-variants as picked
@@ -32,13 +33,13 @@ module _ {e : Lent} {msg : List ℕ} {base inline byIndex role : ℕ} {s : State
       → PickedTold (declaredType c inline byIndex m (s .types)) (rowsIn role) s y S S′ T T′
   here g c o m k = subst (λ (y : Picked). PickedTold (declaredType c inline byIndex m (s .types)) (rowsIn role) s y S S′ T T′) g (t .is c o m k)
 
-  pub optional-kept : {s′ : State} → r ≡ picked.Kept s′ → OptionalTold e msg base inline byIndex role s (walked.Done s′) S S′ T T′
+  optional-kept : {s′ : State} → r ≡ picked.Kept s′ → OptionalTold e msg base inline byIndex role s (walked.Done s′) S S′ T T′
   optional-kept g = record {
     spends = subst (PickedSpends s) g (t .spends);
     is = λ c o m k. let h = here g c o m k in (some (h .0), h .1, h .2, h .3);
   }
 
-  pub optional-dropped : r ≡ picked.Dropped → OptionalTold e msg base inline byIndex role s (walked.Done s) S S′ T T′
+  optional-dropped : r ≡ picked.Dropped → OptionalTold e msg base inline byIndex role s (walked.Done s) S S′ T T′
   optional-dropped g = record {
     spends = spends-none s;
     is = λ c o m k.
@@ -49,5 +50,27 @@ module _ {e : Lent} {msg : List ℕ} {base inline byIndex role : ℕ} {s : State
         (none, s .types, h .0, put);
   }
 
-  pub optional-refused : {stop : Stop} → r ≡ picked.Refused stop → OptionalTold e msg base inline byIndex role s (walked.Refused stop) S S′ T T′
+  optional-refused : {stop : Stop} → r ≡ picked.Refused stop → OptionalTold e msg base inline byIndex role s (walked.Refused stop) S S′ T T′
   optional-refused g = record { spends = tt; is = λ c o m k. here g c o m k }
+
+pub optional : {e : Lent} {msg : List ℕ} {base inline byIndex role : ℕ} {s : State} (r : Picked) {w : Walked} {S S′ T T′ : List ℕ}
+    → DeclaredTold e msg base inline byIndex role s r S S′ T T′ → w ≡ optionalOf s r
+    → OptionalTold e msg base inline byIndex role s w S S′ T T′
+optional {e} {msg} {base} {inline} {byIndex} {role} {s} r {w} {S} {S′} {T} {T′} t q =
+    subst (λ (y : Walked). OptionalTold e msg base inline byIndex role s y S S′ T T′) (sym q) (go r t)
+  where
+    go : (r : Picked) → DeclaredTold e msg base inline byIndex role s r S S′ T T′
+        → OptionalTold e msg base inline byIndex role s (optionalOf s r) S S′ T T′
+    go (picked.Kept s′) t = optional-kept t refl
+    go picked.Dropped t = optional-dropped t refl
+    go (picked.Refused stop) t = optional-refused t refl
+
+-- what was walked is there, or refused
+pub walked-optional : (s : State) (w : Walked) → w ≡ optionalOf s (pickedOf w)
+walked-optional s (walked.Done s′) = refl
+walked-optional s (walked.Refused stop) = refl
+
+pub looked : {e : Lent} {index role : ℕ} {s : State} (p : Picked) {w : Walked} {S S′ T T′ : List ℕ}
+    → ResolveTold e index 64 role s p S S′ T T′ → w ≡ optionalOf s p
+    → LookedTold e index role s w S S′ T T′
+looked p t q = record { found = p; told = t; is = q }
