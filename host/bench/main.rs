@@ -48,11 +48,11 @@ fn classes() -> Vec<Input> {
 fn corpus(count: u64, reader: Reader, rust: bool) {
     let mut timing = Timing::new(reader, false);
     let classes = classes();
-    for class in &classes {
-        if rust {
-            timing.original(class, count);
-        } else {
-            timing.reader(class, count);
+    if rust {
+        timing.originals(&classes, count);
+    } else {
+        for _ in 0..count {
+            classes.iter().for_each(|class| timing.reader(class, 1));
         }
     }
     println!("{} classes", classes.len());
@@ -88,7 +88,7 @@ fn once(file: &str, count: u64, reader: Reader, rust: bool) {
     let input = Input::parse(&bytes).expect("a whole program input");
     let mut timing = Timing::new(reader, false);
     if rust {
-        timing.original(&input, count);
+        timing.originals(std::slice::from_ref(&input), count);
     } else {
         timing.reader(&input, count);
     }

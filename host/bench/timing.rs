@@ -46,18 +46,18 @@ impl Timing {
         }
     }
 
-    pub fn original(&self, input: &Input, count: u64) {
-        let class = Class::new(input.k, input.mv, &input.d1, input.strings());
+    pub fn originals(&self, inputs: &[Input], count: u64) {
+        let prepared = prepared(inputs);
         for _ in 0..count {
-            drop(black_box(class.decode()));
+            prepared.iter().for_each(|class| drop(black_box(class.decode())));
         }
     }
 
     /// Seconds of one call of the reader and of one decode by the Rust.
     pub fn both(&mut self, input: &Input) -> [f64; 2] {
-        let class = Class::new(input.k, input.mv, &input.d1, input.strings());
+        let prepared = prepared(std::slice::from_ref(input));
         let mut reader = || self.reader(input, 1);
-        let mut decode = || drop(black_box(class.decode()));
+        let mut decode = || drop(black_box(prepared[0].decode()));
         medians(ROUND / 10.0, [&mut reader, &mut decode])
     }
 
@@ -67,8 +67,7 @@ impl Timing {
             return;
         }
         let bytes: usize = inputs.iter().map(|input| input.d1.len() + input.d2.len()).sum();
-        let prepared: Vec<Class> =
-            inputs.iter().map(|input| Class::new(input.k, input.mv, &input.d1, input.strings())).collect();
+        let prepared = prepared(inputs);
         let mut reader = || inputs.iter().for_each(|input| self.reader(input, 1));
         let mut decode = || prepared.iter().for_each(|class| drop(black_box(class.decode())));
         let mut sheet = || {
@@ -91,6 +90,10 @@ impl Timing {
             each(sheet)
         );
     }
+}
+
+fn prepared(inputs: &[Input]) -> Vec<Class> {
+    inputs.iter().map(|input| Class::new(input.k, input.mv, &input.d1, input.strings())).collect()
 }
 
 fn count(count: usize) -> String {

@@ -1,7 +1,7 @@
 //! A libFuzzer target: an input is a program's input, and the reader is held to the original Rust on it.
 //!
-//! The original and the second reading are instrumented, the static library isn't: what guides the search are
-//! the original's own branches. An input that is found wrong can be given to `compare --file`.
+//! What guides the search are the branches of the original, of the second reading and, where host/fuzz/library has
+//! built it so, of the static library. An input that is found wrong can be given to `compare --file`.
 
 use harness::damage::damaged;
 use harness::expected::expected;
