@@ -234,9 +234,6 @@ fn read_longer(
     requires { ⌜ Kept (now d1) (now d2) (now ends) ⌝ }
     ensures { λ r. ⌜ answered (now (sheet .entry)) (now (text .entry)) kind (readingOf kind (now (d1 .entry)) (now (d2 .entry)) (now (ends .entry))) ≡ told r (now (sheet .exit)) (now (text .exit)) ⌝ }
 {
-    if d1.len() <= 1024 {
-        return read_medium(kind, &*d1, &*d2, &*ends, sheet, text);
-    }
     if d1.len() <= 8192 {
         return read_big(kind, &*d1, &*d2, &*ends, sheet, text);
     }
@@ -258,6 +255,9 @@ fn read_any(
 {
     if d1.len() <= 256 {
         return read_small(kind, &*d1, &*d2, &*ends, sheet, text);
+    }
+    if d1.len() <= 1024 {
+        return read_medium(kind, &*d1, &*d2, &*ends, sheet, text);
     }
     if kind == 1 {
         return read_longer(1, &*d1, &*d2, &*ends, sheet, text);
