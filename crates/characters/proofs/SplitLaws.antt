@@ -276,9 +276,6 @@ module _ (bs : List ℕ) (n : ℕ) {a : ℕ} (e : placeOf n bs ≡ some a) where
   pub place-text : fromUtf8 bs ≡ fromUtf8 (take a bs) ++ fromUtf8 (drop a bs)
   place-text = sym (at-place (Joins (fromUtf8 bs)) (split-joins n (fromUtf8 bs)))
 
-  pub place-bytes : length (utf8 (fromUtf8 (take a bs))) ≡ n
-  place-bytes = at-place (λ h. length (utf8 (h .before)) ≡ n) (split-bytes n (fromUtf8 bs))
-
 -- A place that is reached by steps from the start.
 abbrev pub Boundary : List ℕ → ℕ → Type 0
 Boundary s at = (n : ℕ) × (placeOf n s ≡ some at)
@@ -290,9 +287,6 @@ module _ (s : List ℕ) where
   module _ {at : ℕ} (b : Boundary s at) where
     pub boundary-text : fromUtf8 s ≡ fromUtf8 (take at s) ++ fromUtf8 (drop at s)
     boundary-text = place-text s (b .0) (b .1)
-
-    pub boundary-within : at ≤ length s
-    boundary-within = subst (IfSome λ a. a ≤ length s) (b .1) (place-within s (b .0))
 
     pub boundary-next : {code next : ℕ} → utf8At at (drop at s) ≡ Read code next → Boundary s next
     boundary-next {code} {next} e = (
@@ -318,25 +312,3 @@ substring-source start stop bs = ap (λ (x : Option Text). if ltb stop start the
     go (some a) =
         let rest = drop a bs in
         ap (mapOption λ m. m .before) (split-source rest n) ∙ map-twice (halvesAt rest) (λ m. m .before) (placeOf n rest)
-
--- and so by both ends
-pub substring-ends : (start stop : ℕ) (bs : List ℕ) → start ≤ stop →
-    substringOf start stop (fromUtf8 bs)
-    ≡ ifSome (placeOf start bs) none λ a. mapOption (λ b. fromUtf8 (take (b - a) (drop a bs))) (placeOf stop bs)
-substring-ends start stop bs h = substring-source start stop bs ∙ rw (le-ltb stop start h) (go (placeOf start bs) refl)
-  where
-    n : ℕ
-    n = stop - start
-
-    go : (o : Option ℕ) → placeOf start bs ≡ o
-        → ifSome o none (λ a. mapOption (λ k. fromUtf8 (take k (drop a bs))) (placeOf n (drop a bs)))
-        ≡ ifSome o none λ a. mapOption (λ b. fromUtf8 (take (b - a) (drop a bs))) (placeOf stop bs)
-    go none e = refl
-    go (some a) e =
-        let p = placeOf n (drop a bs) in
-        let f : ℕ → Text = λ k. fromUtf8 (take k (drop a bs)) in
-        let r : start + n ≡ stop = omega arith in
-        let q : placeOf stop bs ≡ placeFrom bs a n = ap (λ (k : ℕ). placeOf k bs) (sym r) ∙ place-add bs start n a e in
-        map-same f (λ k. f (a + k - a)) (λ k. let z : k ≡ a + k - a = omega arith in ap f z) p
-        ∙ sym (map-twice (λ k. a + k) (λ b. f (b - a)) p)
-        ∙ ap (mapOption λ b. f (b - a)) (sym q)

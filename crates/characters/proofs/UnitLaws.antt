@@ -15,7 +15,6 @@ use Rattle.characters.specs.WellFormed.{Units}
 use Rattle.characters.specs.Told.{pairedAt, utf16At}
 use Rattle.characters.specs.declared.Character.{Character}
 use Rattle.characters.specs.declared.Character.the-variants.{Read, End}
-use Rattle.characters.proofs.EveryLaws.{all-take, all-drop}
 use Rattle.characters.proofs.ScalarLaws.{lone-scalar, pair-scalar, replacement-scalar}
 use Rattle.characters.proofs.SplitLaws.{drop-take}
 
@@ -119,6 +118,3 @@ module _ (s : List ℕ) (at end : ℕ) where
         let q : at + j ≡ next = omega arith in
         let r : drop j (partFrom at end s) ≡ partFrom next end s = rw (p, drop-take j (end - next) (drop at s), drop-drop j at s, q) in
         t .text ∙ ap (λ (us : List ℕ). code ∷ fromUtf16 us) r
-
-    pub utf16-scalar : Units s → T (isScalar code)
-    utf16-scalar h = told .scalar (all-take (λ u. u < 65536) (end - at) (drop at s) (all-drop (λ u. u < 65536) at s h))

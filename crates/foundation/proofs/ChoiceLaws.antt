@@ -1,8 +1,8 @@
 -- Laws of choices, options and lists.
 -- Assumes nothing.
-use mathlib.Core.Path.{_≡_, refl, ap, sym, _∙_}
+use mathlib.Core.Path.{_≡_, refl}
 use mathlib.Core.Bool.{Bool, true, false, _&&_}
-use mathlib.Core.List.{List, [], _∷_, _++_, map, append-assoc}
+use mathlib.Core.List.{List, [], _∷_, _++_, map}
 use mathlib.Core.Option.{Option, none, some}
 use Prim.Native.Nat.{ℕ}
 use borrow.Author.Tests.{eqb-true}
@@ -43,10 +43,6 @@ module _ {A : Type 0} (P : A → Type 0) where
 pub all-map : {A B : Type 0} (P : A → Type 0) (Q : B → Type 0) (f : A → B) → ((a : A) → P a → Q (f a)) → (xs : List A) → All P xs → All Q (map f xs)
 all-map P Q f h [] p = tt
 all-map P Q f h (x ∷ xs) p = (h x (p .0), all-map P Q f h xs (p .1))
-
-pub concat-append : {A : Type 0} (xs ys : List (List A)) → concat (xs ++ ys) ≡ concat xs ++ concat ys
-concat-append [] ys = refl
-concat-append (x ∷ xs) ys = ap (λ (l : List _). x ++ l) (concat-append xs ys) ∙ sym (append-assoc x (concat xs) (concat ys))
 
 pub and-left : (a b : Bool) → a && b ≡ true → a ≡ true
 and-left true b h = refl

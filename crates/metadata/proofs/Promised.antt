@@ -1,18 +1,18 @@
 -- Every accepted answer keeps its promises.
 -- Assumes nothing.
-use mathlib.Core.Path.{_≡_, refl, sym, _∙_, ap}
+use mathlib.Core.Path.{_≡_, refl, _∙_, ap}
 use mathlib.Core.List.{List, [], _∷_, _++_, map}
-use mathlib.Core.Option.{Option, none, some}
-use mathlib.Core.Bool.{Bool, _&&_}
+use mathlib.Core.Option.{some}
+use mathlib.Core.Bool.{_&&_}
 use Prim.Native.Nat.{ℕ, _+_, _-_, _≤_, _<_}
 use native.Mathlib.Omega.{arith}
 use borrow.Author.Tests.{leb-true}
 use lib.Dec.{leb}
 use lib.IntN.{ℤ, pos, negsuc}
 use lib.ListN.{length}
-use Rattle.foundation.specs.Choices.{if_then_else_, ifSome, concat, All}
+use Rattle.foundation.specs.Choices.{concat, All}
 use Rattle.foundation.proofs.ChoiceLaws.{if-ind, and-right, all-weaken}
-use Rattle.foundation.proofs.ResultLaws.{Gives, gives-ok}
+use Rattle.foundation.proofs.ResultLaws.{gives-ok}
 use Rattle.characters.specs.WellFormed.{WellFormed, Units}
 use Rattle.sheet.specs.Rows.{Row, texts, sheetFrom}
 use Rattle.sheet.specs.Reading.{rowsOf}
@@ -28,10 +28,10 @@ use Rattle.descriptors.specs.Defaults.{constructorParts, functionParts, default
 use Rattle.declarations.specs.Payload.{declarationRows}
 use Rattle.decoding.specs.Inputs.{Input, kindOf}
 use Rattle.decoding.specs.Answered.{Answer}
-use Rattle.metadata.specs.Read.{reading, read}
-use Rattle.metadata.specs.Walk.{walkSheet, walk, sheetOf, ifNone}
+use Rattle.metadata.specs.Read.{read}
+use Rattle.metadata.specs.Walk.{walk, sheetOf}
 use Rattle.metadata.specs.Promises.{sheetBytes, textBytes, Promised}
-use Rattle.metadata.proofs.Accepted.{Fitting, accepted-reads, sheet-bytes, text-bytes}
+use Rattle.metadata.proofs.Accepted.{accepted-reads, sheet-bytes, text-bytes}
 use Rattle.metadata.proofs.WalkLaws.{sheet-walked}
 use Rattle.metadata.proofs.Tabled.{Good, rows-good}
 use Rattle.metadata.proofs.Sound.{reading-fine, reading-enters}

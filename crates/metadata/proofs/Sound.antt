@@ -2,36 +2,34 @@
 -- Assumes nothing.
 use mathlib.Core.Path.{_≡_, refl}
 use mathlib.Core.Bool.{Bool, true, false}
-use mathlib.Core.List.{List, [], _∷_, map}
+use mathlib.Core.List.{List, [], _∷_}
 use mathlib.Core.Option.{Option, none, some}
-use Prim.Native.Nat.{ℕ, _+_, _*_, _/_, _≤_}
+use Prim.Native.Nat.{ℕ, _+_, _≤_}
 use native.Mathlib.Omega.{arith}
 use borrow.Author.Tests.{ltb-false}
 use lib.Dec.{eqb, ltb}
 use lib.ListN.{length}
-use Rattle.foundation.specs.Choices.{if_then_else_, ifSome, IfSome}
-use Rattle.foundation.specs.Results.{Cause, d1TooLong, Res, ok, refused, Part, _from_}
+use Rattle.foundation.specs.Choices.{if_then_else_, IfSome}
+use Rattle.foundation.specs.Results.{d1TooLong, Res, ok, refused, _from_}
 use Rattle.foundation.specs.Texts.{Text}
-use Rattle.foundation.specs.Digits.{digits}
 use Rattle.foundation.proofs.ChoiceLaws.{if-ind, some-ind}
-use Rattle.foundation.proofs.ResultLaws.{Gives, gives-bind, gives-weaken}
+use Rattle.foundation.proofs.ResultLaws.{Gives, gives-bind}
 use Rattle.foundation.proofs.DigitLaws.{length-digits}
 use Rattle.encoding.specs.Encoding.{unitLimit, decoded, unpacked, firstAbove255}
 use Rattle.wire.specs.Wire.{Message, cut, readDelimited}
-use Rattle.wire.proofs.Readers.{Within, After, after-shorter, delimited-after}
+use Rattle.wire.proofs.Readers.{after-shorter, delimited-after}
 use Rattle.wire.proofs.Bounds.{Bounded, cut-bounded}
 use Rattle.characters.specs.WellFormed.{Characters, Units}
 use Rattle.names.specs.Names.{Names, recordsOf, stringsFrom, d2String}
 use Rattle.names.proofs.ScalarLaws.{string-characters, qualified-characters, d2-characters}
 use Rattle.schema.specs.Declarations.{Declarations}
 use Rattle.schema.specs.Reading.{Read, allowance}
-use Rattle.schema.specs.Members.{classBody, packageBody}
 use Rattle.schema.specs.Counting.{declarationsSize}
 use Rattle.schema.proofs.Fine.{NamesFine, FineDeclarations, class-fine, package-fine}
 use Rattle.schema.proofs.TypeCount.{class-enters, package-enters}
 use Rattle.declarations.specs.Payload.{bodyOf, payload}
 use Rattle.decoding.specs.Inputs.{Input, kindOf, carriesDeclarations, laterFault, faultOf}
-use Rattle.decoding.specs.Answered.{headAlone, nothingRead}
+use Rattle.decoding.specs.Answered.{headAlone}
 use Rattle.metadata.specs.Read.{reading}
 
 -- the form gives no more bytes than units

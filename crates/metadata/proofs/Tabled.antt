@@ -1,22 +1,21 @@
 -- The rows of fine declarations are records of the table, and every text of theirs is well-formed UTF-8.
 -- Assumes nothing.
-use mathlib.Core.Path.{_≡_, refl}
+use mathlib.Core.Path.{refl}
 use mathlib.Core.Bool.{Bool}
 use mathlib.Core.List.{List, [], _∷_, _++_, map}
 use mathlib.Core.Option.{Option, none, some}
 use Prim.Native.Nat.{ℕ, _<_}
 use native.Mathlib.Omega.{arith}
-use lib.ListN.{length}
 use Rattle.foundation.specs.Choices.{mapOption, concat, All, IfSome}
 use Rattle.foundation.specs.Texts.{Text}
 use Rattle.foundation.proofs.ChoiceLaws.{all-append, all-concat, all-map}
 use Rattle.characters.specs.Characters.{utf8}
 use Rattle.characters.specs.WellFormed.{Characters, WellFormed}
 use Rattle.characters.proofs.Utf8Laws.{utf8-well-formed}
-use Rattle.sheet.specs.Rows.{bit, Row, wide}
+use Rattle.sheet.specs.Rows.{bit, Row}
 use Rattle.sheet.proofs.ReadBack.{InTable, bit-fits}
 use Rattle.sheet.proofs.RefsInOrder.{CellHas, RowHas}
-use Rattle.schema.specs.Declarations.{Types, noTypes, andType, Ty, countOf, Signature, Parameter, Constructor, Function, Property, Declarations}
+use Rattle.schema.specs.Declarations.{Types, noTypes, andType, Ty, Signature, Parameter, Constructor, Function, Property, Declarations}
 use Rattle.schema.specs.Rows.{
   returnRole,
   receiverRole,
@@ -31,20 +30,10 @@ use Rattle.schema.specs.Rows.{
   functionRows,
   propertyRows,
 }
-use Rattle.schema.proofs.Fine.{
-  Named,
-  FineTypes,
-  FineTy,
-  FineParameter,
-  FineSignature,
-  FineConstructor,
-  FineFunction,
-  FineProperty,
-  FineDeclarations,
-}
+use Rattle.schema.proofs.Fine.{FineTypes, FineTy, FineParameter, FineSignature, FineConstructor, FineFunction, FineProperty, FineDeclarations}
 use Rattle.descriptors.specs.Defaults.{Parts, functionParts, constructorParts, descriptor, defaultRow, closedConstructor, closedFunction}
 use Rattle.descriptors.proofs.WellFormedLaws.{function-well-formed, constructor-well-formed}
-use Rattle.declarations.specs.Payload.{headRow, declarationRows}
+use Rattle.declarations.specs.Payload.{declarationRows}
 use Rattle.metadata.proofs.WalkLaws.{if-named}
 
 -- a record of the table with well-formed texts

@@ -1,18 +1,18 @@
 -- A walk of the rows of some declarations gives them back.
 -- Assumes nothing.
 use mathlib.Core.Path.{_≡_, refl, sym, _∙_, ap, subst}
-use mathlib.Core.Bool.{Bool, true, false, _&&_}
+use mathlib.Core.Bool.{Bool, true, false}
 use mathlib.Core.List.{List, [], _∷_, _++_, map, append-assoc, append-nil}
 use mathlib.Core.Option.{Option, none, some}
-use Prim.Native.Nat.{ℕ, zero, suc, _+_, _≤_, _<_}
+use Prim.Native.Nat.{ℕ, zero, suc, _+_, _≤_}
 use native.Mathlib.Omega.{arith}
-use borrow.Author.Tests.{eq-eqb, ne-eqb}
+use borrow.Author.Tests.{eq-eqb}
 use lib.Dec.{eqb}
 use lib.ListN.{length, length-append}
-use Rattle.foundation.specs.Choices.{if_then_else_, ifSome, mapOption, bothOf, concat, All, IfSome}
+use Rattle.foundation.specs.Choices.{mapOption, bothOf, concat, All, IfSome}
 use Rattle.foundation.specs.Texts.{Text}
 use Rattle.characters.specs.Characters.{utf8, fromUtf8}
-use Rattle.sheet.specs.Rows.{Cell, num, ref, bit, Row, row}
+use Rattle.sheet.specs.Rows.{bit, Row}
 use Rattle.schema.specs.Declarations.{
   Types,
   noTypes,
@@ -27,47 +27,13 @@ use Rattle.schema.specs.Declarations.{
   Declarations,
 }
 use Rattle.schema.specs.Members.{signed}
-use Rattle.schema.specs.Rows.{named, returnRole, receiverRole, parameterRole, varargRole, argumentRole, typesRows, typeRows, parameterRows, parametersRows, signatureCells, constructorRows, functionRows, propertyRows}
+use Rattle.schema.specs.Rows.{returnRole, receiverRole, parameterRole, varargRole, argumentRole, typesRows, typeRows, parameterRows, parametersRows, constructorRows, functionRows, propertyRows}
 use Rattle.characters.specs.WellFormed.{Characters}
 use Rattle.characters.proofs.Utf8Laws.{utf8-back}
 use Rattle.schema.proofs.Fine.{Named, FineTypes, FineTy, FineParameter, FineSignature, FineConstructor, FineFunction, FineProperty, FineDeclarations}
 use Rattle.descriptors.specs.Defaults.{functionParts, constructorParts, descriptor, defaultRow, closedConstructor, closedFunction}
-use Rattle.declarations.specs.Payload.{declarationRows, headRow}
-use Rattle.metadata.specs.Walk.{
-  numOf,
-  numAt,
-  oneAt,
-  textAt,
-  Walked,
-  walked,
-  Walker,
-  give,
-  _>>=_,
-  takeKind,
-  times,
-  isType,
-  walkStep,
-  walkTypes,
-  firstType,
-  walkType,
-  signatureAt,
-  walkParameter,
-  Closed,
-  closed,
-  walkConstructor,
-  walkFunction,
-  walkProperty,
-  Sheet,
-  walkSheet,
-  closedOf,
-  closedFunctionOf,
-  sheetOf,
-}
-
--- a walk goes on where the first part of it ended
-then-walks : {A B : Type 0} (w : Walker A) (f : A → Walker B) {rows rest : List Row} {a : A}
-    → w rows ≡ some (walked a rest) → (w >>= f) rows ≡ f a rest
-then-walks w f e = ap (λ (o : Option (Walked _)). ifSome o none λ t. f (t .it) (t .rest)) e
+use Rattle.declarations.specs.Payload.{declarationRows}
+use Rattle.metadata.specs.Walk.{numOf, walked, Walker, times, isType, walkTypes, walkType, walkParameter, walkConstructor, walkFunction, walkProperty, walkSheet, closedOf, closedFunctionOf, sheetOf}
 
 one-bit : (b : Bool) → eqb (numOf (bit b)) 1 ≡ b
 one-bit true = refl

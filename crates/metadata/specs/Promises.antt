@@ -3,9 +3,8 @@
 use mathlib.Core.Path.{_≡_}
 use mathlib.Core.List.{List}
 use mathlib.Core.Option.{some}
-use Prim.Native.Nat.{ℕ, _<_}
+use Prim.Native.Nat.{ℕ}
 use lib.ListN.{take}
-use Rattle.foundation.specs.Choices.{All}
 use Rattle.foundation.specs.Results.{ok}
 use Rattle.characters.specs.WellFormed.{WellFormed}
 use Rattle.sheet.specs.Rows.{Row}

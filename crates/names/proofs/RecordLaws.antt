@@ -10,11 +10,11 @@ use borrow.Author.Tests.{eq-eqb, ne-eqb, lt-ltb, le-ltb, eqb-true, eqb-false}
 use lib.Dec.{eqb}
 use lib.ListN.{length}
 use Rattle.foundation.specs.Choices.{if_then_else_, ifSome, orElse}
-use Rattle.foundation.specs.Results.{Res, ok, refused, _>>=_, Part, _from_}
+use Rattle.foundation.specs.Results.{Res, ok, refused, _from_}
 use Rattle.wire.specs.Wire.{Value, field, readField, Message, cut}
 use Rattle.wire.specs.Messages.{values, firstOf, value, varintOf, index, as32, bytesOf, joined, varints, asVarint, asBody}
 use Rattle.wire.specs.Told.{refusal, restOf, valueOf, Inside, FieldTold}
-use Rattle.wire.specs.Asked.{foundTold, FoundInside, FoundTold, numberOf, numberTold, pieceOf, pieceTold, PieceInside, indexTold}
+use Rattle.wire.specs.Asked.{foundTold, FoundInside, FoundTold, numberTold, pieceTold, PieceInside, indexTold}
 use Rattle.wire.specs.Repeated as wire
 use Rattle.wire.specs.declared.WireError.{WireError}
 use Rattle.wire.specs.declared.WireValue.{WireValue}
@@ -24,18 +24,15 @@ use Rattle.wire.specs.declared.message.Found.{Found}
 use Rattle.wire.specs.declared.message.Found.the-variants as found
 use Rattle.wire.specs.declared.message.Number.{Number}
 use Rattle.wire.specs.declared.message.Number.the-variants as number
-use Rattle.wire.specs.declared.message.Piece.{Piece}
 use Rattle.wire.specs.declared.message.Indexed.{Indexed}
 use Rattle.wire.specs.declared.message.Indexed.the-variants as indexed
 use Rattle.wire.specs.declared.repeated.Two.{Two}
 use Rattle.wire.specs.declared.repeated.Two.the-variants.{Neither, One, Both}
-use Rattle.wire.specs.declared.repeated.FirstTwo.{FirstTwo}
-use Rattle.wire.specs.declared.repeated.FirstTwo.the-variants as first
 use Rattle.wire.proofs.WalkLaws.{field-is, Leads, leads-start, leads-next, leads-never, leads-end, values-found, values-passed}
 use Rattle.wire.proofs.FindLaws.{as-number, as-piece, piece-inside}
 use Rattle.names.specs.Records.{served, twoOf, recordOf}
 use Rattle.names.specs.Records.{Record·range, Record·predefined-index, Record·operation, Record·substring-index, Record·replace-char, Record·string}
-use Rattle.names.specs.RecordTold.{firstSeen, withField, FirstsTold, numberIn, pieceIn, indexIn, operationIn, bothOf, recordTold, RecordTold}
+use Rattle.names.specs.RecordTold.{firstSeen, withField, FirstsTold, numberIn, pieceIn, indexIn, operationIn, bothOf, RecordTold}
 use Rattle.names.specs.declared.records.Firsts.{Firsts}
 use Rattle.names.specs.declared.records.Record.{Record}
 
@@ -185,9 +182,6 @@ two-is (ok (a ∷ b ∷ ns)) {t} e = let q : Both (a % 2 ^ 32) (b % 2 ^ 32) ≡ 
 two-is (refused c p) e = let z : _≡_ {A = ℕ} 0 1 = cc in absurd (omega arith)
 
 -- how many indices
-pub served-zero : {o : Indexed} {n : ℕ} → o ≡ indexed.At n → n ≡ 0 → 1 ≡ served (indexTold o)
-served-zero e z = rw (e, z)
-
 pub served-some : {o : Indexed} {n : ℕ} → o ≡ indexed.At n → (n ≡ 0 → ⊥) → n ≡ served (indexTold o)
 served-some {n = zero} e h = absurd (h refl)
 served-some {n = suc n} e h = rw e

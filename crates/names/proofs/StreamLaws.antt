@@ -7,13 +7,13 @@ use mathlib.Core.Option.{Option, none, some}
 use Prim.Native.Nat.{ℕ, _+_, _-_, _*_, _≤_, _<_}
 use native.Mathlib.Omega.{arith}
 use lib.Dec.{eqb}
-use lib.ListN.{length, take, drop, length-append, length-map, length-take, length-drop}
+use lib.ListN.{length, drop, length-append, length-map, length-take, length-drop}
 use lib.Seq.{sets, length-sets}
 use Rattle.foundation.specs.Choices.{if_then_else_, IfSome}
 use Rattle.foundation.specs.Texts.{Text, ascii}
 use Rattle.foundation.proofs.ChoiceLaws.{if-ind}
 use Rattle.foundation.proofs.OverlayLaws.{sets-then}
-use Rattle.characters.specs.Characters.{utf8Of, utf8, fromUtf8, fromUtf16, partFrom}
+use Rattle.characters.specs.Characters.{utf8Of, utf8, fromUtf8, partFrom}
 use Rattle.characters.specs.Told.{PutCharacter}
 use Rattle.characters.proofs.Utf8Laws.{utf8-length}
 use Rattle.characters.proofs.LengthLaws.{bytes-most, fromUtf8-length, fromUtf16-length}

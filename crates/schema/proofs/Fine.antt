@@ -6,7 +6,7 @@ use mathlib.Core.Option.{Option, none, some}
 use Prim.Native.Nat.{ℕ, zero, suc, _+_, _^_, _≤_, _<_}
 use native.Mathlib.Nat.{lt-of-le-of-lt}
 use native.Mathlib.Omega.{arith}
-use lib.Dec.{T, ltb}
+use lib.Dec.{ltb}
 use lib.ListN.{length, getElem?}
 use Rattle.foundation.specs.Choices.{ifSome, mapOption, orElse, bothOf, All, IfSome}
 use Rattle.foundation.specs.Results.{Res, ok, refused}

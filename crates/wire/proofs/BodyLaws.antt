@@ -12,7 +12,7 @@ use lib.Dec.{eqb, ltb}
 use lib.ListN.{length, take, drop, length-drop}
 use lib.Seq.{length-take-le, take-nil}
 use Rattle.foundation.specs.Choices.{if_then_else_}
-use Rattle.foundation.specs.Results.{Res, ok, refused, _>>=_, Part, _from_, Got}
+use Rattle.foundation.specs.Results.{Res, ok, _>>=_, Part, _from_, Got}
 use Rattle.foundation.proofs.ChoiceLaws.{if-ind}
 use Rattle.foundation.proofs.ResultLaws.{Gives, gives-ok, gives-bind, gives-map}
 use Rattle.wire.specs.Wire.{
@@ -49,7 +49,6 @@ use Rattle.wire.specs.declared.message.Found.{Found}
 use Rattle.wire.specs.declared.message.Found.the-variants as found
 use Rattle.wire.specs.declared.message.Piece.{Piece}
 use Rattle.wire.specs.declared.message.Piece.the-variants as piece
-use Rattle.wire.specs.declared.message.Embedded.{Embedded}
 use Rattle.wire.specs.declared.message.Embedded.the-variants as embedded
 use Rattle.wire.proofs.Later.{Later, gives-any, field-later}
 use Rattle.wire.proofs.WalkLaws.{whole, field-is, field-inside, Leads, leads-next, leads-never, leads-end, values-found, values-passed}

@@ -1,15 +1,14 @@
 -- Where the bodies of a message stand: all of them, and those of the messages embedded in it, are pieces of the part that was cut first.
 -- Assumes nothing.
-use Prim.Native.Nat.{ℕ, _≤_}
-use lib.ListN.{length}
-use Rattle.foundation.specs.Choices.{All, IfSome}
+use Prim.Native.Nat.{ℕ}
+use Rattle.foundation.specs.Choices.{IfSome}
 use Rattle.foundation.specs.Results.{Part}
 use Rattle.foundation.proofs.ResultLaws.{Gives, gives-weaken}
 use Rattle.wire.specs.Wire.{Value, varint, fixed, body, Message, readField, cut}
-use Rattle.wire.specs.Messages.{asBody, bytesOf, message, messages}
+use Rattle.wire.specs.Messages.{asBody, bytesOf, message}
 use Rattle.wire.proofs.Readers.{Within, ReadIn, read-in-within, after-within, field-after}
 use Rattle.wire.proofs.Progress.{every-gives}
-use Rattle.wire.proofs.MessageLaws.{Values, values-weaken, bytesOf-all, message-all, messages-all}
+use Rattle.wire.proofs.MessageLaws.{Values, values-weaken, bytesOf-all, message-all}
 
 -- the message was read in the part
 abbrev pub CutIn : Part → Message → Type 0
@@ -41,6 +40,3 @@ module _ (p : Part) (k : ℕ) (m : Message) (c : CutIn p m) where
 
   pub message-in : Gives (IfSome (CutIn p)) (message k m)
   message-in = message-all (Within p) (CutIn p) (cut-in-piece p) k m (read-bodies p m c)
-
-  pub messages-in : Gives (λ ms. All (CutIn p) ms × (length ms ≤ length m)) (messages k m)
-  messages-in = messages-all (Within p) (CutIn p) (cut-in-piece p) k m (read-bodies p m c)

@@ -3,7 +3,7 @@
 ghost use mathlib.Core.Path.{_≡_};
 ghost use Rattle.foundation.specs.Results.{ok, _from_};
 ghost use Rattle.wire.specs.Wire.{cut, Message};
-ghost use Rattle.wire.specs.Messages.{varintOf, index, flag, messages};
+ghost use Rattle.wire.specs.Messages.{varintOf, index, messages};
 ghost use Rattle.wire.specs.Told.{restOf};
 ghost use Rattle.wire.specs.Asked.{CheckedTold, FoundTold, FoundFrom, FoundAt, numberOf, numberTold, pieceOf, pieceIn, BytesTold, indexTold, EmbeddedTold, pieceIf, NextTold};
 use super::FieldStep;
@@ -274,16 +274,6 @@ pub fn index(s: &[u8], base: u32, number: u32) -> Indexed
     Indexed::At {
         index: value as u32,
     }
-}
-
-pub fn flag(s: &[u8], base: u32, number: u32) -> bool
-    ensures { λ r. ⌜ ((m : Message) → cut (_from_ base (now (s .entry))) ≡ ok m → flag number m ≡ r) ⌝ }
-{
-    let found = varint(s, base, number);
-    let Number::Value { value } = found else {
-        return false;
-    };
-    value != 0
 }
 
 pub enum Embedded {
