@@ -10,17 +10,17 @@ use native.Mathlib.Omega.{arith}
 use borrow.Author.Tests.{eqb-true, ltb-false, ne-eqb, lt-ltb, le-ltb}
 use lib.Dec.{eqb, ltb}
 use lib.ListN.{length, take, drop}
-use lib.Seq.{take-nil, take-take, drop-drop}
+use lib.Seq.{take-take, drop-drop}
 use Rattle.foundation.specs.Choices.{if_then_else_, ifSome, mapOption, IfSome}
 use Rattle.foundation.specs.Texts.{Text}
-use Rattle.foundation.proofs.ChoiceLaws.{if-ind}
+use Rattle.foundation.proofs.ChoiceLaws.{if-ind, drop-take}
 use Rattle.characters.specs.Characters.{width, utf8, Range, inRange, Lead, leads, leadOf, run, step, stepBy, fromUtf8After, fromUtf8}
 use Rattle.characters.specs.Characters.{placeAfter, placeOf}
 use Rattle.characters.specs.Splits.{Halves, halves, splitAt, substringOf}
 use Rattle.characters.specs.Told.{utf8At}
 use Rattle.characters.specs.declared.Character.the-variants.{Read, End}
 use Rattle.characters.proofs.TestLaws.{below}
-use Rattle.characters.proofs.EveryLaws.{map-same, map-twice, some-map}
+use Rattle.foundation.proofs.EveryLaws.{map-same, map-twice, some-map}
 use Rattle.characters.proofs.StepLaws.{alone, Joins, split-joins}
 use Rattle.characters.proofs.LengthLaws.{step-most, width-most, bytes-cons}
 use Rattle.characters.proofs.CharacterLaws.{after-drops, from-first, utf8-inside, utf8-none}
@@ -50,11 +50,6 @@ step-cut b bs k = go (leadOf b leads)
         → ifSome o alone (λ l. stepBy l b (take k bs)) ≡ ifSome o alone (λ l. stepBy l b bs)
     go none h = refl
     go (some l) h = step-by-cut l b bs k h
-
-pub drop-take : (j k : ℕ) (bs : List ℕ) → drop j (take (j + k) bs) ≡ take k (drop j bs)
-drop-take zero k bs = rw zero-add
-drop-take (suc j) k [] = rw (take-nil (suc j + k), take-nil k)
-drop-take (suc j) k (b ∷ bs) = rw suc-add (drop-take j k bs)
 
 -- A law of no bytes, and of some if it is one of those after their first character, is a law of all.
 module _ (P : List ℕ → Type 0) (end : P []) (more : (b : ℕ) (bs : List ℕ) → P (drop (step b bs .after) bs) → P (b ∷ bs)) where

@@ -9,7 +9,8 @@ use lib.Dec.{T}
 use Rattle.foundation.specs.Choices.{if_then_else_, ifSome, mapOption, bothOf, everyOf, All}
 use Rattle.foundation.specs.Texts.{Text, same}
 use Rattle.foundation.proofs.ChoiceLaws.{if-ind, all-append, same-true}
-use Rattle.defaults.proofs.ChoiceLaws.{all-split, some-map, some-both, some-every, same-false}
+use Rattle.foundation.proofs.EveryLaws.{all-split}
+use Rattle.defaults.proofs.ChoiceLaws.{some-map, some-both, some-every, same-false}
 use Rattle.schema.specs.Declarations.{Types, noTypes, andType, Ty, typesOf, Constructor, Function}
 use Rattle.erasure.specs.Erasure.{Meaning, primitive, primitiveArray, array, unit, nothing, mapped, Entry, listed, lookUp, meaningOf}
 use Rattle.erasure.specs.Erasure.{Erased, arrayOf, erasedAs, firstErased, erased, void, value, returnedAs, erasedReturn}

@@ -14,7 +14,8 @@ use Rattle.grammar.specs.Grammar.{ReturnType, fieldType, voidType, join, Cut}
 use Rattle.grammar.proofs.UniqueCut.{cuts-equal}
 use Rattle.defaults.specs.Needs.{partTexts, nameIn, nameInReturned, partNames}
 use Rattle.defaults.specs.Told.{InForm}
-use Rattle.defaults.proofs.ChoiceLaws.{all-split, last-split}
+use Rattle.foundation.proofs.EveryLaws.{all-split}
+use Rattle.defaults.proofs.ChoiceLaws.{last-split}
 
 -- A part whose class name keeps to the form prints a field descriptor of the grammar.
 base-letter : (p : Primitive) → BaseType (letter p)

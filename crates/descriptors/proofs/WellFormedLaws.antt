@@ -11,7 +11,7 @@ use Rattle.foundation.specs.Texts.{Text, ascii, same}
 use Rattle.foundation.proofs.ChoiceLaws.{if-ind, all-append, all-map}
 use Rattle.characters.specs.Characters.{isScalar, utf8, utf8Of}
 use Rattle.characters.specs.WellFormed.{Characters, WellFormed, empty, character}
-use Rattle.characters.proofs.EveryLaws.{every, every-all}
+use Rattle.foundation.proofs.EveryLaws.{every, every-all}
 use Rattle.characters.proofs.Utf8Laws.{utf8-well-formed}
 use Rattle.names.proofs.ScalarLaws.{substituted-keeps}
 use Rattle.schema.specs.Declarations.{Types, noTypes, andType, Ty, Parameter, Constructor, Function}

@@ -15,7 +15,7 @@ use Rattle.foundation.specs.Texts.{Text, ascii}
 use Rattle.characters.specs.Characters.{utf8, utf8Of}
 use Rattle.characters.specs.WellFormed.{Characters}
 use Rattle.characters.proofs.TestLaws.{below}
-use Rattle.characters.proofs.EveryLaws.{map-twice}
+use Rattle.foundation.proofs.EveryLaws.{map-twice}
 use Rattle.schema.specs.Declarations.{Types, andType, Ty}
 use Rattle.erasure.specs.Erasure as erasure
 use Rattle.erasure.specs.Erasure.{Primitive, double, letter, box, primitive, primitiveArray, array, unit, nothing, mapped}

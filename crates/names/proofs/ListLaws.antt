@@ -13,7 +13,8 @@ use Rattle.foundation.specs.Choices.{ifSome, mapOption}
 use Rattle.foundation.specs.Texts.{Text, ascii, same}
 use Rattle.foundation.proofs.ChoiceLaws.{same-true}
 use Rattle.characters.specs.Characters.{leadOf, run, step, fromUtf8After, fromUtf8, partFrom}
-use Rattle.characters.proofs.TestLaws.{holds, each, below}
+use Rattle.foundation.proofs.EveryLaws.{each}
+use Rattle.characters.proofs.TestLaws.{holds, below}
 use Rattle.names.specs.Records.{predefinedStrings, predefinedText}
 use Rattle.names.specs.Name.{predefinedList}
 

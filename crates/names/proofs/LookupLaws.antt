@@ -11,7 +11,7 @@ use Rattle.foundation.specs.Results.{Res, ok, _from_}
 use Rattle.foundation.specs.Texts.{Text}
 use Rattle.wire.specs.Wire.{cut}
 use Rattle.characters.specs.Characters.{fromUtf16, partFrom}
-use Rattle.characters.proofs.SplitLaws.{drop-take}
+use Rattle.foundation.proofs.ChoiceLaws.{drop-take}
 use Rattle.names.specs.Records as definition
 use Rattle.names.specs.Records.{decides, operated, textOf}
 use Rattle.names.specs.Names.{Names, recordAt, stringsFrom, d2String, string}

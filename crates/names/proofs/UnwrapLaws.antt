@@ -20,7 +20,7 @@ use Rattle.characters.specs.Plain.{instead}
 use Rattle.characters.specs.declared.Character.{Character}
 use Rattle.characters.specs.declared.Character.the-variants.{Read, End}
 use Rattle.characters.proofs.TestLaws.{below}
-use Rattle.characters.proofs.EveryLaws.{map-twice}
+use Rattle.foundation.proofs.EveryLaws.{map-twice}
 use Rattle.characters.proofs.CharacterLaws.{utf8-none, utf8-end, utf8-inside, utf8-next}
 use Rattle.characters.proofs.SplitLaws.{Boundary, boundary-start, boundary-next, boundary-text}
 use Rattle.characters.proofs.SeamLaws.{units-seam}

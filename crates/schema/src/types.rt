@@ -1,6 +1,7 @@
 // Small readers of types: an entry of the type table. Types are walked and written above, in `type_references`. What they tell:
 // specs/TypesTold.antt.
 ghost use mathlib.Core.Path.{_≡_};
+ghost use mathlib.Core.Bool.{_||_};
 ghost use Prim.Native.Nat.{_-_};
 ghost use Rattle.schema.specs.TypesTold.{pickedOf, EntryTold};
 use crate::Picked;
@@ -14,6 +15,15 @@ pub fn less(n: usize) -> usize
         return 0;
     }
     n - 1
+}
+
+pub fn either(a: bool, b: bool) -> bool
+    ensures { λ r. ⌜ r ≡ (a || b) ⌝ }
+{
+    if a {
+        return true;
+    }
+    b
 }
 
 fn wide(n: u32) -> usize

@@ -1,14 +1,18 @@
 -- Laws of every element of a list, and of a value if there is one.
 -- Assumes nothing.
 use mathlib.Core.Path.{_≡_, refl, ap}
-use mathlib.Core.Bool.{Bool, true, _&&_}
+use mathlib.Core.Bool.{Bool, true, false, _&&_}
 use mathlib.Core.List.{List, [], _∷_, _++_}
 use mathlib.Core.Option.{Option, none, some}
 use Prim.Native.Nat.{ℕ, zero, suc}
 use lib.Dec.{T}
 use lib.ListN.{take, drop, getElem?}
 use Rattle.foundation.specs.Choices.{ifSome, mapOption, All, IfSome}
-use Rattle.characters.proofs.TestLaws.{each}
+
+-- each of two tests that hold
+pub each : (a b : Bool) → T (a && b) → T a × T b
+each true b p = (tt, p)
+each false b p = absurd p
 
 -- a test of every element
 abbrev pub every : {A : Type 0} → (A → Bool) → List A → Bool
