@@ -13,9 +13,9 @@ use Rattle.descriptors.specs.Defaults.{functionParts, descriptor}
 use Rattle.decoding.specs.Inputs.{Input}
 use Rattle.decoding.specs.Answered.{Answer}
 use Rattle.metadata.specs.Read.{read}
-use Rattle.metadata.specs.Walk.{Sheet, closedFunctionOf}
-use Rattle.metadata.specs.Promises.{Promised}
-use Rattle.metadata.proofs.Promised.{promised}
+use Rattle.promises.specs.Walk.{Sheet, closedFunctionOf}
+use Rattle.promises.specs.Promises.{Promised}
+use Rattle.promises.proofs.Promised.{promised}
 use Rattle.defaults.specs.Told.{Told, SameText}
 use Rattle.defaults.specs.Demand.{defaultsOn, functionsIn, functionsOf, Described, _beside_, described, Demand}
 use Rattle.defaults.proofs.Defaults.{told, same-text}

@@ -34,7 +34,7 @@ use Rattle.schema.proofs.Fine.{FineTypes, FineTy, FineParameter, FineSignature,
 use Rattle.descriptors.specs.Defaults.{Parts, functionParts, constructorParts, descriptor, defaultRow, closedConstructor, closedFunction}
 use Rattle.descriptors.proofs.WellFormedLaws.{function-well-formed, constructor-well-formed}
 use Rattle.declarations.specs.Payload.{declarationRows}
-use Rattle.metadata.proofs.WalkLaws.{if-named}
+use Rattle.promises.proofs.WalkLaws.{if-named}
 
 -- a record of the table with well-formed texts
 abbrev pub Good : Row → Type 0

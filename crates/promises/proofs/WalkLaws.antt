@@ -33,7 +33,7 @@ use Rattle.characters.proofs.Utf8Laws.{utf8-back}
 use Rattle.schema.proofs.Fine.{Named, FineTypes, FineTy, FineParameter, FineSignature, FineConstructor, FineFunction, FineProperty, FineDeclarations}
 use Rattle.descriptors.specs.Defaults.{functionParts, constructorParts, descriptor, defaultRow, closedConstructor, closedFunction}
 use Rattle.declarations.specs.Payload.{declarationRows}
-use Rattle.metadata.specs.Walk.{numOf, walked, Walker, times, isType, walkTypes, walkType, walkParameter, walkConstructor, walkFunction, walkProperty, walkSheet, closedOf, closedFunctionOf, sheetOf}
+use Rattle.promises.specs.Walk.{numOf, walked, Walker, times, isType, walkTypes, walkType, walkParameter, walkConstructor, walkFunction, walkProperty, walkSheet, closedOf, closedFunctionOf, sheetOf}
 
 one-bit : (b : Bool) → eqb (numOf (bit b)) 1 ≡ b
 one-bit true = refl

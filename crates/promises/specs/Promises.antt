@@ -14,8 +14,8 @@ use Rattle.schema.specs.Declarations.{Declarations}
 use Rattle.schema.specs.Counting.{countKind}
 use Rattle.decoding.specs.Inputs.{Input, kindOf}
 use Rattle.decoding.specs.Answered.{Answer}
 use Rattle.metadata.specs.Read.{reading}
-use Rattle.metadata.specs.Walk.{walk, sheetOf}
+use Rattle.promises.specs.Walk.{walk, sheetOf}
 
 -- what stands in the areas up to the lengths told
 abbrev pub sheetBytes : Answer → List ℕ

@@ -28,13 +28,13 @@ use Rattle.descriptors.specs.Defaults.{constructorParts, functionParts, default
 use Rattle.declarations.specs.Payload.{declarationRows}
 use Rattle.decoding.specs.Inputs.{Input, kindOf}
 use Rattle.decoding.specs.Answered.{Answer}
 use Rattle.metadata.specs.Read.{read}
-use Rattle.metadata.specs.Walk.{walk, sheetOf}
-use Rattle.metadata.specs.Promises.{sheetBytes, textBytes, Promised}
-use Rattle.metadata.proofs.Accepted.{accepted-reads, sheet-bytes, text-bytes}
-use Rattle.metadata.proofs.WalkLaws.{sheet-walked}
-use Rattle.metadata.proofs.Tabled.{Good, rows-good}
-use Rattle.metadata.proofs.Sound.{reading-fine, reading-enters}
+use Rattle.promises.specs.Walk.{walk, sheetOf}
+use Rattle.promises.specs.Promises.{sheetBytes, textBytes, Promised}
+use Rattle.promises.proofs.Accepted.{accepted-reads, sheet-bytes, text-bytes}
+use Rattle.promises.proofs.WalkLaws.{sheet-walked}
+use Rattle.promises.proofs.Tabled.{Good, rows-good}
+use Rattle.promises.proofs.Sound.{reading-fine, reading-enters}
 
 kind-small : (k : ℤ) → kindOf k < 256
 kind-small (pos n) =
