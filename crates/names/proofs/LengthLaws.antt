@@ -16,8 +16,7 @@ use Rattle.foundation.proofs.ResultLaws.{Gives}
 use Rattle.characters.specs.Characters.{isScalar, width, utf8Of, utf8}
 use Rattle.characters.proofs.LengthLaws.{AtMost, InBytes, width-most, bytes-cons, bytes-append, bytes-most, fromUtf8-length}
 use Rattle.foundation.proofs.EveryLaws.{every-all, all-at, some-map, some-weaken}
-use Rattle.names.specs.Records.{Record, predefinedStrings, predefinedText, baseText, substituted, replaceOf, dotted, operated}
-use Rattle.names.specs.Records.{textOf}
+use Rattle.names.specs.Records.{Record, predefinedStrings, predefinedText, baseText, substituted, replaceOf, dotted, operated, textOf}
 use Rattle.names.specs.Names.{Names, string, unwrapped, qualifiedName}
 use Rattle.names.proofs.StepLaws.{PartOf, unwrapped-part, base-ind, text-keeps, qualified-keeps}
 

@@ -30,8 +30,7 @@ use Rattle.wire.specs.declared.repeated.Two.{Two}
 use Rattle.wire.specs.declared.repeated.Two.the-variants.{Neither, One, Both}
 use Rattle.wire.proofs.WalkLaws.{field-is, Leads, leads-start, leads-next, leads-never, leads-end, values-found, values-passed}
 use Rattle.wire.proofs.FindLaws.{as-number, as-piece, piece-inside}
-use Rattle.names.specs.Records.{served, twoOf, recordOf}
-use Rattle.names.specs.Records.{Record·range, Record·predefined-index, Record·operation, Record·substring-index, Record·replace-char, Record·string}
+use Rattle.names.specs.Records.{served, twoOf, recordOf, Record·range, Record·predefined-index, Record·operation, Record·substring-index, Record·replace-char, Record·string}
 use Rattle.names.specs.RecordTold.{firstSeen, withField, FirstsTold, numberIn, pieceIn, indexIn, operationIn, bothOf, RecordTold}
 use Rattle.names.specs.declared.records.Firsts.{Firsts}
 use Rattle.names.specs.declared.records.Record.{Record}

@@ -19,8 +19,7 @@ use Rattle.wire.specs.declared.message.Piece.{Piece}
 use Rattle.wire.specs.declared.message.Piece.the-variants as piece
 use Rattle.wire.specs.declared.repeated.Two.{Two}
 use Rattle.wire.specs.declared.repeated.Two.the-variants.{Neither, One, Both}
-use Rattle.names.specs.Records.{recordOf}
-use Rattle.names.specs.Records.{Record·range, Record·predefined-index, Record·operation, Record·substring-index, Record·replace-char, Record·string}
+use Rattle.names.specs.Records.{recordOf, Record·range, Record·predefined-index, Record·operation, Record·substring-index, Record·replace-char, Record·string}
 use Rattle.names.specs.Records as definition
 use Rattle.names.specs.declared.records.Firsts.{Firsts}
 use Rattle.names.specs.declared.records.Record.{Record}

@@ -14,8 +14,7 @@ use lib.Seq.{take-at, drop-at, take-append-seam, drop-append-seam, drop-drop}
 use Rattle.foundation.specs.Choices.{ifSome, mapOption, All}
 use Rattle.foundation.specs.Digits.{number, little}
 use Rattle.foundation.proofs.DigitLaws.{length-digits, number-digits-fits}
-use Rattle.sheet.specs.Rows.{Cell, num, ref, Row, row, bit, Form, wide, text, formsOf}
-use Rattle.sheet.specs.Rows.{refBytes, cellBytes, cellText, bodyText, bodyBytes, texts, sheetFrom}
+use Rattle.sheet.specs.Rows.{Cell, num, ref, Row, row, bit, Form, wide, text, formsOf, refBytes, cellBytes, cellText, bodyText, bodyBytes, texts, sheetFrom}
 use Rattle.sheet.specs.Reading.{taken, refAt, refOf, formWidth, cellOf, takeCells, takeRow, takeRows, rowsOf}
 use Rattle.sheet.proofs.RowLaws.{cellLength, cell-length}
 
