@@ -6,7 +6,7 @@ use mathlib.Core.List.{List, [], _∷_, map}
 use Prim.Native.Nat.{ℕ, _+_, _-_, _≤_, _<_}
 use native.Mathlib.Numerals.{add-one}
 use native.Mathlib.Omega.{arith}
-use borrow.Author.Tests.{ltb-true, lt-ltb, le-ltb}
+use borrow.Author.Tests.{ltb-true, lt-ltb, le-ltb, eq-eqb, ne-eqb}
 use lib.Bits.{bitOr, or-lt, or-add-and, and-le-l, and-le-r}
 use lib.Dec.{ltb}
 use lib.ListN.{length, drop, getD, set, length-set}
@@ -16,7 +16,6 @@ use Rattle.foundation.specs.Texts.{Text}
 use Rattle.characters.specs.Characters.{fromUtf16}
 use Rattle.characters.specs.Plain.{instead, isAscii}
 use Rattle.characters.proofs.TestLaws.{below, under}
-use borrow.Author.Tests.{eq-eqb, ne-eqb}
 
 -- The bits of several numbers together are below 128 if those of each are.
 or-below : (a b : ℕ) → ltb (bitOr a b) 128 ≡ (ltb a 128 && ltb b 128)

@@ -72,6 +72,3 @@ module _ (s : List ℕ) (at : ℕ) where
         let t = told in
         let n : at + (next - at) ≡ next = omega (arith, t .forward) in
         t .text ∙ ap (λ (l : List ℕ). code ∷ fromUtf8 l) (drop-drop (next - at) at s ∙ ap (λ (k : ℕ). drop k s) n)
-
-    pub utf8-scalar : T (isScalar code)
-    utf8-scalar = told .scalar

@@ -10,10 +10,9 @@ use lib.Dec.{T, eqb, ltb, ltb→lt}
 use lib.ListN.{length, take, length-append}
 use Rattle.foundation.specs.Texts.{Text}
 use Rattle.foundation.proofs.ChoiceLaws.{if-ind}
-use Rattle.characters.specs.Characters.{width, utf8Of, utf8, Range, inRange, leads, run, sixes, leading, step, replacement}
-use Rattle.characters.specs.Characters.{fromUtf8After, isHigh, isLow, lone, pair, fromUtf16}
+use Rattle.characters.specs.Characters.{width, utf8Of, utf8, Range, inRange, leads, run, sixes, leading, step, replacement, fromUtf8After, isHigh, isLow, lone, pair, fromUtf16}
 use Rattle.characters.proofs.TestLaws.{bounds}
-use Rattle.characters.proofs.EveryLaws.{every-all}
+use Rattle.foundation.proofs.EveryLaws.{every-all}
 use Rattle.characters.proofs.Utf8Laws.{by-width, utf8-length, utf8-append}
 use Rattle.characters.specs.WellFormed.{Units}
 use Rattle.characters.proofs.StepLaws.{step-ind}

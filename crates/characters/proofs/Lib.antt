@@ -1,5 +1,4 @@
 pub mod TestLaws
-pub mod EveryLaws
 pub mod Utf8Laws
 pub mod StepLaws
 pub mod ScalarLaws

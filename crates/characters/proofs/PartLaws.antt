@@ -8,7 +8,7 @@ use native.Mathlib.Omega.{arith}
 use lib.ListN.{length, take, drop, length-take, length-drop}
 use lib.Seq.{take-take, drop-drop, take-all, length-take-le}
 use Rattle.characters.specs.Characters.{partFrom}
-use Rattle.characters.proofs.SplitLaws.{drop-take}
+use Rattle.foundation.proofs.ChoiceLaws.{drop-take}
 
 -- A part of a part is a part of the whole.
 pub part-part : (l : List ℕ) (start end a b : ℕ) → a ≤ b → b ≤ length (partFrom start end l)

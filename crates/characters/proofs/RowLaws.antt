@@ -17,7 +17,7 @@ use Rattle.characters.specs.Characters.{between, Range, _to_, inRange, t
 use Rattle.characters.specs.Told.{Row, row, rowOf, ranges, goOn, utf8At}
 use Rattle.characters.specs.declared.Character.the-variants.{Read, End}
 use Rattle.characters.proofs.TestLaws.{in-between, bounds, above, under}
-use Rattle.characters.proofs.EveryLaws.{every, every-all, some-map}
+use Rattle.foundation.proofs.EveryLaws.{every, every-all, some-map}
 use Rattle.characters.proofs.Utf8Laws.{lead-of}
 use Rattle.characters.proofs.StepLaws.{alone, lead-found}
 

@@ -11,11 +11,10 @@ use lib.Dec.{T, eqb, leb, ltb, ltb→lt, leb→le}
 use lib.ListN.{length, take}
 use Rattle.foundation.specs.Choices.{if_then_else_, All}
 use Rattle.foundation.proofs.ChoiceLaws.{if-ind}
-use Rattle.characters.specs.Characters.{isScalar, Range, inRange, Lead, leads, run, sixes, leading, step, replacement}
-use Rattle.characters.specs.Characters.{fromUtf8After, isHigh, isLow, lone, pair, fromUtf16}
+use Rattle.characters.specs.Characters.{isScalar, Range, inRange, Lead, leads, run, sixes, leading, step, replacement, fromUtf8After, isHigh, isLow, lone, pair, fromUtf16}
 use Rattle.characters.specs.WellFormed.{Characters, Units, Fits, complete, fits}
-use Rattle.characters.proofs.TestLaws.{each, neither, below, bounds, outside, scalar-below, scalar-above}
-use Rattle.characters.proofs.EveryLaws.{every, every-all}
+use Rattle.characters.proofs.TestLaws.{neither, below, bounds, outside, scalar-below, scalar-above}
+use Rattle.foundation.proofs.EveryLaws.{each, every, every-all}
 use Rattle.characters.proofs.Utf8Laws.{decoded}
 use Rattle.characters.proofs.StepLaws.{step-ind}
 

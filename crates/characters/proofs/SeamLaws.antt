@@ -13,7 +13,7 @@ use Rattle.foundation.specs.Choices.{if_then_else_, ifSome, All, IfSome}
 use Rattle.foundation.specs.Texts.{Text}
 use Rattle.characters.specs.Characters.{Range, inRange, Lead, leads, leadOf, run, step, stepBy, fromUtf8After, fromUtf8, isHigh, isLow, lone, pair, fromUtf16}
 use Rattle.characters.proofs.TestLaws.{under, in-between}
-use Rattle.characters.proofs.EveryLaws.{every, every-all}
+use Rattle.foundation.proofs.EveryLaws.{every, every-all}
 use Rattle.characters.proofs.Utf8Laws.{lead-of}
 use Rattle.characters.proofs.StepLaws.{lead-found, alone}
 use Rattle.characters.proofs.LengthLaws.{run-most, step-most}

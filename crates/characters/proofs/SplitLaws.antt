@@ -10,17 +10,16 @@ use native.Mathlib.Omega.{arith}
 use borrow.Author.Tests.{eqb-true, ltb-false, ne-eqb, lt-ltb, le-ltb}
 use lib.Dec.{eqb, ltb}
 use lib.ListN.{length, take, drop}
-use lib.Seq.{take-nil, take-take, drop-drop}
+use lib.Seq.{take-take, drop-drop}
 use Rattle.foundation.specs.Choices.{if_then_else_, ifSome, mapOption, IfSome}
 use Rattle.foundation.specs.Texts.{Text}
-use Rattle.foundation.proofs.ChoiceLaws.{if-ind}
-use Rattle.characters.specs.Characters.{width, utf8, Range, inRange, Lead, leads, leadOf, run, step, stepBy, fromUtf8After, fromUtf8}
-use Rattle.characters.specs.Characters.{placeAfter, placeOf}
+use Rattle.foundation.proofs.ChoiceLaws.{if-ind, drop-take}
+use Rattle.characters.specs.Characters.{width, utf8, Range, inRange, Lead, leads, leadOf, run, step, stepBy, fromUtf8After, fromUtf8, placeAfter, placeOf}
 use Rattle.characters.specs.Splits.{Halves, halves, splitAt, substringOf}
 use Rattle.characters.specs.Told.{utf8At}
 use Rattle.characters.specs.declared.Character.the-variants.{Read, End}
 use Rattle.characters.proofs.TestLaws.{below}
-use Rattle.characters.proofs.EveryLaws.{map-same, map-twice, some-map}
+use Rattle.foundation.proofs.EveryLaws.{map-same, map-twice, some-map}
 use Rattle.characters.proofs.StepLaws.{alone, Joins, split-joins}
 use Rattle.characters.proofs.LengthLaws.{step-most, width-most, bytes-cons}
 use Rattle.characters.proofs.CharacterLaws.{after-drops, from-first, utf8-inside, utf8-none}
@@ -50,11 +49,6 @@ step-cut b bs k = go (leadOf b leads)
         → ifSome o alone (λ l. stepBy l b (take k bs)) ≡ ifSome o alone (λ l. stepBy l b bs)
     go none h = refl
     go (some l) h = step-by-cut l b bs k h
-
-pub drop-take : (j k : ℕ) (bs : List ℕ) → drop j (take (j + k) bs) ≡ take k (drop j bs)
-drop-take zero k bs = rw zero-add
-drop-take (suc j) k [] = rw (take-nil (suc j + k), take-nil k)
-drop-take (suc j) k (b ∷ bs) = rw suc-add (drop-take j k bs)
 
 -- A law of no bytes, and of some if it is one of those after their first character, is a law of all.
 module _ (P : List ℕ → Type 0) (end : P []) (more : (b : ℕ) (bs : List ℕ) → P (drop (step b bs .after) bs) → P (b ∷ bs)) where
@@ -276,9 +270,6 @@ module _ (bs : List ℕ) (n : ℕ) {a : ℕ} (e : placeOf n bs ≡ some a) where
   pub place-text : fromUtf8 bs ≡ fromUtf8 (take a bs) ++ fromUtf8 (drop a bs)
   place-text = sym (at-place (Joins (fromUtf8 bs)) (split-joins n (fromUtf8 bs)))
 
-  pub place-bytes : length (utf8 (fromUtf8 (take a bs))) ≡ n
-  place-bytes = at-place (λ h. length (utf8 (h .before)) ≡ n) (split-bytes n (fromUtf8 bs))
-
 -- A place that is reached by steps from the start.
 abbrev pub Boundary : List ℕ → ℕ → Type 0
 Boundary s at = (n : ℕ) × (placeOf n s ≡ some at)
@@ -290,9 +281,6 @@ module _ (s : List ℕ) where
   module _ {at : ℕ} (b : Boundary s at) where
     pub boundary-text : fromUtf8 s ≡ fromUtf8 (take at s) ++ fromUtf8 (drop at s)
     boundary-text = place-text s (b .0) (b .1)
-
-    pub boundary-within : at ≤ length s
-    boundary-within = subst (IfSome λ a. a ≤ length s) (b .1) (place-within s (b .0))
 
     pub boundary-next : {code next : ℕ} → utf8At at (drop at s) ≡ Read code next → Boundary s next
     boundary-next {code} {next} e = (
@@ -318,25 +306,3 @@ substring-source start stop bs = ap (λ (x : Option Text). if ltb stop start the
     go (some a) =
         let rest = drop a bs in
         ap (mapOption λ m. m .before) (split-source rest n) ∙ map-twice (halvesAt rest) (λ m. m .before) (placeOf n rest)
-
--- and so by both ends
-pub substring-ends : (start stop : ℕ) (bs : List ℕ) → start ≤ stop →
-    substringOf start stop (fromUtf8 bs)
-    ≡ ifSome (placeOf start bs) none λ a. mapOption (λ b. fromUtf8 (take (b - a) (drop a bs))) (placeOf stop bs)
-substring-ends start stop bs h = substring-source start stop bs ∙ rw (le-ltb stop start h) (go (placeOf start bs) refl)
-  where
-    n : ℕ
-    n = stop - start
-
-    go : (o : Option ℕ) → placeOf start bs ≡ o
-        → ifSome o none (λ a. mapOption (λ k. fromUtf8 (take k (drop a bs))) (placeOf n (drop a bs)))
-        ≡ ifSome o none λ a. mapOption (λ b. fromUtf8 (take (b - a) (drop a bs))) (placeOf stop bs)
-    go none e = refl
-    go (some a) e =
-        let p = placeOf n (drop a bs) in
-        let f : ℕ → Text = λ k. fromUtf8 (take k (drop a bs)) in
-        let r : start + n ≡ stop = omega arith in
-        let q : placeOf stop bs ≡ placeFrom bs a n = ap (λ (k : ℕ). placeOf k bs) (sym r) ∙ place-add bs start n a e in
-        map-same f (λ k. f (a + k - a)) (λ k. let z : k ≡ a + k - a = omega arith in ap f z) p
-        ∙ sym (map-twice (λ k. a + k) (λ b. f (b - a)) p)
-        ∙ ap (mapOption λ b. f (b - a)) (sym q)

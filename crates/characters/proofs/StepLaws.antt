@@ -10,7 +10,7 @@ use Rattle.foundation.specs.Texts.{Text}
 use Rattle.foundation.proofs.ChoiceLaws.{if-ind}
 use Rattle.characters.specs.Characters.{width, inRange, Lead, leads, leadOf, Step, step, stepBy, replacement}
 use Rattle.characters.specs.Splits.{Halves, splitAt}
-use Rattle.characters.proofs.EveryLaws.{some-map}
+use Rattle.foundation.proofs.EveryLaws.{some-map}
 
 -- A step in UTF-8, by what holds of a lone U+FFFD and of what each row of the table gives.
 abbrev pub alone : Step

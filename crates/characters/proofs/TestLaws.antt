@@ -6,6 +6,7 @@ use Prim.Native.Nat.{ℕ, suc, _≤_, _<_}
 use native.Mathlib.Omega.{arith}
 use borrow.Author.Tests.{ltb-true, ltb-false, lt-ltb, le-ltb, lt-leb}
 use lib.Dec.{T, leb, ltb, le→leb, leb→le}
+use Rattle.foundation.proofs.EveryLaws.{each}
 use Rattle.characters.specs.Characters.{isScalar, between}
 
 -- A test that holds, and two in a row.
@@ -16,10 +17,6 @@ holds false h = absurd h
 both : (a b : Bool) → T a → T b → T (a && b)
 both true b p q = q
 both false b p q = p
-
-pub each : (a b : Bool) → T (a && b) → T a × T b
-each true b p = (tt, p)
-each false b p = absurd p
 
 pub neither : (a b : Bool) → a || b ≡ false → (a ≡ false) × (b ≡ false)
 neither true b e = (e, let z : true ≡ false = e in cc)

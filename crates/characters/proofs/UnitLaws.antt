@@ -9,15 +9,13 @@ use native.Mathlib.Omega.{arith}
 use lib.Dec.{T}
 use lib.ListN.{length, drop, getD, length-take, length-drop, drop-of-length-le}
 use lib.Seq.{take-nil, drop-cons, drop-drop}
-use Rattle.foundation.proofs.ChoiceLaws.{if-ind}
+use Rattle.foundation.proofs.ChoiceLaws.{if-ind, drop-take}
 use Rattle.characters.specs.Characters.{isScalar, isHigh, isLow, lone, pair, replacement, fromUtf16, partFrom}
 use Rattle.characters.specs.WellFormed.{Units}
 use Rattle.characters.specs.Told.{pairedAt, utf16At}
 use Rattle.characters.specs.declared.Character.{Character}
 use Rattle.characters.specs.declared.Character.the-variants.{Read, End}
-use Rattle.characters.proofs.EveryLaws.{all-take, all-drop}
 use Rattle.characters.proofs.ScalarLaws.{lone-scalar, pair-scalar, replacement-scalar}
-use Rattle.characters.proofs.SplitLaws.{drop-take}
 
 -- The units from a place on: none, or the one there and those after it.
 module _ (s : List ℕ) (at end : ℕ) where
@@ -119,6 +117,3 @@ module _ (s : List ℕ) (at end : ℕ) where
         let q : at + j ≡ next = omega arith in
         let r : drop j (partFrom at end s) ≡ partFrom next end s = rw (p, drop-take j (end - next) (drop at s), drop-drop j at s, q) in
         t .text ∙ ap (λ (us : List ℕ). code ∷ fromUtf16 us) r
-
-    pub utf16-scalar : Units s → T (isScalar code)
-    utf16-scalar h = told .scalar (all-take (λ u. u < 65536) (end - at) (drop at s) (all-drop (λ u. u < 65536) at s h))

@@ -12,9 +12,9 @@ use lib.ListN.{length, take}
 use Rattle.foundation.specs.Choices.{All}
 use Rattle.foundation.specs.Texts.{Text}
 use Rattle.foundation.proofs.ChoiceLaws.{all-append}
-use Rattle.characters.specs.Characters.{isScalar, between, width, utf8Of, utf8, continuation, Range, _to_, inRange, trail, Lead, _then_}
-use Rattle.characters.specs.Characters.{leads, leadOf, run, sixes, leading, step, fromUtf8After, fromUtf8}
-use Rattle.characters.proofs.TestLaws.{holds, each, below, in-between, bounds, above, scalar-bounds}
+use Rattle.characters.specs.Characters.{isScalar, between, width, utf8Of, utf8, continuation, Range, _to_, inRange, trail, Lead, _then_, leads, leadOf, run, sixes, leading, step, fromUtf8After, fromUtf8}
+use Rattle.foundation.proofs.EveryLaws.{each}
+use Rattle.characters.proofs.TestLaws.{holds, below, in-between, bounds, above, scalar-bounds}
 use Rattle.characters.specs.WellFormed.{Characters, Fits, complete, fits, WellFormed, empty, character}
 
 in-range : (r : Range) (b : ℕ) → (r .low ≤ b) × (b ≤ r .high) → T (inRange r b)

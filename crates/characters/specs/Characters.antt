@@ -1,7 +1,7 @@
 -- Characters: UTF-8 and UTF-16, read with replacement, and UTF-8 written (Unicode 3.9, tables 3-5 to 3-7).
 -- Assumes nothing.
 use mathlib.Core.Bool.{Bool, _&&_, _||_}
-use mathlib.Core.List.{List, [], _∷_, _++_, map}
+use mathlib.Core.List.{List, [], _∷_, _++_}
 use mathlib.Core.Option.{Option, none, some}
 use Prim.Native.Nat.{ℕ, zero, suc, _+_, _-_, _*_, _/_, _%_, _^_}
 use lib.Dec.{eqb, leb, ltb}

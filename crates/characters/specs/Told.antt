@@ -3,13 +3,12 @@
 use mathlib.Core.List.{List, [], _∷_}
 use mathlib.Core.Option.{Option, none, some}
 use mathlib.Core.Path.{_≡_}
-use Prim.Native.Nat.{ℕ, zero, suc, _+_, _≤_}
+use Prim.Native.Nat.{ℕ, zero, suc, _+_}
 use lib.Dec.{eqb}
 use lib.ListN.{length, take, replicate}
 use lib.Seq.{sets}
 use Rattle.foundation.specs.Choices.{if_then_else_, mapOption}
-use Rattle.characters.specs.Characters.{Range, _to_, trail, leads, leadOf, run, sixes, leading, step, replacement}
-use Rattle.characters.specs.Characters.{width, utf8Of, isHigh, isLow, lone, pair}
+use Rattle.characters.specs.Characters.{Range, _to_, trail, leads, leadOf, run, sixes, leading, step, replacement, width, utf8Of, isHigh, isLow, lone, pair}
 use Rattle.characters.specs.declared.Character.{Character}
 use Rattle.characters.specs.declared.Character.the-variants.{Read, End}
 use Rattle.characters.specs.declared.FirstByte.{FirstByte}

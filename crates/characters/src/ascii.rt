@@ -6,7 +6,7 @@ ghost use Prim.Native.Nat.{_+_, _-_, _≤_};
 ghost use lib.ListN.{length};
 ghost use lib.Seq.{sets};
 ghost use Rattle.characters.specs.Characters.{partFrom};
-ghost use Rattle.characters.specs.Plain.{instead, withDots, withSlashes, isAscii, shown};
+ghost use Rattle.characters.specs.Plain.{instead, withDots, isAscii, shown};
 
 // Is every unit from `start` to `end` below 128? The caller has clipped the end, so that no unit is tested for being there.
 pub fn ascii_units(units: &[u16], start: usize, end: usize) -> bool

@@ -2,45 +2,42 @@
 -- Assumes nothing.
 use mathlib.Core.Path.{_≡_, refl, ap, sym, subst, _∙_}
 use mathlib.Core.Bool.{Bool, true, false}
-use mathlib.Core.List.{List, [], _∷_, _++_, map}
-use mathlib.Core.Option.{Option, none, some}
-use Prim.Native.Nat.{ℕ, _+_, _-_, _*_, _^_, _≤_, _<_}
+use mathlib.Core.List.{List, [], _++_, map}
+use mathlib.Core.Option.{Option, none}
+use Prim.Native.Nat.{ℕ, _+_, _-_, _*_, _^_, _≤_}
 use native.Mathlib.Omega.{arith}
 use lib.Dec.{eqb}
 use lib.ListN.{length, take, drop, length-take, length-drop}
 use lib.Seq.{sets, take-all}
 use Rattle.foundation.specs.Choices.{concat}
-use Rattle.foundation.specs.Results as Results
-use Rattle.foundation.specs.Results.{Res, ok, _from_}
+use Rattle.foundation.specs.Results.{ok, _from_}
 use Rattle.foundation.specs.Texts.{Text}
 use Rattle.wire.specs.Wire.{Message, cut}
 use Rattle.names.specs.Name.{sourceText, nameText}
 use Rattle.names.specs.Steps.{absentName}
 use Rattle.names.specs.declared.name.Name.{Name}
-use Rattle.sheet.specs.Rows.{Row, sheetFrom, texts, bodyBytes}
+use Rattle.sheet.specs.Rows.{sheetFrom, texts, bodyBytes}
 use Rattle.sheet.specs.Put.{PutHead, PutRows, past}
 use Rattle.sheet.specs.declared.State.{State}
-use Rattle.sheet.proofs.PutLaws.{put-types, put-left, put-none, rows-then}
-use Rattle.schema.specs.Declarations.{Constructor, Function, Property, Declarations}
+use Rattle.sheet.proofs.PutLaws.{put-types, put-none, rows-then}
+use Rattle.schema.specs.Declarations.{Constructor}
 use Rattle.schema.specs.Fields.{Class·flags, Class·fq-name, Class·constructor}
 use Rattle.schema.specs.Reading.{Scope, classNameIn}
 use Rattle.schema.specs.Members.{flagsIn, listIn, constructorIn, functionIn, propertyIn, membersIn}
 use Rattle.schema.specs.Rows.{propertyRows}
-use Rattle.schema.specs.Written as written
 use Rattle.schema.specs.Written.{headCells, headCounts}
-use Rattle.schema.specs.Told.{Lent, NamesOf, Scoped, refusal, WalkedTold}
+use Rattle.schema.specs.Told.{Lent, NamesOf, Scoped}
 use Rattle.schema.specs.MembersTold.{Affords, Within, ListedTold, ListTold}
 use Rattle.schema.specs.declared.Listed.{Listed}
 use Rattle.schema.specs.declared.Listed.the-variants as listed
 use Rattle.schema.specs.declared.Stop.{Stop}
-use Rattle.schema.specs.declared.Walked.{Walked}
 use Rattle.schema.specs.declared.Walked.the-variants as walked
 use Rattle.schema.proofs.WrittenLaws.{head-small}
 use Rattle.schema.proofs.RecordLaws.{head-put}
-use Rattle.schema.proofs.CountLaws.{within-none, within-less, within-then, past-within, affords-less, affords-after, affords-places, head-within, listed-within}
+use Rattle.schema.proofs.CountLaws.{within-none, within-less, within-then, past-within, affords-less, affords-after, affords-places, head-within}
 use Rattle.descriptors.specs.Defaults.{closedConstructor, closedFunction}
 use Rattle.declarations.specs.Payload.{declarationRows}
-use Rattle.declarations.specs.PayloadTold.{Head, head, headIn, constructorsIn, functionField, propertyField, declaredBy, afterTable}
+use Rattle.declarations.specs.PayloadTold.{head, constructorsIn, functionField, propertyField, declaredBy, afterTable}
 use Rattle.declarations.specs.BodyTold.{headCost, listCost, bodyCost, HeadTold, ConstructorsTold, memberRows, MembersAre, MembersTold, BodyWalked}
 use Rattle.declarations.specs.declared.body.Members.{Members}
 use Rattle.declarations.specs.declared.body.Members.the-variants as members

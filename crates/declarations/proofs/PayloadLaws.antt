@@ -4,16 +4,15 @@ use mathlib.Core.Path.{_≡_, refl, ap, sym, subst, _∙_}
 use mathlib.Core.Bool.{Bool, true, false}
 use mathlib.Core.List.{List}
 use mathlib.Core.Option.{Option}
-use Prim.Native.Nat.{ℕ, _+_, _*_, _^_, _≤_, _<_}
+use Prim.Native.Nat.{ℕ, _≤_}
 use native.Mathlib.Nat.{zero-add}
 use native.Mathlib.Omega.{arith}
 use lib.Dec.{eqb}
 use lib.ListN.{length, take, drop, length-take, length-drop}
 use Rattle.foundation.specs.Choices.{if_then_else_}
 use Rattle.foundation.specs.Results as Results
-use Rattle.foundation.specs.Results.{Res, ok, refused, Part, _from_, got}
+use Rattle.foundation.specs.Results.{Res, ok, refused, _from_, got}
 use Rattle.foundation.specs.Texts.{Text}
-use Rattle.foundation.proofs.ChoiceLaws.{if-ind}
 use Rattle.wire.specs.Wire.{Message, cut, readDelimited}
 use Rattle.wire.specs.Told.{refusal, restOf}
 use Rattle.wire.specs.Told as wire
@@ -25,8 +24,8 @@ use Rattle.wire.specs.declared.reader.Opened.the-variants as parts
 use Rattle.wire.specs.declared.message.Checked.{Checked}
 use Rattle.wire.specs.declared.message.Checked.the-variants as checked
 use Rattle.wire.proofs.BodyLaws.{part-is}
-use Rattle.names.specs.Names.{Names, StringTableTypes·record, recordsOf}
-use Rattle.names.specs.Index.{IndexOf, IndexTold}
+use Rattle.names.specs.Names.{Names, StringTableTypes·record}
+use Rattle.names.specs.Index.{IndexTold}
 use Rattle.names.specs.declared.records.RecordIndex.{RecordIndex}
 use Rattle.names.specs.declared.records.RecordIndex.the-variants as records
 use Rattle.names.proofs.LookupLaws.{index-longer}
@@ -36,11 +35,10 @@ use Rattle.schema.specs.Reading.{pure, _>>=_, TypeTable, scope, allowance, clas
 use Rattle.schema.specs.Types.{typeTableIn}
 use Rattle.schema.specs.Members.{flagsIn, membersIn, classBody, packageBody}
 use Rattle.schema.specs.TableTold.{TypeIndexTold}
-use Rattle.schema.specs.declared.Tables.{Tables}
 use Rattle.schema.specs.declared.table.TypeIndex.{TypeIndex}
 use Rattle.schema.specs.declared.table.TypeIndex.the-variants as types
 use Rattle.declarations.specs.Payload.{bodyOf, payload}
-use Rattle.declarations.specs.PayloadTold.{head, constructorsIn, declaredBy, afterTable, bodyFrom, BodyAt, EntryRoom, BodyTold, OpenedAt, IndexRoom, OpenedTold}
+use Rattle.declarations.specs.PayloadTold.{head, constructorsIn, declaredBy, afterTable, bodyFrom, BodyTold, OpenedTold}
 use Rattle.declarations.specs.declared.payload.Opened.{Opened}
 use Rattle.declarations.specs.declared.payload.Opened.the-variants as opened
 use Rattle.declarations.proofs.RoomLaws.{bodies-few, inner-few}

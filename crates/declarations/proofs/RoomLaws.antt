@@ -4,13 +4,12 @@
 use mathlib.Core.Path.{_≡_}
 use mathlib.Core.List.{List, [], _∷_}
 use mathlib.Core.Option.{Option, none, some}
-use Prim.Native.Nat.{ℕ, _+_, _*_, _/_, _%_, _^_, _≤_, _<_}
-use native.Mathlib.Nat.{le-refl}
+use Prim.Native.Nat.{ℕ, _+_, _*_, _/_, _%_, _^_, _≤_}
 use native.Mathlib.Omega.{arith}
-use lib.Dec.{eqb, ltb}
-use lib.ListN.{length, take, drop, length-take, length-drop}
+use lib.Dec.{ltb}
+use lib.ListN.{length}
 use Rattle.foundation.specs.Choices.{IfSome}
-use Rattle.foundation.specs.Results.{Res, ok, Part, _from_, Got}
+use Rattle.foundation.specs.Results.{ok, Part, Got}
 use Rattle.foundation.proofs.ChoiceLaws.{if-ind}
 use Rattle.foundation.proofs.ResultLaws.{Gives, gives-bind, gives-weaken, gives-map, gives-ok}
 use Rattle.wire.specs.Wire.{Value, varint, fixed, body, Field, field, Message, readVarint, readValue, readField, cut}
@@ -19,7 +18,7 @@ use Rattle.wire.specs.Asked.{bodies}
 use Rattle.wire.proofs.Readers.{Within, within-shorter, after-shorter, varint-after, value-after}
 use Rattle.wire.proofs.Progress.{every-gives}
 use Rattle.wire.proofs.MessageLaws.{values-few}
-use Rattle.wire.proofs.Places.{CutIn, cut-in, bytesOf-in}
+use Rattle.wire.proofs.Places.{cut-in, bytesOf-in}
 
 field-two : (p : Part) → Gives (λ g. length (g .1 .bytes) + 2 ≤ length (p .bytes)) (readField p)
 unfolding readField

@@ -8,13 +8,13 @@ use Prim.Native.Nat.{ℕ, _+_, _-_, _*_, _^_}
 use lib.Dec.{eqb}
 use lib.ListN.{length, drop}
 use Rattle.foundation.specs.Choices.{concat}
-use Rattle.foundation.specs.Results.{Res, ok, _from_}
+use Rattle.foundation.specs.Results.{ok, _from_}
 use Rattle.foundation.specs.Texts.{Text}
 use Rattle.wire.specs.Wire.{Message, cut}
 use Rattle.sheet.specs.Rows.{Row}
 use Rattle.sheet.specs.Put.{PutHead, PutRows}
 use Rattle.sheet.specs.declared.State.{State}
-use Rattle.schema.specs.Declarations.{Constructor, Function, Property, Declarations}
+use Rattle.schema.specs.Declarations.{Constructor, Function, Property}
 use Rattle.schema.specs.Reading.{Scope}
 use Rattle.schema.specs.Rows.{propertyRows}
 use Rattle.schema.specs.Written.{headCells}

@@ -2,10 +2,9 @@
 -- Assumes nothing.
 use mathlib.Core.Path.{_≡_}
 use mathlib.Core.Bool.{Bool, true, false}
-use mathlib.Core.List.{List, [], map, _++_}
+use mathlib.Core.List.{List, []}
 use mathlib.Core.Option.{Option, none}
 use Prim.Native.Nat.{ℕ, _*_, _^_, _≤_, _<_}
-use lib.Dec.{eqb}
 use lib.ListN.{length, drop}
 use Rattle.foundation.specs.Results as Results
 use Rattle.foundation.specs.Results.{Res, ok, _from_}
@@ -17,8 +16,8 @@ use Rattle.names.specs.Records.{Record}
 use Rattle.names.specs.Names.{Names}
 use Rattle.names.specs.Index.{IndexOf}
 use Rattle.schema.specs.Fields.{Class·flags, Class·fq-name, Class·constructor, Class·function, Class·property, Class·type-table, Package·function, Package·property}
-use Rattle.schema.specs.Declarations.{Constructor, Function, Property, Declarations}
-use Rattle.schema.specs.Reading.{Read, pure, _>>=_, TypeTable, Scope, scope, allowance, classNameIn}
+use Rattle.schema.specs.Declarations.{Constructor, Declarations}
+use Rattle.schema.specs.Reading.{Read, pure, _>>=_, TypeTable, Scope, allowance, classNameIn}
 use Rattle.schema.specs.Types.{typeTableIn}
 use Rattle.schema.specs.Members.{flagsIn, listIn, constructorIn, membersIn}
 use Rattle.schema.specs.Told.{EntriesOf}

@@ -3,7 +3,6 @@
 // specs/BodyTold.antt.
 ghost use mathlib.Core.Path.{_≡_};
 ghost use Prim.Native.Nat.{_+_, _-_, _*_, _^_, _≤_};
-ghost use lib.Dec.{eqb};
 ghost use lib.ListN.{length};
 ghost use Rattle.schema.specs.Told.{lent};
 ghost use Rattle.schema.specs.MembersTold.{Affords};

@@ -1,30 +1,27 @@
 -- The decoded bytes read: measured, and both areas written.
 -- Assumes nothing.
 use mathlib.Core.Path.{_≡_, refl, ap, sym, subst, _∙_}
-use mathlib.Core.Bool.{Bool, true, false}
-use mathlib.Core.List.{List, [], _∷_, _++_}
-use mathlib.Core.Option.{Option, none, some}
-use Prim.Native.Nat.{ℕ, _+_, _-_, _*_, _^_, _≤_, _<_, min}
+use mathlib.Core.List.{List, _++_}
+use mathlib.Core.Option.{some}
+use Prim.Native.Nat.{ℕ, _+_, _-_, _≤_, _<_, min}
 use native.Mathlib.Nat.{zero-add}
 use native.Mathlib.Omega.{arith}
 use borrow.Author.Tests.{lt-ltb, le-ltb}
-use lib.Dec.{eqb, ltb}
-use lib.ListN.{length, take, drop, length-take}
+use lib.Dec.{eqb}
+use lib.ListN.{length, take, drop}
 use lib.Seq.{sets, length-sets, take-append-seam}
-use Rattle.foundation.specs.Choices.{if_then_else_}
 use Rattle.foundation.specs.Results as Results
 use Rattle.foundation.specs.Results.{Res, ok, refused, Cause, textTooLong, sheetTooLong, _from_}
-use Rattle.foundation.specs.Texts.{Text}
 use Rattle.foundation.proofs.ChoiceLaws.{if-ind}
 use Rattle.foundation.proofs.OverlayLaws.{sets-front}
 use Rattle.foundation.proofs.ResultLaws.{Gives, gives-ok}
-use Rattle.encoding.specs.Encoding.{decoded, unitLimit}
+use Rattle.encoding.specs.Encoding.{decoded}
 use Rattle.encoding.specs.Outcome as encoding
 use Rattle.encoding.specs.declared.Decoded.{Decoded}
 use Rattle.encoding.specs.declared.Decoded.the-variants as bytesOf
 use Rattle.encoding.proofs.OutcomeLaws.{limited-within, limited-arm, told-inside, told-room}
 use Rattle.encoding.proofs.EncodingLaws.{decoded-length}
-use Rattle.wire.specs.Wire.{Message, cut}
+use Rattle.wire.specs.Wire.{Message}
 use Rattle.wire.specs.declared.WireError.{WireError}
 use Rattle.names.specs.Names.{Names}
 use Rattle.sheet.specs.Rows.{Row, sheetFrom, texts}
@@ -44,7 +41,7 @@ use Rattle.schema.specs.declared.Walked.{Walked}
 use Rattle.schema.specs.declared.Walked.the-variants as walked
 use Rattle.schema.proofs.TypeCount.{class-enters, package-enters}
 use Rattle.declarations.specs.Payload.{bodyOf, payload, declarationRows}
-use Rattle.declarations.specs.PayloadTold.{afterTable, bodyFrom, OpenedAt, IndexRoom, OpenedTold}
+use Rattle.declarations.specs.PayloadTold.{afterTable, OpenedAt, IndexRoom, OpenedTold}
 use Rattle.declarations.specs.BodyTold.{bodyCost, BodyWalked}
 use Rattle.declarations.specs.declared.payload.Opened.{Opened}
 use Rattle.declarations.specs.declared.payload.Opened.the-variants as opened

@@ -1,7 +1,6 @@
 // What is refused of every kind before the payload is looked at, and the metadata kind. The definitions: specs/Inputs.antt; how the answers
 // tell them: specs/Told.antt.
 ghost use mathlib.Core.Path.{_≡_};
-ghost use Prim.Native.Nat.{ℕ};
 ghost use lib.IntN.{ℤ};
 ghost use Rattle.names.specs.Names.{endsFit};
 ghost use Rattle.decoding.specs.Inputs.{kindOf, faultOf};

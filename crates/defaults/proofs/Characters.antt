@@ -12,7 +12,8 @@ use Rattle.foundation.specs.Texts.{Text}
 use Rattle.foundation.proofs.ChoiceLaws.{if-ind, all-weaken, all-append}
 use Rattle.characters.specs.Characters.{utf8Of, utf8}
 use Rattle.grammar.specs.Grammar.{beforeFirst, segments, Segment, ClassName}
-use Rattle.defaults.proofs.ChoiceLaws.{all-split, all-map-iff}
+use Rattle.foundation.proofs.EveryLaws.{all-split}
+use Rattle.defaults.proofs.ChoiceLaws.{all-map-iff}
 
 -- A character is one byte, itself, or two to four bytes from 80 hex on.
 pub data Encoded (c : ℕ) : List ℕ → Type 0 where

@@ -2,17 +2,13 @@
 -- Assumes nothing.
 use mathlib.Core.Path.{_≡_, refl, ap, sym, _∙_}
 use mathlib.Core.Logic.{_≢_, _↔_}
-use mathlib.Core.Bool.{true, false, true≢false}
+use mathlib.Core.Bool.{false, true≢false}
 use mathlib.Core.List.{List, [], _∷_, _++_, map, head-eq-of-cons-eq, tail-eq-of-cons-eq, append-eq-nil-iff, cons-ne-nil}
 use mathlib.Core.Option.{Option, none, some, IsSome}
 use Prim.Native.Nat.{ℕ}
-use borrow.Author.Tests.{eq-eqb}
 use Rattle.foundation.specs.Choices.{mapOption, bothOf, everyOf, All}
 use Rattle.foundation.specs.Texts.{same}
-
-pub all-split : {A : Type 0} (P : A → Type 0) (xs ys : List A) → All P (xs ++ ys) → All P xs × All P ys
-all-split P [] ys h = (tt, h)
-all-split P (x ∷ xs) ys h = let r = all-split P xs ys (h .1) in ((h .0, r .0), r .1)
+use Rattle.foundation.proofs.ChoiceLaws.{same-refl}
 
 pub all-map-iff : {A B : Type 0} (P : B → Type 0) (Q : A → Type 0) (f : A → B) → ((a : A) → P (f a) ↔ Q a)
     → (xs : List A) → All P (map f xs) ↔ All Q xs
@@ -50,9 +46,5 @@ module _ {A B : Type 0} (P : A → Type 0) (f : A → Option B) (each : (a : A) 
       (λ k. (each x .0 (both .0 k .0), rest .0 (both .0 k .1)), λ k. both .1 (each x .1 (k .0), rest .1 (k .1)))
 
 -- Texts that the test tells apart are not equal.
-same-refl : (s : List ℕ) → same s s ≡ true
-same-refl [] = refl
-same-refl (a ∷ s) = simp (eq-eqb a a refl, same-refl s)
-
 pub same-false : (s t : List ℕ) → same s t ≡ false → s ≢ t
 same-false s t h e = true≢false (sym (same-refl s) ∙ ap (same s) e ∙ h)

@@ -2,21 +2,20 @@
 -- Assumes nothing.
 use mathlib.Core.Path.{_≡_, refl, sym, _∙_, ap}
 use mathlib.Core.List.{List, [], _∷_, _++_, map}
-use mathlib.Core.Option.{Option, some}
-use Prim.Native.Nat.{ℕ, suc}
+use mathlib.Core.Option.{Option}
+use Prim.Native.Nat.{ℕ}
 use lib.ListN.{length, length-map}
 use Rattle.foundation.specs.Choices.{ifSome, mapOption, All}
-use Rattle.foundation.specs.Results.{Res, ok}
 use Rattle.foundation.proofs.ChoiceLaws.{all-append}
 use Rattle.characters.specs.WellFormed.{Units}
-use Rattle.schema.specs.Declarations.{Function, Declarations}
+use Rattle.schema.specs.Declarations.{Function}
 use Rattle.descriptors.specs.Defaults.{functionParts, descriptor}
 use Rattle.decoding.specs.Inputs.{Input}
 use Rattle.decoding.specs.Answered.{Answer}
-use Rattle.metadata.specs.Read.{reading, read}
-use Rattle.metadata.specs.Walk.{walk, Sheet, sheetOf, closedFunctionOf}
-use Rattle.metadata.specs.Promises.{Promised, sheetBytes, textBytes}
-use Rattle.metadata.proofs.Promised.{promised}
+use Rattle.metadata.specs.Read.{read}
+use Rattle.promises.specs.Walk.{Sheet, closedFunctionOf}
+use Rattle.promises.specs.Promises.{Promised}
+use Rattle.promises.proofs.Promised.{promised}
 use Rattle.defaults.specs.Told.{Told, SameText}
 use Rattle.defaults.specs.Demand.{defaultsOn, functionsIn, functionsOf, Described, _beside_, described, Demand}
 use Rattle.defaults.proofs.Defaults.{told, same-text}

@@ -9,14 +9,12 @@ use lib.Dec.{T}
 use Rattle.foundation.specs.Choices.{if_then_else_, ifSome, mapOption, bothOf, everyOf, All}
 use Rattle.foundation.specs.Texts.{Text, same}
 use Rattle.foundation.proofs.ChoiceLaws.{if-ind, all-append, same-true}
-use Rattle.defaults.proofs.ChoiceLaws.{all-split, some-map, some-both, some-every, same-false}
+use Rattle.foundation.proofs.EveryLaws.{all-split}
+use Rattle.defaults.proofs.ChoiceLaws.{some-map, some-both, some-every, same-false}
 use Rattle.schema.specs.Declarations.{Types, noTypes, andType, Ty, typesOf, Constructor, Function}
-use Rattle.erasure.specs.Erasure.{Meaning, primitive, primitiveArray, array, unit, nothing, mapped, Entry, listed, lookUp, meaningOf}
-use Rattle.erasure.specs.Erasure.{Erased, arrayOf, erasedAs, firstErased, erased, void, value, returnedAs, erasedReturn}
-use Rattle.descriptors.specs.Defaults.{Parts, parts, erasedOption, parameterTypes, typesBefore, suspends, suspendedParts}
-use Rattle.descriptors.specs.Defaults.{functionParts, constructorParts}
-use Rattle.defaults.specs.Needs.{withSlashes, kotlin·Array, kotlin·Nothing, HasDescriptor, ends, through, HasDescriptorTy}
-use Rattle.defaults.specs.Needs.{Has, needed, neededByConstructor}
+use Rattle.erasure.specs.Erasure.{Meaning, primitive, primitiveArray, array, unit, nothing, mapped, Entry, listed, lookUp, meaningOf, Erased, arrayOf, erasedAs, firstErased, erased, void, value, returnedAs, erasedReturn}
+use Rattle.descriptors.specs.Defaults.{Parts, parts, erasedOption, parameterTypes, typesBefore, suspends, suspendedParts, functionParts, constructorParts}
+use Rattle.defaults.specs.Needs.{withSlashes, kotlin·Array, kotlin·Nothing, HasDescriptor, ends, through, HasDescriptorTy, Has, needed, neededByConstructor}
 
 -- What a name means is plain, neither an array of its argument nor nothing, unless the table's entries that are not plain name it.
 abbrev isPlain : Meaning → Bool

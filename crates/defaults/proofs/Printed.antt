@@ -5,16 +5,15 @@ use mathlib.Core.List.{List, [], _∷_, _++_, map}
 use Prim.Native.Nat.{ℕ}
 use Rattle.foundation.specs.Choices.{concat, All}
 use Rattle.characters.specs.Characters.{utf8}
-use Rattle.erasure.specs.Erasure.{Primitive, boolean, byte, char, short, int, long, float, double, letter}
-use Rattle.erasure.specs.Erasure.{Erased, base, class, arrayOf, Returned, void, value, print, printReturned}
+use Rattle.erasure.specs.Erasure.{Primitive, boolean, byte, char, short, int, long, float, double, letter, Erased, base, class, arrayOf, Returned, void, value, print, printReturned}
 use Rattle.descriptors.specs.Defaults.{Parts, descriptor}
 use Rattle.grammar.specs.Grammar as grammar
-use Rattle.grammar.specs.Grammar.{ClassName, BaseType, FieldType, baseType, objectType, arrayType}
-use Rattle.grammar.specs.Grammar.{ReturnType, fieldType, voidType, join, Cut}
+use Rattle.grammar.specs.Grammar.{ClassName, BaseType, FieldType, baseType, objectType, arrayType, ReturnType, fieldType, voidType, join, Cut}
 use Rattle.grammar.proofs.UniqueCut.{cuts-equal}
 use Rattle.defaults.specs.Needs.{partTexts, nameIn, nameInReturned, partNames}
 use Rattle.defaults.specs.Told.{InForm}
-use Rattle.defaults.proofs.ChoiceLaws.{all-split, last-split}
+use Rattle.foundation.proofs.EveryLaws.{all-split}
+use Rattle.defaults.proofs.ChoiceLaws.{last-split}
 
 -- A part whose class name keeps to the form prints a field descriptor of the grammar.
 base-letter : (p : Primitive) → BaseType (letter p)

@@ -11,8 +11,8 @@ use Rattle.schema.specs.Declarations.{Function, Declarations}
 use Rattle.decoding.specs.Inputs.{Input}
 use Rattle.decoding.specs.Answered.{Answer}
 use Rattle.metadata.specs.Read.{reading}
-use Rattle.metadata.specs.Walk.{walk}
-use Rattle.metadata.specs.Promises.{sheetBytes, textBytes}
+use Rattle.promises.specs.Walk.{walk}
+use Rattle.promises.specs.Promises.{sheetBytes, textBytes}
 use Rattle.defaults.specs.Told.{Told, SameText}
 
 -- The texts at the refs of the kind 7 that close the functions on a sheet, in order: none is what the ref says is absent.

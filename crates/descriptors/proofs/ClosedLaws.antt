@@ -5,11 +5,11 @@ use mathlib.Core.List.{List, [], _∷_, _++_, append-nil}
 use mathlib.Core.Option.{Option, none, some}
 use Prim.Native.Nat.{ℕ, _+_, _-_, _*_, _^_, _≤_, _<_}
 use native.Mathlib.Omega.{arith}
-use lib.ListN.{length, take, drop, length-append, length-take, length-drop}
+use lib.ListN.{length, take, drop, length-take, length-drop}
 use lib.Seq.{sets, drop-drop, take-append-seam, length-take-le}
 use Rattle.foundation.specs.Choices.{mapOption}
 use Rattle.foundation.specs.Digits.{little}
-use Rattle.foundation.specs.Results.{Res, ok, _from_}
+use Rattle.foundation.specs.Results.{ok, _from_}
 use Rattle.foundation.proofs.DigitLaws.{length-digits}
 use Rattle.foundation.proofs.OverlayLaws.{sets-front}
 use Rattle.wire.specs.Wire.{Message, cut}

@@ -2,15 +2,14 @@
 -- Assumes nothing.
 use mathlib.Core.Path.{_≡_, refl, sym, ap, subst, _∙_}
 use mathlib.Core.Bool.{Bool, true, false}
-use mathlib.Core.List.{List, [], _∷_}
-use mathlib.Core.Option.{Option, none, some}
+use mathlib.Core.List.{List, []}
+use mathlib.Core.Option.{Option, some}
 use Prim.Native.Nat.{ℕ, _+_, _-_, _*_, _≤_, _<_}
 use native.Mathlib.Nat.{add-zero, add-assoc}
 use native.Mathlib.Omega.{arith}
-use lib.ListN.{length, take, drop}
+use lib.ListN.{length}
 use Rattle.foundation.specs.Choices.{isSome, mapOption}
-use Rattle.foundation.specs.Results.{Res, ok, Part, _from_}
-use Rattle.foundation.specs.Texts.{Text}
+use Rattle.foundation.specs.Results.{ok, Part, _from_}
 use Rattle.wire.specs.Wire.{Message, cut}
 use Rattle.wire.specs.Messages.{cutAll, messages}
 use Rattle.wire.specs.Told.{restOf, bodyOf}
@@ -24,12 +23,12 @@ use Rattle.names.specs.Name.{nameText}
 use Rattle.names.specs.declared.name.Name.{Name}
 use Rattle.schema.specs.Fields.{ValueParameter·name, ValueParameter·type, ValueParameter·type-id}
 use Rattle.schema.specs.Declarations.{Ty, Parameter}
-use Rattle.schema.specs.Reading.{Scope, keep, kept, nameIn}
+use Rattle.schema.specs.Reading.{Scope, kept, nameIn}
 use Rattle.schema.specs.Types.{maxDepth}
 use Rattle.schema.specs.Members.{listIn, parameterIn}
 use Rattle.schema.specs.Told.{Lent, NamesOf, Scoped, EntryAt}
 use Rattle.schema.specs.TypesTold.{orNullable}
-use Rattle.schema.specs.FoundTold.{TableOf, TypeFound, FoundTold, FoundInside, FoundFalls, DeclaredFound}
+use Rattle.schema.specs.FoundTold.{TableOf, FoundTold, FoundInside, FoundFalls, DeclaredFound}
 use Rattle.schema.specs.declared.Found.{Found}
 use Rattle.schema.specs.declared.Found.the-variants as found
 use Rattle.schema.proofs.ListLaws.{First, cut-first}
@@ -40,7 +39,7 @@ use Rattle.erasure.specs.declared.Part as code
 use Rattle.erasure.specs.declared.Part.the-variants as part
 use Rattle.descriptors.specs.DefaultsTold.{erasedAt, partCost, PartWithin, PartTold, ErasedTold, parametersPart, ParametersTold}
 use Rattle.descriptors.specs.PartsTold.{PartRoom, Gave, PartOf, TypeGiven, typePart, ParameterGiven, parameterPart, preceded}
-use Rattle.descriptors.proofs.GivenLaws.{ListGiven, list-given, FirstGiven, first-given, none-given, parameter-skipped, parameter-kept}
+use Rattle.descriptors.proofs.GivenLaws.{list-given, FirstGiven, first-given, none-given, parameter-skipped, parameter-kept}
 use Rattle.descriptors.proofs.JoinLaws.{both, parameter-part, parameters-cons, text-none, text-then, told-then, told-absent, told-same, preceded-sum}
 
 -- A declaration's own type at its position, by the place of its message.

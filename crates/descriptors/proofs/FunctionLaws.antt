@@ -34,7 +34,7 @@ use Rattle.erasure.specs.declared.Part.{Part}
 use Rattle.erasure.specs.declared.Part.the-variants as part
 use Rattle.erasure.proofs.PartLaws.{part-short}
 use Rattle.descriptors.specs.Defaults.{suspends, continuation, object, functionParts, constructorParts, descriptor}
-use Rattle.descriptors.specs.DefaultsTold.{partCost, PartWithin, PartTold, parametersPart, ParametersTold, ConstructorDefault, FunctionDefault}
+use Rattle.descriptors.specs.DefaultsTold.{partCost, parametersPart, ParametersTold, ConstructorDefault, FunctionDefault}
 use Rattle.descriptors.specs.PartsTold.{PartRoom, PartOf, TypeGiven, typePart, FunctionGiven, receiverPart, beforePart, afterPart, preceded}
 use Rattle.descriptors.proofs.GivenLaws.{ConstructorGiven, constructor-given, function-given}
 use Rattle.descriptors.proofs.JoinLaws.{

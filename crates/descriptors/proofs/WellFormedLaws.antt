@@ -2,16 +2,16 @@
 -- Assumes nothing.
 use mathlib.Core.Path.{_≡_, refl, sym, subst}
 use mathlib.Core.Bool.{Bool, true, false, _||_}
-use mathlib.Core.List.{List, [], _∷_, _++_, map, append-assoc, List·Memᴰ}
+use mathlib.Core.List.{List, [], _∷_, _++_, map, append-assoc}
 use mathlib.Core.Option.{Option, none, some}
 use Prim.Native.Nat.{ℕ}
 use lib.Dec.{T}
-use Rattle.foundation.specs.Choices.{if_then_else_, ifSome, mapOption, bothOf, everyOf, concat, All, IfSome}
+use Rattle.foundation.specs.Choices.{ifSome, mapOption, bothOf, everyOf, concat, All, IfSome}
 use Rattle.foundation.specs.Texts.{Text, ascii, same}
 use Rattle.foundation.proofs.ChoiceLaws.{if-ind, all-append, all-map}
 use Rattle.characters.specs.Characters.{isScalar, utf8, utf8Of}
 use Rattle.characters.specs.WellFormed.{Characters, WellFormed, empty, character}
-use Rattle.characters.proofs.EveryLaws.{every, every-all}
+use Rattle.foundation.proofs.EveryLaws.{every, every-all}
 use Rattle.characters.proofs.Utf8Laws.{utf8-well-formed}
 use Rattle.names.proofs.ScalarLaws.{substituted-keeps}
 use Rattle.schema.specs.Declarations.{Types, noTypes, andType, Ty, Parameter, Constructor, Function}
@@ -56,20 +56,7 @@ use Rattle.erasure.specs.Erasure.{
   print,
   printReturned,
 }
-use Rattle.descriptors.specs.Defaults.{
-  Parts,
-  parts,
-  erasedOption,
-  parameterTypes,
-  typesBefore,
-  suspends,
-  continuation,
-  object,
-  suspendedParts,
-  functionParts,
-  constructorParts,
-  descriptor,
-}
+use Rattle.descriptors.specs.Defaults.{Parts, parts, erasedOption, parameterTypes, typesBefore, suspends, continuation, suspendedParts, functionParts, constructorParts, descriptor}
 
 -- one well-formed text after another
 pub well-formed-append : {s t : List ℕ} → WellFormed s → WellFormed t → WellFormed (s ++ t)

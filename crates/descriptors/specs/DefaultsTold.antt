@@ -14,13 +14,13 @@ use Rattle.schema.specs.Members.{listIn, parameterIn, constructorIn, functionIn
 use Rattle.schema.specs.Told.{Lent, Scoped, EntryAt}
 use Rattle.schema.specs.TypesTold.{orNullable}
 use Rattle.schema.specs.FoundTold.{TypeFound}
-use Rattle.erasure.specs.Erasure.{Erased, firstErased, single, erased, Returned, value, erasedReturn, print, printReturned}
+use Rattle.erasure.specs.Erasure.{firstErased, single, erased, Returned, value, erasedReturn, print, printReturned}
 use Rattle.erasure.specs.Told.{PutText}
 use Rattle.erasure.specs.declared.Position.{Position}
 use Rattle.erasure.specs.declared.Position.the-variants as position
 use Rattle.erasure.specs.declared.Part.{Part}
 use Rattle.erasure.specs.declared.Part.the-variants as part
-use Rattle.descriptors.specs.Defaults.{Parts, erasedOption, parameterTypes, functionParts, constructorParts, descriptor}
+use Rattle.descriptors.specs.Defaults.{erasedOption, parameterTypes, functionParts, constructorParts, descriptor}
 
 -- The erasure of a type at its position.
 abbrev pub erasedAt : Position → Ty → Option Returned

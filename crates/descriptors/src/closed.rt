@@ -1,9 +1,8 @@
 // Constructors and functions, each closed by the record of its default descriptor. The definitions: specs/Defaults.antt; what the writers
 // tell: specs/ClosedTold.antt and schema's specs/MembersTold.antt.
-ghost use mathlib.Core.Path.{_≡_};
-ghost use mathlib.Core.List.{List, [], _∷_};
+ghost use mathlib.Core.List.{[], _∷_};
 ghost use mathlib.Core.Option.{some};
-ghost use Prim.Native.Nat.{ℕ, _+_, _-_, _*_, _^_, _≤_};
+ghost use Prim.Native.Nat.{_+_, _-_, _*_, _^_, _≤_};
 ghost use lib.ListN.{length, drop};
 ghost use Rattle.characters.specs.Characters.{partFrom};
 ghost use Rattle.sheet.specs.Rows.{ref, row};

@@ -1,8 +1,8 @@
 // Default descriptors: the parts of a declaration's types, one after the other. The definitions: specs/Defaults.antt; what the writers
 // tell: specs/DefaultsTold.antt and specs/PartsTold.antt.
 ghost use mathlib.Core.Path.{_≡_};
-ghost use mathlib.Core.List.{List, _∷_, _++_};
-ghost use Prim.Native.Nat.{ℕ, _+_, _-_, _*_, _^_, _≤_};
+ghost use mathlib.Core.List.{_∷_, _++_};
+ghost use Prim.Native.Nat.{_+_, _-_, _*_, _^_, _≤_};
 ghost use lib.ListN.{length};
 ghost use Rattle.wire.specs.Wire.{Message};
 ghost use Rattle.schema.specs.Fields.{Function·flags};

@@ -1,7 +1,7 @@
 // The part of a type at its position, by the place of its message: its class name decides; an array goes on with its first kept argument.
 // The definitions: erasure's specs/Erasure.antt; what is told: specs/ErasedTold.antt and `ErasedTold` in specs/DefaultsTold.antt.
 ghost use mathlib.Core.Path.{_≡_};
-ghost use mathlib.Core.Bool.{true, false, _||_};
+ghost use mathlib.Core.Bool.{true, false};
 ghost use mathlib.Core.List.{[], _∷_, _++_};
 ghost use Prim.Native.Nat.{_^_, _≤_};
 ghost use lib.ListN.{length};
@@ -30,6 +30,7 @@ use schema::Tables;
 use schema::head::type_head;
 use schema::name::class_name_at;
 use schema::places::first_argument;
+use schema::types::either;
 use schema::types::less;
 use sheet::put;
 
@@ -114,15 +115,6 @@ fn put_printed(
         },
         Printed::Nothing => TypePart::Absent,
     }
-}
-
-fn either(a: bool, b: bool) -> bool
-    ensures { λ r. ⌜ (a || b) ≡ r ⌝ }
-{
-    if a {
-        return true;
-    }
-    b
 }
 
 // One type, by its class name.

@@ -6,15 +6,16 @@ use mathlib.Core.Bool.{Bool, true, false}
 use mathlib.Core.List.{List, _++_}
 use mathlib.Core.Option.{some}
 use Prim.Native.Nat.{ℕ, _+_, _≤_, _<_}
-use native.Mathlib.Nat.{zero-add, le-refl}
+use native.Mathlib.Nat.{le-refl}
 use native.Mathlib.Omega.{arith}
 use borrow.Author.Tests.{lt-ltb, le-ltb, ltb-true}
 use lib.Dec.{ltb}
 use lib.ListN.{length, getD, drop, length-drop, length-append}
-use lib.Seq.{sets, sets-eq, take-append-seam}
+use lib.Seq.{sets, take-append-seam}
 use Rattle.foundation.specs.Choices.{if_then_else_}
 use Rattle.foundation.specs.Results.{Cause, d1TooLong, emptyPayload, notAByte, Res, ok, refused}
 use Rattle.foundation.proofs.ChoiceLaws.{if-ind}
+use Rattle.foundation.proofs.OverlayLaws.{sets-front}
 use Rattle.encoding.specs.Encoding.{unitLimit, byteStringMarker, unpacked, firstAbove255, decoded}
 use Rattle.encoding.specs.Outcome.{limited, causeOf, Told, tells, aboveOf}
 use Rattle.encoding.specs.declared.Decoded.{Decoded}
@@ -46,9 +47,6 @@ module _ (us : List ℕ) where
 
       pub limited-old : (getD us 0 0 ≡ byteStringMarker → ⊥) → limited us ≡ ok (unpacked us)
       limited-old e = limited-within ∙ decoded-old us some-there (above-nothing (firstAbove255 us) found nothing) e
-
-sets-front : (vs l : List ℕ) → length vs ≤ length l → sets l 0 vs ≡ vs ++ drop (length vs) l
-sets-front vs l h = sets-eq vs l 0 (rw zero-add h) ∙ rw zero-add
 
 -- what is told at each return of `decode`
 pub told-refused : (us area : List ℕ) (answer : Decoded) {cause : Cause} → limited us ≡ refused cause 0 → causeOf answer ≡ some cause

@@ -13,10 +13,6 @@ use lib.Seq.{drop-cons, take-all}
 use Rattle.foundation.specs.Texts.{same}
 use Rattle.foundation.proofs.ChoiceLaws.{same-true}
 
-pub same-refl : (s : List ℕ) → same s s ≡ true
-same-refl [] = refl
-same-refl (a ∷ s) = rw (eq-eqb a a refl) (same-refl s)
-
 -- a test that can't be true is false
 pub never : (b : Bool) → (b ≡ true → ⊥) → b ≡ false
 never true h = absurd (h refl)

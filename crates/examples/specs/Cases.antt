@@ -1,6 +1,6 @@
 -- A case: an input, two areas by their lengths, and the whole answer that the definitions must give.
 -- Assumes nothing.
-use mathlib.Core.Bool.{Bool, true, false, _&&_}
+use mathlib.Core.Bool.{Bool, true, _&&_}
 use mathlib.Core.List.{List, [], _∷_, _++_}
 use Prim.Native.Nat.{ℕ, zero, suc, _+_, _-_, _*_}
 use Prim.Native.String as S
@@ -12,7 +12,6 @@ use lib.ListN.{length, replicate}
 use Rattle.foundation.specs.Choices.{if_then_else_}
 use Rattle.foundation.specs.Texts.{same}
 use Rattle.decoding.specs.Inputs.{Input}
-use Rattle.decoding.specs.Answered.{Answer}
 use Rattle.metadata.specs.Read.{read}
 
 abbrev pub hexDigit : ℕ → ℕ

@@ -2,14 +2,13 @@
 -- Assumes nothing.
 use mathlib.Core.Bool.{Bool, true, false, _&&_}
 use mathlib.Core.List.{List, [], _∷_, _++_}
-use mathlib.Core.Option.{Option, none, some}
-use Prim.Native.Nat.{ℕ, zero, suc, _+_, _*_, _^_}
+use Prim.Native.Nat.{ℕ, _+_, _*_, _^_}
 use Prim.Native.String.{String}
 use lib.Dec.{eqb}
 use lib.IntN.{ℤ, pos}
-use lib.ListN.{length, replicate}
+use lib.ListN.{replicate}
 use Rattle.foundation.specs.Choices.{concat}
-use Rattle.foundation.specs.Results.{Res, ok, refused, Cause, Part, _from_, Got}
+use Rattle.foundation.specs.Results.{Res, ok, refused, _from_, Got}
 use Rattle.foundation.specs.Texts.{ascii, same}
 use Rattle.encoding.specs.Encoding.{decoded}
 use Rattle.wire.specs.Wire.{readVarint}

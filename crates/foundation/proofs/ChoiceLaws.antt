@@ -1,12 +1,15 @@
 -- Laws of choices, options and lists.
 -- Assumes nothing.
-use mathlib.Core.Path.{_≡_, refl, ap, sym, _∙_}
+use mathlib.Core.Path.{_≡_, refl}
 use mathlib.Core.Bool.{Bool, true, false, _&&_}
-use mathlib.Core.List.{List, [], _∷_, _++_, map, append-assoc}
+use mathlib.Core.List.{List, [], _∷_, _++_, map}
 use mathlib.Core.Option.{Option, none, some}
-use Prim.Native.Nat.{ℕ}
-use borrow.Author.Tests.{eqb-true}
+use Prim.Native.Nat.{ℕ, zero, suc, _+_}
+use borrow.Author.Tests.{eqb-true, eq-eqb}
+use native.Mathlib.Nat.{zero-add, suc-add}
 use lib.Dec.{eqb}
+use lib.ListN.{take, drop}
+use lib.Seq.{take-nil}
 use Rattle.foundation.specs.Choices.{if_then_else_, ifSome, All, IfSome, concat}
 use Rattle.foundation.specs.Texts.{same}
 
@@ -44,9 +47,10 @@ pub all-map : {A B : Type 0} (P : A → Type 0) (Q : B → Type 0) (f : A → B)
 all-map P Q f h [] p = tt
 all-map P Q f h (x ∷ xs) p = (h x (p .0), all-map P Q f h xs (p .1))
 
-pub concat-append : {A : Type 0} (xs ys : List (List A)) → concat (xs ++ ys) ≡ concat xs ++ concat ys
-concat-append [] ys = refl
-concat-append (x ∷ xs) ys = ap (λ (l : List _). x ++ l) (concat-append xs ys) ∙ sym (append-assoc x (concat xs) (concat ys))
+pub drop-take : (j k : ℕ) (bs : List ℕ) → drop j (take (j + k) bs) ≡ take k (drop j bs)
+drop-take zero k bs = rw zero-add
+drop-take (suc j) k [] = rw (take-nil (suc j + k), take-nil k)
+drop-take (suc j) k (b ∷ bs) = rw suc-add (drop-take j k bs)
 
 pub and-left : (a b : Bool) → a && b ≡ true → a ≡ true
 and-left true b h = refl
@@ -57,6 +61,10 @@ and-right true b h = h
 and-right false b h = let z : false ≡ true = h in cc
 
 -- the test of two texts tells that they are equal
+pub same-refl : (s : List ℕ) → same s s ≡ true
+same-refl [] = refl
+same-refl (a ∷ s) = rw (eq-eqb a a refl) (same-refl s)
+
 pub same-true : (s t : List ℕ) → same s t ≡ true → s ≡ t
 same-true [] [] h = refl
 same-true [] (b ∷ t) h = cc

@@ -1,4 +1,5 @@
 pub mod ChoiceLaws
+pub mod EveryLaws
 pub mod ResultLaws
 pub mod DigitLaws
 pub mod OverlayLaws

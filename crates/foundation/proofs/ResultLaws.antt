@@ -1,8 +1,7 @@
 -- A fact about what a reading gives: it says nothing of a refusal.
 -- Assumes nothing.
 use mathlib.Core.Path.{_≡_, refl, subst}
-use Prim.Native.Nat.{ℕ}
-use Rattle.foundation.specs.Results.{Cause, Res, ok, refused, _>>=_, Got, mapGot}
+use Rattle.foundation.specs.Results.{Res, ok, refused, _>>=_, Got, mapGot}
 
 abbrev pub Gives : {A : Type 0} → (A → Type 0) → Res A → Type 0
 Gives P (ok a) = P a

@@ -6,8 +6,7 @@ use mathlib.Core.List.{List, [], _∷_, _++_, append-assoc, head-eq-of-cons-eq, 
 use Prim.Native.Nat.{ℕ, _≤_}
 use native.Mathlib.Omega.{arith}
 use Rattle.foundation.specs.Choices.{concat, All}
-use Rattle.grammar.specs.Grammar.{BaseType, byte, char, double, float, int, long, short, boolean}
-use Rattle.grammar.specs.Grammar.{FieldType, baseType, objectType, arrayType, join, Cut}
+use Rattle.grammar.specs.Grammar.{BaseType, byte, char, double, float, int, long, short, boolean, FieldType, baseType, objectType, arrayType, join, Cut}
 use Rattle.grammar.proofs.Segments.{no-semicolon}
 
 -- no base type's letter is L, [ or )

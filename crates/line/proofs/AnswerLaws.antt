@@ -1,14 +1,14 @@
 -- The line of the reader's answer, for whatever bytes were read.
 -- Assumes nothing.
 use mathlib.Core.Path.{_≡_, refl, sym, ap, subst, _∙_}
-use mathlib.Core.Bool.{true, false}
+use mathlib.Core.Bool.{false}
 use mathlib.Core.List.{List, [], _∷_, _++_}
 use mathlib.Core.Option.{Option, some, none}
-use Prim.Native.Nat.{ℕ, zero, suc, _+_, _-_, _*_, _^_, _≤_, _<_, min}
+use Prim.Native.Nat.{ℕ, _+_, _-_, _^_, _≤_, _<_, min}
 use native.Mathlib.Nat.{zero-add}
 use native.Mathlib.Omega.{arith}
 use borrow.Author.Tests.{le-leb, lt-leb, ltb-false}
-use lib.Dec.{ltb, leb}
+use lib.Dec.{ltb}
 use lib.IntN.{ℤ}
 use mir.Syntax.{w32}
 use mir.Val.{toZ, ofZ}
@@ -17,7 +17,7 @@ use Rattle.line.proofs.OutputLaws.{decimal-short, part-length}
 use Rattle.line.proofs.SignedLaws.{signed-back}
 use lib.ListN.{length, getD, take, drop, replicate, length-append, length-replicate}
 use lib.Seq.{sets, take-append-le, take-all, length-take-le}
-use Rattle.foundation.specs.Choices.{if_then_else_, ifSome}
+use Rattle.foundation.specs.Choices.{ifSome}
 use Rattle.foundation.proofs.ChoiceLaws.{if-ind}
 use Rattle.foundation.proofs.OverlayLaws.{sets-front}
 use Rattle.foundation.specs.Results.{Cause, Res, ok, refused, sheetTooLong, textTooLong}
@@ -35,7 +35,7 @@ use Rattle.line.specs.declared.stream.Taken.{Taken}
 use Rattle.metadata.specs.declared.Answer.{Answer}
 use Rattle.decoding.specs.Told.{input}
 use Rattle.metadata.specs.ReadTold.{toldBy}
-use Rattle.line.specs.Input.{d1Place, d2Place, endsPlace, numberAt, numbersAt, signedOf, countsOf, inputEnd, inputOf, whole, given}
+use Rattle.line.specs.Input.{d1Place, d2Place, endsPlace, numberAt, numbersAt, signedOf, countsOf, inputEnd, inputOf, given}
 use Rattle.line.specs.Line.{decimal, partOf, lineOf}
 use Rattle.line.specs.Wrote.{Wrote}
 use Rattle.line.specs.Taken.{SoFar, keptLimit, TookSome}

@@ -3,15 +3,14 @@
 use mathlib.Core.Path.{_≡_, refl, sym, ap, _∙_}
 use mathlib.Core.Bool.{Bool, true, false}
 use mathlib.Core.List.{List, [], _∷_, _++_}
-use Prim.Native.Nat.{ℕ, zero, suc, _+_, _-_, _*_, _^_, _≤_, _<_, min}
-use native.Mathlib.Nat.{add-zero, zero-add, add-suc, sub-zero, pow-zero, pow-suc, mul-le-mul-left}
-use native.Mathlib.Numerals.{add-one, sub-one}
+use Prim.Native.Nat.{ℕ, zero, suc, _+_, _-_, _*_, _^_, _≤_, _<_}
+use native.Mathlib.Nat.{add-zero, zero-add, sub-zero, pow-zero, pow-suc, mul-le-mul-left}
+use native.Mathlib.Numerals.{add-one}
 use native.Mathlib.Omega.{arith}
 use borrow.Author.Tests.{lt-ltb, le-ltb, ltb-true, ltb-false}
 use lib.Dec.{ltb}
 use lib.ListN.{length, getD, set, List·getD-append}
 use lib.Seq.{sets, getD-append-add}
-use Rattle.foundation.specs.Choices.{if_then_else_, All}
 use Rattle.foundation.proofs.ChoiceLaws.{if-ind}
 use Rattle.line.specs.Input.{numberAt, numbersAt, d1Count, d2Count, endsCount, countsOf, d1Place, d2Place, endsPlace}
 use Rattle.line.specs.Pieces.{byteIn, numberIn, countsIn}

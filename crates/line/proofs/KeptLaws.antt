@@ -1,15 +1,14 @@
 -- The reader answers what is kept of an input as it answers the whole of it.
 -- Assumes nothing.
-use mathlib.Core.Path.{_≡_, refl, sym, ap, subst, _∙_}
+use mathlib.Core.Path.{_≡_, refl, sym, ap, _∙_}
 use mathlib.Core.Bool.{Bool, true, false}
 use mathlib.Core.List.{List, [], _∷_}
 use Prim.Native.Nat.{ℕ, zero, suc, _+_, _*_, _≤_, _<_, min}
 use native.Mathlib.Omega.{arith}
 use borrow.Author.Tests.{lt-ltb, le-ltb, ltb-true, ltb-false}
 use lib.Dec.{ltb}
-use lib.ListN.{length, getD, take}
+use lib.ListN.{length, take}
 use lib.Seq.{getD-take}
-use Rattle.foundation.specs.Choices.{if_then_else_}
 use Rattle.foundation.specs.Results.{d1TooLong, d2TooLong}
 use Rattle.decoding.specs.Inputs.{Input, laterFault, faultOf}
 use Rattle.decoding.specs.Answered.{refusal}

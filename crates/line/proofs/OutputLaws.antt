@@ -1,10 +1,10 @@
 -- The line's digits, and texts written one after the other.
 -- Assumes nothing.
 use mathlib.Core.Path.{_≡_, refl, sym, ap, _∙_}
-use mathlib.Core.List.{List, [], _∷_, _++_, append-assoc}
+use mathlib.Core.List.{List, [], _∷_, _++_}
 use Prim.Native.Nat.{ℕ, zero, suc, _+_, _-_, _*_, _/_, _%_, _^_, _≤_, _<_}
-use native.Mathlib.Nat.{add-zero, zero-add, add-suc, pow-suc, pow-zero, mod-eq-of-lt, one-le-pow, pow-le-pow-right}
-use native.Mathlib.Numerals.{add-one, sub-one}
+use native.Mathlib.Nat.{pow-suc, mod-eq-of-lt, one-le-pow, pow-le-pow-right}
+use native.Mathlib.Numerals.{add-one}
 use native.Mathlib.Omega.{arith}
 use mathlib.Core.Bool.{Bool, true, false}
 use borrow.Author.Tests.{lt-ltb, le-ltb, leb-true, leb-false}
@@ -12,9 +12,9 @@ use lib.ListN.{length, getD, set, drop, length-append, drop-of-length-le}
 use lib.Dec.{ltb, leb}
 use lib.Seq.{sets, drop-cons}
 use Rattle.foundation.proofs.ChoiceLaws.{if-ind}
-use Rattle.foundation.proofs.OverlayLaws.{sets-append, sets-then}
+use Rattle.foundation.proofs.OverlayLaws.{sets-then}
 use Rattle.io.specs.Digits.{glyph, digits, Fewest}
-use Rattle.line.specs.Line.{decimalWithin, decimal, hexOf, hexOrDash, partOf, lineOf}
+use Rattle.line.specs.Line.{decimalWithin, decimal, hexOf, partOf, lineOf}
 use Rattle.line.specs.Wrote.{Wrote}
 
 -- the fewest digits that hold a number are its decimal

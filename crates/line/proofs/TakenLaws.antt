@@ -1,16 +1,15 @@
 -- Bytes taken piece after piece: the counts are those of all of them, and the beginning stays what it was.
 -- Assumes nothing.
 use mathlib.Core.Path.{_≡_, refl, sym, ap, subst, _∙_}
-use mathlib.Core.Bool.{Bool, true, false}
 use mathlib.Core.List.{List, [], _∷_, _++_, append-nil, append-assoc}
-use Prim.Native.Nat.{ℕ, zero, suc, _+_, _-_, _*_, _^_, _≤_, _<_}
+use Prim.Native.Nat.{ℕ, zero, suc, _+_, _-_, _^_, _≤_, _<_}
 use native.Mathlib.Nat.{zero-add}
 use native.Mathlib.Omega.{arith}
 use lib.ListN.{length, getD, take, length-append}
 use lib.Seq.{take-append-le, length-take-le, take-all}
 use Rattle.line.specs.declared.stream.Taken.{Taken}
 use Rattle.line.specs.Input.{d1Count, d2Count, endsCount, countsOf, d2Place, endsPlace}
-use Rattle.line.specs.Pieces.{countsIn, CountsFit}
+use Rattle.line.specs.Pieces.{CountsFit}
 use Rattle.line.specs.Taken.{keptLimit, SoFar, Took, Piece, Passed, Went}
 use Rattle.line.proofs.InputLaws.{counts-append, counts-none, number-below}
 

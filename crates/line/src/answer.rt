@@ -1,10 +1,7 @@
 // The line for an input that was read: what is kept of it goes to the reader, with areas of 65,536 bytes.
-ghost use mathlib.Core.Path.{_≡_};
 ghost use Prim.Native.Nat.{_<_, _≤_, _^_};
-ghost use lib.ListN.{length};
 ghost use Rattle.line.specs.Pieces.{CountsFit};
-ghost use Rattle.line.specs.Wrote.{Wrote};
-ghost use Rattle.line.specs.Program.{printed, WroteRead, WroteKept, WrotePrinted, WroteLine};
+ghost use Rattle.line.specs.Program.{WroteRead, WroteKept, WrotePrinted, WroteLine};
 use crate::input::Counts;
 use crate::input::ends_at;
 use crate::input::input_end;

@@ -1,7 +1,7 @@
 // From the input's bytes to what the reader takes. The input may come in pieces: the counts are gathered from all of them, what they count
 // is taken from the input's beginning.
 ghost use mathlib.Core.Path.{_≡_};
-ghost use Prim.Native.Nat.{_+_, _^_, _≤_, _<_, min};
+ghost use Prim.Native.Nat.{_+_, _^_, _<_, min};
 ghost use lib.ListN.{length};
 ghost use lib.Seq.{sets};
 ghost use Rattle.line.specs.Input.{numberAt, numbersAt, signedOf, inputEnd};

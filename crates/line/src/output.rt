@@ -1,7 +1,6 @@
 // The line that the program prints, written into an area: number and detail in decimal, sheet and text in hex. A write past the area's end is
 // left out.
 ghost use mathlib.Core.Path.{_≡_};
-ghost use mathlib.Core.List.{_∷_};
 ghost use Prim.Native.Nat.{_+_, _^_, _<_};
 ghost use lib.ListN.{length};
 ghost use Rattle.io.specs.Digits.{glyph as Digits·glyph};

@@ -1,7 +1,7 @@
 -- Signatures by their two names.
 -- Assumes nothing.
-use mathlib.Core.Path.{_≡_, refl, ap, sym, subst, _∙_}
-use mathlib.Core.Bool.{Bool, true, false}
+use mathlib.Core.Path.{_≡_, refl, ap, subst, _∙_}
+use mathlib.Core.Bool.{true, false}
 use mathlib.Core.List.{List}
 use mathlib.Core.Option.{Option, none, some}
 use Prim.Native.Nat.{ℕ, _+_, _-_}
@@ -9,19 +9,17 @@ use native.Mathlib.Omega.{arith}
 use lib.ListN.{take, drop}
 use Rattle.foundation.specs.Choices.{ifSome, isSome, mapOption, orElse, bothOf}
 use Rattle.foundation.specs.Results.{ok, _from_}
-use Rattle.foundation.specs.Texts.{Text, ascii}
+use Rattle.foundation.specs.Texts.{Text}
 use Rattle.wire.specs.Wire.{Message, cut}
 use Rattle.wire.specs.Asked.{EmbeddedIs, EmbeddedTold}
 use Rattle.wire.specs.declared.WireError.{WireError}
 use Rattle.wire.specs.declared.message.Embedded.{Embedded}
 use Rattle.wire.specs.declared.message.Embedded.the-variants as embedded
 use Rattle.names.specs.Name.{nameText}
-use Rattle.names.specs.declared.name.Name.{Name}
 use Rattle.schema.specs.Fields.{Property·property-signature, JvmMethodSignature·desc, JvmPropertySignature·field}
-use Rattle.schema.specs.Declarations.{Signature}
-use Rattle.schema.specs.Reading.{Read, pure, _>>=_, Scope, nameIn}
+use Rattle.schema.specs.Reading.{pure, _>>=_, Scope, nameIn}
 use Rattle.schema.specs.Members.{signed, signatureOf, signatureIn, fieldOf, fieldIn, ofSignature}
-use Rattle.schema.specs.Written.{signatureBy, initBy}
+use Rattle.schema.specs.Written.{signatureBy}
 use Rattle.members.specs.SignaturesTold.{NamesTold, SignedTold, AccessorTold, ThreeTold, PropertySignedTold}
 use Rattle.schema.specs.declared.rows.SignatureNames.{SignatureNames}
 use Rattle.members.specs.declared.signatures.Signed.{Signed}
@@ -107,15 +105,6 @@ module _ (payload units : List ℕ) (c : Scope) where
     pub signature-by : signatureIn c none number m l ≡ ok (signatureBy payload units n, l)
     signature-by =
         h none l ∙ ap (λ (o : Option Text). ok (bothOf signed o (nameText payload units (n .descriptor)), l)) (or-none (nameText payload units (n .name)))
-
-    pub init-by : signatureIn c (some (ascii "<init>")) number m l ≡ ok (initBy payload units n, l)
-    init-by = h (some (ascii "<init>")) l
-
-    pub signature-or : (fallback r : Name) → nameText payload units r ≡ orElse (nameText payload units (n .name)) (nameText payload units fallback)
-        → signatureIn c (nameText payload units fallback) number m l ≡ ok (signatureBy payload units (record { name = r; descriptor = n .descriptor }), l)
-    signature-or fallback r e =
-        h (nameText payload units fallback) l
-        ∙ ap (λ (o : Option Text). ok (bothOf signed o (nameText payload units (n .descriptor)), l)) (sym e)
 
   -- The signatures of a property: of its signature message, of none, and of its own message.
   pub accessor-told : (number : ℕ) (m : Message) (x : Signed) → SignedTold payload units c number m x → AccessorTold payload units c (some m) number x

@@ -1,6 +1,6 @@
 // Properties. The definition: specs/Members.antt, `propertyIn`; what the readers tell: specs/PropertiesTold.antt, specs/MembersTold.antt.
 ghost use mathlib.Core.Path.{_≡_};
-ghost use Prim.Native.Nat.{ℕ, _+_, _*_, _^_, _≤_};
+ghost use Prim.Native.Nat.{_+_, _*_, _^_, _≤_};
 ghost use lib.ListN.{length};
 ghost use Rattle.foundation.specs.Results.{ok, _from_};
 ghost use Rattle.wire.specs.Wire.{cut, Message};

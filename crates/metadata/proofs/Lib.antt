@@ -1,7 +1,1 @@
-pub mod Accepted
-pub mod WalkLaws
-pub mod Tabled
-pub mod Sound
-pub mod Promised
 pub mod ReadLaws
-pub mod Answered

@@ -5,21 +5,20 @@ use mathlib.Core.Bool.{Bool, true, false, _&&_, _||_}
 use mathlib.Core.List.{List, [], _∷_, _++_}
 use mathlib.Core.Option.{Option, none, some}
 use Prim.Native.Nat.{ℕ, _+_, _-_, _^_, _≤_, _<_, min}
-use native.Mathlib.Nat.{zero-add, add-zero}
 use native.Mathlib.Omega.{arith}
-use borrow.Author.Tests.{ltb-false, leb-true, lt-ltb, le-ltb, le-leb, eq-eqb, ne-eqb}
+use borrow.Author.Tests.{ltb-false, leb-true, lt-ltb, le-ltb, eq-eqb}
 use denote.Enum.Declared.{tagOf}
 use types.Run.{OneOf, miss}
 use lib.Dec.{eqb, leb, ltb}
 use lib.IntN.{ℤ, pos, negsuc}
-use lib.ListN.{length, take, drop}
+use lib.ListN.{length}
 use lib.Seq.{sets}
 use lib.Signed.{ltZ}
 use mir.Facts.{toZ-ofZ}
 use mir.Syntax.{w32}
 use mir.Val.{SFits, ofZ, toZ}
-use Rattle.foundation.specs.Choices.{if_then_else_, ifSome}
-use Rattle.foundation.specs.Results.{Res, ok, refused, Cause, d1TooLong, d2TooLong, stringEnds, newerVersion, sheetTooLong}
+use Rattle.foundation.specs.Choices.{if_then_else_}
+use Rattle.foundation.specs.Results.{Res, Cause, d1TooLong, d2TooLong, stringEnds, newerVersion, sheetTooLong}
 use Rattle.foundation.proofs.ChoiceLaws.{if-ind, and-left, and-right}
 use Rattle.foundation.specs.Texts.{Text}
 use Rattle.encoding.specs.Encoding.{unitLimit}
@@ -30,7 +29,7 @@ use Rattle.names.specs.declared.name.Name.{Name}
 use Rattle.sheet.specs.Rows.{Row, row, sheetFrom, texts, bodyBytes, bodyText}
 use Rattle.sheet.specs.Put.{PutHead, PutRows, past}
 use Rattle.sheet.specs.declared.State.{State}
-use Rattle.sheet.proofs.PutLaws.{put-sheet, put-none, put-front}
+use Rattle.sheet.proofs.PutLaws.{put-none, put-front}
 use Rattle.sheet.proofs.RowLaws.{rowsLength, bodyLength, sheet-length}
 use Rattle.schema.specs.Declarations.{Declarations}
 use Rattle.schema.specs.Reading.{allowance}

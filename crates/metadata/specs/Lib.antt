@@ -1,4 +1,2 @@
 pub mod Read
-pub mod Walk
-pub mod Promises
 pub mod ReadTold

@@ -1,22 +1,21 @@
 -- The record that serves an index, found among running sums; the strings of d2 by their ends.
 -- Assumes nothing.
 use mathlib.Core.Path.{_≡_, refl, ap, sym, _∙_, subst}
-use mathlib.Core.Bool.{Bool, true, false, _&&_}
-use mathlib.Core.List.{List, [], _∷_, _++_, map}
+use mathlib.Core.Bool.{true}
+use mathlib.Core.List.{List, [], _∷_}
 use mathlib.Core.Option.{Option, none, some}
-use Prim.Native.Nat.{ℕ, zero, suc, _+_, _-_, _≤_, _<_, min}
-use native.Mathlib.Nat.{le-refl, add-zero, zero-add, suc-add, add-assoc}
-use native.Mathlib.Numerals.{add-one}
+use Prim.Native.Nat.{ℕ, zero, suc, _+_, _-_, _≤_, _<_}
+use native.Mathlib.Nat.{le-refl, zero-add}
 use native.Mathlib.Omega.{arith}
 use borrow.Author.Tests.{lt-ltb, le-ltb, leb-true}
-use lib.Dec.{eqb, leb, ltb}
+use lib.Dec.{leb}
 use lib.ListN.{length, take, drop, getD, getElem?, length-take}
 use lib.Seq.{getD-take, drop-drop}
 use Rattle.foundation.proofs.ChoiceLaws.{and-left, and-right}
 use Rattle.characters.specs.Characters.{partFrom}
 use Rattle.names.specs.Records.{Record}
 use Rattle.names.specs.Names.{recordAt, stringsFrom, endsFit}
-use Rattle.names.specs.Index.{sumsFrom, rangesOf, Sums, foundIn}
+use Rattle.names.specs.Index.{sumsFrom, rangesOf, Sums}
 
 length-sums : (n : ℕ) (rs : List ℕ) → length (sumsFrom n rs) ≡ suc (length rs)
 unfolding sumsFrom

@@ -2,25 +2,23 @@
 -- Assumes nothing.
 use mathlib.Core.Path.{_≡_, refl, ap}
 use mathlib.Core.Bool.{Bool, _&&_}
-use mathlib.Core.List.{List, [], _∷_, _++_}
-use Prim.Native.Nat.{ℕ, _+_, _-_, _*_, _≤_, _<_}
+use mathlib.Core.List.{[], _∷_, _++_}
+use Prim.Native.Nat.{ℕ, _+_, _-_, _*_, _≤_}
 use Prim.Native.String.{String}
 use native.Mathlib.Nat.{le-refl}
 use native.Mathlib.Omega.{arith}
 use lib.Dec.{T, eqb, leb, leb→le}
-use lib.ListN.{length, getElem?, length-append, length-map, length-take, length-drop}
+use lib.ListN.{length, getElem?, length-append, length-map}
 use Rattle.foundation.specs.Choices.{if_then_else_, ifSome, All, IfSome}
 use Rattle.foundation.specs.Texts.{Text, ascii}
 use Rattle.foundation.proofs.ChoiceLaws.{if-ind, all-weaken}
 use Rattle.foundation.proofs.ResultLaws.{Gives}
 use Rattle.characters.specs.Characters.{isScalar, width, utf8Of, utf8}
-use Rattle.characters.proofs.LengthLaws.{AtMost, InBytes, width-most, bytes-cons, bytes-append, bytes-most, fromUtf8-length, fromUtf16-bytes}
-use Rattle.characters.proofs.EveryLaws.{every-all, all-at, all-take, all-drop, some-map, some-weaken}
-use Rattle.characters.specs.WellFormed.{Units}
-use Rattle.names.specs.Records.{Record, predefinedStrings, predefinedText, baseText, substituted, replaceOf, dotted, operated}
-use Rattle.names.specs.Records.{textOf}
-use Rattle.names.specs.Names.{Names, string, unwrapped, qualifiedName, stringsFrom, d2String}
-use Rattle.names.proofs.StepLaws.{PartOf, unwrapped-part, base-ind, text-keeps, string-keeps, qualified-keeps, d2-keeps}
+use Rattle.characters.proofs.LengthLaws.{AtMost, InBytes, width-most, bytes-cons, bytes-append, bytes-most, fromUtf8-length}
+use Rattle.foundation.proofs.EveryLaws.{every-all, all-at, some-map, some-weaken}
+use Rattle.names.specs.Records.{Record, predefinedStrings, predefinedText, baseText, substituted, replaceOf, dotted, operated, textOf}
+use Rattle.names.specs.Names.{Names, string, unwrapped, qualifiedName}
+use Rattle.names.proofs.StepLaws.{PartOf, unwrapped-part, base-ind, text-keeps, qualified-keeps}
 
 -- A part is no longer than its text, in bytes too; a text keeps its length when a character is replaced, and gains no bytes if
 -- that is done by one that takes a single byte.
@@ -85,19 +83,7 @@ module _ (k : ℕ) (n : Names) (strings : (i : ℕ) → Gives (IfSome (InBytes k
       all-weaken (Fitting k) (λ r. IfSome (InBytes k) (textOf r))
       (λ r h. some-weaken (InBytes (4 * baseLength r + 19)) (InBytes k) (textOf r) (text-bytes r) λ t p. omega arith) (n .records) records
 
-  pub string-bytes : (i : ℕ) → Gives (IfSome (InBytes k)) (string n i)
-  string-bytes = string-keeps (InBytes k) n strings texts-bytes
-
   pub qualified-bytes : (i : ℕ) → Gives (IfSome (InBytes k)) (qualifiedName n i)
   qualified-bytes =
       qualified-keeps (InBytes k) n strings (InBytes k) texts-bytes λ t p.
       omega (arith, dotted-bytes (unwrapped t), part-bytes t (unwrapped t) (unwrapped-part t))
-
--- A string of d2 takes at most three bytes for each unit of d2.
-pub d2-bytes : (ends units : List ℕ) → Units units
-    → (i : ℕ) → Gives (IfSome (InBytes (3 * length units))) (d2String (stringsFrom 0 ends units) i)
-d2-bytes ends units h =
-    let U : List ℕ → Type 0 = λ us. Units us × (length us ≤ length units) in
-    d2-keeps U (λ n us p. (all-take (λ u. u < 65536) n us (p .0), omega (arith, length-take n us)))
-    (λ n us p. (all-drop (λ u. u < 65536) n us (p .0), omega (arith, length-drop n us)))
-    (InBytes (3 * length units)) (λ us p. omega (arith, fromUtf16-bytes us (p .0))) 0 ends units (h, le-refl (length units))

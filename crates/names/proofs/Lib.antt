@@ -5,7 +5,6 @@ pub mod ListLaws
 pub mod NameLaws
 pub mod StreamLaws
 pub mod AsciiLaws
-pub mod CompareLaws
 pub mod IndexLaws
 pub mod RecordLaws
 pub mod NoteLaws

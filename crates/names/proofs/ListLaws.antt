@@ -1,8 +1,8 @@
 -- The predefined strings as parts of one list.
 -- Assumes nothing.
-use mathlib.Core.Path.{_≡_, refl, ap, sym, _∙_, subst}
+use mathlib.Core.Path.{_≡_, refl, ap, _∙_, subst}
 use mathlib.Core.Bool.{Bool, true, false, _&&_}
-use mathlib.Core.List.{List, [], _∷_, map}
+use mathlib.Core.List.{List, [], _∷_}
 use mathlib.Core.Option.{Option, none, some}
 use Prim.Native.Nat.{ℕ, zero, suc, _+_, _≤_, _<_}
 use Prim.Native.String.{String}
@@ -13,7 +13,8 @@ use Rattle.foundation.specs.Choices.{ifSome, mapOption}
 use Rattle.foundation.specs.Texts.{Text, ascii, same}
 use Rattle.foundation.proofs.ChoiceLaws.{same-true}
 use Rattle.characters.specs.Characters.{leadOf, run, step, fromUtf8After, fromUtf8, partFrom}
-use Rattle.characters.proofs.TestLaws.{holds, each, below}
+use Rattle.foundation.proofs.EveryLaws.{each}
+use Rattle.characters.proofs.TestLaws.{holds, below}
 use Rattle.names.specs.Records.{predefinedStrings, predefinedText}
 use Rattle.names.specs.Name.{predefinedList}
 

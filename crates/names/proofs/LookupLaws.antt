@@ -1,26 +1,22 @@
 -- A string by its index: by the record that serves it, or of d2.
 -- Assumes nothing.
 use mathlib.Core.Path.{_≡_, refl, ap, sym, _∙_, subst}
-use mathlib.Core.Bool.{Bool, true, false, _||_}
 use mathlib.Core.List.{List, [], _∷_}
-use mathlib.Core.Option.{Option, none, some}
+use mathlib.Core.Option.{Option, some}
 use Prim.Native.Nat.{ℕ, zero, suc, _+_, _-_, _≤_, _<_}
 use native.Mathlib.Omega.{arith}
 use lib.ListN.{length, take, drop, getD, getElem?, length-take}
 use lib.Seq.{take-take}
-use Rattle.foundation.specs.Choices.{if_then_else_, ifSome, isSome, mapOption}
 use Rattle.foundation.specs.Results.{Res, ok, _from_}
 use Rattle.foundation.specs.Texts.{Text}
 use Rattle.wire.specs.Wire.{cut}
-use Rattle.wire.specs.Asked.{pieceTold, PieceInside, indexTold}
 use Rattle.characters.specs.Characters.{fromUtf16, partFrom}
-use Rattle.characters.proofs.SplitLaws.{drop-take}
+use Rattle.foundation.proofs.ChoiceLaws.{drop-take}
 use Rattle.names.specs.Records as definition
 use Rattle.names.specs.Records.{decides, operated, textOf}
-use Rattle.names.specs.Names.{Names, recordAt, stringsFrom, endsFit, d2String, string}
+use Rattle.names.specs.Names.{Names, recordAt, stringsFrom, d2String, string}
 use Rattle.names.specs.Name.{sourceText, nameText}
-use Rattle.names.specs.Index.{Sums, RecordAt, IndexOf, foundIn, FoundBelow, FindTold, PlaceTold, NamedTold, DecidedIs, DecidedTold}
-use Rattle.names.specs.RecordTold.{recordTold, RecordTold}
+use Rattle.names.specs.Index.{RecordAt, IndexOf, foundIn, FoundBelow, FindTold, PlaceTold, NamedTold, DecidedIs, DecidedTold}
 use Rattle.names.specs.Steps.{plain, absentName, extentOf}
 use Rattle.names.specs.declared.name.Name.{Name}
 use Rattle.names.specs.declared.records.Record.{Record}

@@ -11,7 +11,7 @@ use lib.Dec.{eqb}
 use lib.ListN.{length, take, drop, length-drop}
 use lib.Seq.{take-all}
 use Rattle.foundation.specs.Choices.{if_then_else_}
-use Rattle.foundation.specs.Texts.{Text, ascii, same}
+use Rattle.foundation.specs.Texts.{Text, ascii}
 use Rattle.foundation.proofs.ChoiceLaws.{if-ind}
 use Rattle.characters.specs.Characters.{utf8Of, utf8, fromUtf8, fromUtf16, partFrom}
 use Rattle.characters.specs.Plain.{instead, withDots, withSlashes}
@@ -19,7 +19,7 @@ use Rattle.characters.proofs.TestLaws.{below}
 use Rattle.characters.proofs.Utf8Laws.{utf8-append}
 use Rattle.names.specs.Name.{predefinedList, sourceText, steppedBy, nameText}
 use Rattle.names.specs.Records.{substituted, dotted, operated}
-use Rattle.names.specs.Stream.{changed, changeOf, prefixOf, printed, baseOf, changedBytes, sourceBytes, nameBytes, sameSource, sameName}
+use Rattle.names.specs.Stream.{changed, changeOf, prefixOf, printed, baseOf, changedBytes, sourceBytes, nameBytes}
 use Rattle.names.specs.declared.name.Name.{Name}
 use Rattle.names.specs.declared.name.Change.{Change}
 
@@ -156,37 +156,6 @@ module _ (payload d2 : List ℕ) (n : Name) where
     name-bytes g h =
         let s = source-there g h in
         some-bytes (s .0) (s .1)
-
-    none-same : (text : List ℕ) → sourceText payload d2 n ≡ none → false ≡ sameName payload d2 n slashes text
-    unfolding sameName nameText
-    none-same text e = rw e
-
-    pub absent-same : (text : List ℕ) → n .source ≡ 0 → false ≡ sameName payload d2 n slashes text
-    absent-same text e = none-same text (source-absent e)
-
-    pub past-same : (text : List ℕ) → 3 < n .source → false ≡ sameName payload d2 n slashes text
-    past-same text e = none-same text (source-past e)
-
-    some-same : (text : List ℕ) (t : Text) → sourceText payload d2 n ≡ some t
-        → sameName payload d2 n slashes text ≡ same (printed slashes (prefixOf (n .operation)) ++ map (changed (changeOf n slashes)) t) text
-    unfolding sameName nameText
-    some-same text t e = rw e (ap (λ (u : Text). same u text) (stepped-is n t slashes))
-
-    pub missing-same : (text : List ℕ) → 0 < n .source → n .source ≤ 3
-        → ((t : Text) → same (printed slashes (prefixOf (n .operation)) ++ t) text ≡ false) → false ≡ sameName payload d2 n slashes text
-    missing-same text g h p =
-        let s = source-there g h in
-        sym (some-same text (s .0) (s .1) ∙ p (map (changed (changeOf n slashes)) (s .0)))
-
-    pub rest-same : (text : List ℕ) (at : ℕ) {h : Change} {r : Bool} → 0 < n .source → n .source ≤ 3
-        → ((t : Text) → same (printed slashes (prefixOf (n .operation)) ++ t) text ≡ same t (drop at text))
-        → h ≡ changeOf n slashes → r ≡ sameSource h (sourceText payload d2 n) text at → r ≡ sameName payload d2 n slashes text
-    rest-same text at g i p e f =
-        let s = source-there g i in
-        f
-        ∙ ap (λ (k : Change). sameSource k (sourceText payload d2 n) text at) e
-        ∙ ap (λ (o : Option Text). sameSource (changeOf n slashes) o text at) (s .1)
-        ∙ sym (some-same text (s .0) (s .1) ∙ p (map (changed (changeOf n slashes)) (s .0)))
 
     -- by the change that the code made
     pub name-parts : {h : Change} → h ≡ changeOf n slashes → 0 < n .source → n .source ≤ 3

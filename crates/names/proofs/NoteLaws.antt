@@ -3,13 +3,13 @@
 use mathlib.Core.Path.{_≡_, refl, ap, sym, _∙_, subst}
 use mathlib.Core.Logic.{_⊎_, inl, inr}
 use mathlib.Core.List.{List, [], _∷_, _++_, map, append-nil, append-assoc}
-use mathlib.Core.Option.{Option, none, some}
+use mathlib.Core.Option.{some}
 use Prim.Native.Nat.{ℕ, zero, suc, _+_, _-_, _≤_, _<_}
-use native.Mathlib.Nat.{zero-add, add-zero, le-refl, add-assoc}
+use native.Mathlib.Nat.{zero-add, le-refl}
 use native.Mathlib.Numerals.{add-one}
 use native.Mathlib.Omega.{arith}
 use lib.ListN.{length, take, drop, set, getD, getElem?, length-append, length-set, length-drop}
-use lib.Seq.{take-suc-set, take-set-le, getD-take, getD-set-same, getD-set-other, take-all}
+use lib.Seq.{take-suc-set, getD-take, getD-set-same, getD-set-other, take-all}
 use Rattle.foundation.specs.Results.{Res, ok, refused, _>>=_, Part, _from_}
 use Rattle.wire.specs.Wire.{Message, cut}
 use Rattle.wire.specs.Messages.{values, index, bodiesOf, cutAll, messages, varints}
@@ -26,7 +26,7 @@ use Rattle.wire.proofs.BodyLaws.{checked-part}
 use Rattle.characters.specs.Characters.{partFrom}
 use Rattle.names.specs.Records.{Record, recordOf, served, Record·range}
 use Rattle.names.specs.Names.{StringTableTypes·record, StringTableTypes·local-name, recordsOf}
-use Rattle.names.specs.Index.{sumsFrom, rangesOf, Sums, RecordAt, IndexOf, Room, NotedTold, IndexTold}
+use Rattle.names.specs.Index.{sumsFrom, rangesOf, Sums, RecordAt, IndexOf, NotedTold, IndexTold}
 use Rattle.names.specs.declared.records.RecordIndex.{RecordIndex}
 use Rattle.names.specs.declared.records.RecordIndex.the-variants.{Records, NoRoom, Refused}
 

@@ -1,6 +1,6 @@
 -- Whether a name is there, and how many bytes it takes.
 -- Assumes nothing.
-use mathlib.Core.Path.{_≡_, refl, ap, _∙_}
+use mathlib.Core.Path.{_≡_, refl}
 use mathlib.Core.Bool.{Bool, true, false}
 use mathlib.Core.List.{List, []}
 use mathlib.Core.Option.{Option, none, some}
@@ -8,13 +8,13 @@ use Prim.Native.Nat.{ℕ, _+_, _-_, _*_, _≤_, _<_}
 use native.Mathlib.Omega.{arith}
 use borrow.Author.Tests.{leb-true, leb-false}
 use lib.Dec.{eqb, leb}
-use lib.ListN.{length, take, drop, length-map, length-take, length-drop}
+use lib.ListN.{length, drop, length-map, length-take, length-drop}
 use Rattle.foundation.specs.Choices.{if_then_else_, ifSome, isSome, mapOption, IfSome}
 use Rattle.foundation.specs.Texts.{Text}
 use Rattle.foundation.proofs.ChoiceLaws.{if-ind}
 use Rattle.characters.specs.Characters.{partFrom, width, fromUtf8, fromUtf16, utf8}
 use Rattle.characters.proofs.LengthLaws.{AtMost, InBytes, bytes-most, fromUtf8-length, fromUtf16-length}
-use Rattle.names.specs.Records.{substituted, dotted, operated}
+use Rattle.names.specs.Records.{substituted, operated}
 use Rattle.names.specs.Name.{predefinedList, sourceText, steppedBy, nameText}
 use Rattle.names.specs.Stream.{printed, nameBytes}
 use Rattle.names.specs.declared.name.Name.{Name}

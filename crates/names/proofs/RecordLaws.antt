@@ -6,15 +6,15 @@ use mathlib.Core.List.{List, [], _∷_}
 use mathlib.Core.Option.{Option, none, some}
 use Prim.Native.Nat.{ℕ, zero, suc, _≤_, _<_, _%_, _^_}
 use native.Mathlib.Omega.{arith}
-use borrow.Author.Tests.{eq-eqb, ne-eqb, lt-ltb, le-ltb, eqb-true, eqb-false}
+use borrow.Author.Tests.{eq-eqb, ne-eqb, eqb-true, eqb-false}
 use lib.Dec.{eqb}
 use lib.ListN.{length}
-use Rattle.foundation.specs.Choices.{if_then_else_, ifSome, orElse}
-use Rattle.foundation.specs.Results.{Res, ok, refused, _>>=_, Part, _from_}
+use Rattle.foundation.specs.Choices.{if_then_else_, orElse}
+use Rattle.foundation.specs.Results.{Res, ok, refused, _from_}
 use Rattle.wire.specs.Wire.{Value, field, readField, Message, cut}
-use Rattle.wire.specs.Messages.{values, firstOf, value, varintOf, index, as32, bytesOf, joined, varints, asVarint, asBody}
+use Rattle.wire.specs.Messages.{values, firstOf, value, joined, varints}
 use Rattle.wire.specs.Told.{refusal, restOf, valueOf, Inside, FieldTold}
-use Rattle.wire.specs.Asked.{foundTold, FoundInside, FoundTold, numberOf, numberTold, pieceOf, pieceTold, PieceInside, indexTold}
+use Rattle.wire.specs.Asked.{foundTold, FoundInside, FoundTold, pieceIn, indexTold, indexIn}
 use Rattle.wire.specs.Repeated as wire
 use Rattle.wire.specs.declared.WireError.{WireError}
 use Rattle.wire.specs.declared.WireValue.{WireValue}
@@ -22,20 +22,14 @@ use Rattle.wire.specs.declared.FieldStep.{FieldStep}
 use Rattle.wire.specs.declared.FieldStep.the-variants as step
 use Rattle.wire.specs.declared.message.Found.{Found}
 use Rattle.wire.specs.declared.message.Found.the-variants as found
-use Rattle.wire.specs.declared.message.Number.{Number}
-use Rattle.wire.specs.declared.message.Number.the-variants as number
-use Rattle.wire.specs.declared.message.Piece.{Piece}
 use Rattle.wire.specs.declared.message.Indexed.{Indexed}
 use Rattle.wire.specs.declared.message.Indexed.the-variants as indexed
 use Rattle.wire.specs.declared.repeated.Two.{Two}
 use Rattle.wire.specs.declared.repeated.Two.the-variants.{Neither, One, Both}
-use Rattle.wire.specs.declared.repeated.FirstTwo.{FirstTwo}
-use Rattle.wire.specs.declared.repeated.FirstTwo.the-variants as first
 use Rattle.wire.proofs.WalkLaws.{field-is, Leads, leads-start, leads-next, leads-never, leads-end, values-found, values-passed}
-use Rattle.wire.proofs.FindLaws.{as-number, as-piece, piece-inside}
-use Rattle.names.specs.Records.{served, twoOf, recordOf}
-use Rattle.names.specs.Records.{Record·range, Record·predefined-index, Record·operation, Record·substring-index, Record·replace-char, Record·string}
-use Rattle.names.specs.RecordTold.{firstSeen, withField, FirstsTold, numberIn, pieceIn, indexIn, operationIn, bothOf, recordTold, RecordTold}
+use Rattle.wire.proofs.FindLaws.{number-is, index-is, piece-is}
+use Rattle.names.specs.Records.{served, twoOf, recordOf, Record·range, Record·predefined-index, Record·operation, Record·substring-index, Record·replace-char, Record·string}
+use Rattle.names.specs.RecordTold.{firstSeen, withField, FirstsTold, operationIn, bothOf, RecordTold}
 use Rattle.names.specs.declared.records.Firsts.{Firsts}
 use Rattle.names.specs.declared.records.Record.{Record}
 
@@ -150,20 +144,6 @@ module _ (base : ℕ) (s : List ℕ) where
 
 -- What is made of a first occurrence.
 module _ (base : ℕ) (s : List ℕ) (k : ℕ) (m : Message) (w : cut (_from_ base s) ≡ ok m) where
-  pub number-is : (f : Found) → FoundTold base s k f → varintOf k m ≡ numberTold (numberIn f)
-  unfolding varintOf
-  number-is (found.Value v) t = ap (λ (o : Option Value). ifSome o none asVarint) (t .is m w) ∙ as-number base s v
-  number-is found.Nothing t = ap (λ (o : Option Value). ifSome o none asVarint) (t .is m w)
-
-  pub piece-is : (f : Found) → FoundTold base s k f → bytesOf k m ≡ pieceTold base s (pieceIn f)
-  unfolding bytesOf
-  piece-is (found.Value v) t = ap (λ (o : Option Value). ifSome o none asBody) (t .is m w) ∙ as-piece base s v
-  piece-is found.Nothing t = ap (λ (o : Option Value). ifSome o none asBody) (t .is m w)
-
-  pub index-is : (f : Found) → FoundTold base s k f → index k m ≡ indexIn f
-  unfolding index
-  index-is f t = ap (λ (o : Option ℕ). ifSome o none as32) (number-is f t)
-
   -- a field that isn't there has no numbers
   pub two-none : FoundTold base s k found.Nothing → twoOf (varints k m) ≡ none
   unfolding varints joined
@@ -173,10 +153,6 @@ module _ (base : ℕ) (s : List ℕ) (k : ℕ) (m : Message) (w : cut (_from_ ba
       go [] e = refl
       go (v ∷ vs) e = let z : _≡_ {A = ℕ} 0 1 = cc in absurd (omega arith)
 
-pub piece-in : (s : List ℕ) (f : Found) → FoundInside s f → PieceInside s (pieceIn f)
-piece-in s (found.Value v) h = piece-inside s v h
-piece-in s found.Nothing h = tt
-
 -- a step's two numbers, as the wire tells them
 pub two-is : (r : Res (List ℕ)) {t : Two} → wire.twoOf r ≡ ok t → twoOf r ≡ bothOf t
 two-is (ok []) {t} e = let q : Neither ≡ t = cc in rw (← q)
@@ -185,19 +161,9 @@ two-is (ok (a ∷ b ∷ ns)) {t} e = let q : Both (a % 2 ^ 32) (b % 2 ^ 32) ≡ 
 two-is (refused c p) e = let z : _≡_ {A = ℕ} 0 1 = cc in absurd (omega arith)
 
 -- how many indices
-pub served-zero : {o : Indexed} {n : ℕ} → o ≡ indexed.At n → n ≡ 0 → 1 ≡ served (indexTold o)
-served-zero e z = rw (e, z)
-
 pub served-some : {o : Indexed} {n : ℕ} → o ≡ indexed.At n → (n ≡ 0 → ⊥) → n ≡ served (indexTold o)
 served-some {n = zero} e h = absurd (h refl)
 served-some {n = suc n} e h = rw e
-
--- a number that fits 32 bits, or none
-pub index-small : (f : Found) {x : Number} {n : ℕ} → x ≡ numberIn f → x ≡ number.Value n → n ≤ 4294967295 → some n ≡ indexIn f
-index-small f {n = n} e g h = rw (← e, g, lt-ltb n (2 ^ 32) (omega arith))
-
-pub index-large : (f : Found) {x : Number} {n : ℕ} → x ≡ numberIn f → x ≡ number.Value n → 4294967295 < n → none ≡ indexIn f
-index-large f {n = n} e g h = rw (← e, g, le-ltb n (2 ^ 32) (omega arith))
 
 pub two-refused : (r : Res (List ℕ)) (e : WireError) → wire.twoOf r ≡ refusal e → twoOf r ≡ none
 two-refused (ok ns) e q = let z : _≡_ {A = ℕ} 0 1 = cc in absurd (omega arith)
@@ -211,12 +177,14 @@ pub record-is : (base : ℕ) (s : List ℕ) (f : Firsts) (r : Record) → Firsts
     → (FoundTold base s Record·replace-char (f .replaced) → (m : Message) → cut (_from_ base s) ≡ ok m → twoOf (varints Record·replace-char m) ≡ bothOf (r .replaced))
     → RecordTold base s r
 unfolding recordOf
-record-is base s f r t range a b c d e g h = record {
-  is = λ m w.
-      let p = index-is base s Record·range m w (f .range) (t .range) in
-      let q = piece-is base s Record·string m w (f .string) (t .string) in
-      let u = index-is base s Record·predefined-index m w (f .predefined) (t .predefined) in
-      let v = number-is base s Record·operation m w (f .operation) (t .operation) in
-      simp (p, q, u, v, ← a, ← b, ← c, ← d, ← e, g (t .substring) m w, h (t .replaced) m w);
-  inside = subst (PieceInside s) (sym c) (piece-in s (f .string) (t .string .inside));
-}
+record-is base s f r t range a b c d e g h =
+    let string = piece-is base s Record·string (f .string) (t .string) c in
+    record {
+      is = λ m w.
+          let p = index-is base s Record·range m w (f .range) (t .range) in
+          let q = string .is m w in
+          let u = index-is base s Record·predefined-index m w (f .predefined) (t .predefined) in
+          let v = number-is base s Record·operation m w (f .operation) (t .operation) in
+          simp (p, q, u, v, ← a, ← b, ← d, ← e, g (t .substring) m w, h (t .replaced) m w);
+      inside = string .inside;
+    }

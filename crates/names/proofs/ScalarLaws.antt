@@ -15,8 +15,8 @@ use Rattle.foundation.proofs.ResultLaws.{Gives}
 use Rattle.characters.specs.Characters.{isScalar}
 use Rattle.characters.proofs.ScalarLaws.{fromUtf8-characters, fromUtf16-characters}
 use Rattle.characters.specs.WellFormed.{Characters, Units}
-use Rattle.characters.proofs.TestLaws.{each, scalar-below}
-use Rattle.characters.proofs.EveryLaws.{every, every-all, all-any, all-at, all-split, all-take, all-drop, some-map}
+use Rattle.characters.proofs.TestLaws.{scalar-below}
+use Rattle.foundation.proofs.EveryLaws.{each, every, every-all, all-any, all-at, all-split, all-take, all-drop, some-map}
 use Rattle.names.specs.Records.{Record, predefinedStrings, predefinedText, substituted, replaceOf, dotted, operated, textOf}
 use Rattle.names.specs.Names.{Names, string, unwrapped, qualifiedName, stringsFrom, d2String}
 use Rattle.names.proofs.StepLaws.{PartOf, unwrapped-part, base-ind, text-keeps, string-keeps, qualified-keeps, d2-keeps}

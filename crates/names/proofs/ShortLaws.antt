@@ -9,8 +9,8 @@ use native.Mathlib.Omega.{arith}
 use borrow.Author.Tests.{lt-ltb, ne-eqb}
 use lib.Dec.{eqb}
 use lib.ListN.{length, getD}
-use Rattle.foundation.specs.Choices.{if_then_else_, ifSome, isSome, mapOption}
-use Rattle.foundation.specs.Results.{ok, Part, _from_, Got, got, mapGot}
+use Rattle.foundation.specs.Choices.{if_then_else_, ifSome, isSome}
+use Rattle.foundation.specs.Results.{ok, Part, _from_, got, mapGot}
 use Rattle.foundation.specs.Texts.{Text}
 use Rattle.wire.specs.Wire.{groupsFrom, readVarint, varint, field, readField, repeated, Message, cut}
 use Rattle.wire.specs.Messages.{values, firstOf, asBody, varintOf, index, bytesOf, joined, varints}
@@ -29,7 +29,6 @@ use Rattle.names.specs.declared.name.Name.{Name}
 use Rattle.names.specs.declared.name.Listed.{Listed}
 use Rattle.names.specs.declared.name.Listed.the-variants as listed
 use Rattle.names.specs.declared.records.Record.{Record}
-use Rattle.names.specs.declared.lookup.Decided.{Decided}
 use Rattle.names.specs.declared.lookup.Decided.the-variants as decided
 use Rattle.names.proofs.PartLaws.{same-substituted}
 

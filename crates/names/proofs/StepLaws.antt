@@ -15,9 +15,8 @@ use Rattle.foundation.proofs.ResultLaws.{Gives, gives-bind}
 use Rattle.characters.specs.Characters.{fromUtf8, fromUtf16}
 use Rattle.characters.specs.Splits.{splitAt, substringOf}
 use Rattle.characters.proofs.StepLaws.{Joins, split-joins}
-use Rattle.characters.proofs.EveryLaws.{all-at, some-map, some-then, some-weaken}
-use Rattle.names.specs.Records.{Record, predefinedText, baseText, replaceOf, dotted, operated}
-use Rattle.names.specs.Records.{stepped, textOf, decides}
+use Rattle.foundation.proofs.EveryLaws.{all-at, some-map, some-then, some-weaken}
+use Rattle.names.specs.Records.{Record, predefinedText, baseText, replaceOf, dotted, operated, stepped, textOf, decides}
 use Rattle.names.specs.Names.{Names, recordAt, string, withoutLast, unwrapped, qualifiedName, stringsFrom, d2String}
 
 -- A text that stands in another.

@@ -1,28 +1,19 @@
 -- Texts written character by character.
 -- Assumes nothing.
 use mathlib.Core.Path.{_≡_, refl, ap, sym, subst, _∙_}
-use mathlib.Core.Bool.{Bool, true, false}
 use mathlib.Core.List.{List, [], _∷_, _++_, map}
-use mathlib.Core.Option.{Option, none, some}
-use Prim.Native.Nat.{ℕ, _+_, _-_, _*_, _≤_, _<_}
+use Prim.Native.Nat.{ℕ, _+_, _-_, _<_}
 use native.Mathlib.Omega.{arith}
-use lib.Dec.{eqb}
-use lib.ListN.{length, take, drop, length-append, length-map, length-take, length-drop}
+use lib.ListN.{length, length-append}
 use lib.Seq.{sets, length-sets}
-use Rattle.foundation.specs.Choices.{if_then_else_, IfSome}
-use Rattle.foundation.specs.Texts.{Text, ascii}
-use Rattle.foundation.proofs.ChoiceLaws.{if-ind}
+use Rattle.foundation.specs.Texts.{Text}
 use Rattle.foundation.proofs.OverlayLaws.{sets-then}
-use Rattle.characters.specs.Characters.{utf8Of, utf8, fromUtf8, fromUtf16, partFrom}
+use Rattle.characters.specs.Characters.{utf8Of, utf8}
 use Rattle.characters.specs.Told.{PutCharacter}
 use Rattle.characters.proofs.Utf8Laws.{utf8-length}
-use Rattle.characters.proofs.LengthLaws.{bytes-most, fromUtf8-length, fromUtf16-length}
 use Rattle.characters.proofs.WriteLaws.{put-next}
-use Rattle.names.specs.Name.{predefinedList, sourceText}
-use Rattle.names.specs.Stream.{changed, changeOf, prefixOf, printed, changedBytes, sourceBytes, nameBytes, PutText}
-use Rattle.names.specs.declared.name.Name.{Name}
+use Rattle.names.specs.Stream.{changed, changedBytes, PutText}
 use Rattle.names.specs.declared.name.Change.{Change}
-use Rattle.names.proofs.NameLaws.{none-bytes, some-bytes}
 
 -- Of a whole text, written from `at` on over the area A₀, the rest is to be written from `to` on over A.
 pub record Streaming (h : Change) (whole rest : Text) (at to : ℕ) (A₀ A : List ℕ) : Type 0 where
@@ -92,50 +83,3 @@ fits-then {p} q K at e f h = let g = ap length e ∙ length-append p q in omega 
 
 pub text-whole : {p q : List ℕ} (at : ℕ) {A B : List ℕ} → p ≡ q → B ≡ sets A at q → PutText p at (at + length q) A B
 text-whole at {A} e f = record { place = let g = ap length e in omega arith; written = f ∙ ap (sets A at) (sym e) }
-
--- How long a name can be.
-changed-most : (h : Change) (t : Text) → length (changedBytes h t) ≤ 4 * length t
-changed-most h t = omega (arith, bytes-most (map (changed h) t), length-map t (changed h))
-
-prefix-most : (operation : ℕ) (slashes : Bool) → length (utf8 (printed slashes (prefixOf operation))) ≤ 19
-unfolding utf8 utf8Of
-prefix-most operation slashes = go (eqb operation 2) slashes
-  where
-    go : (two s : Bool) → length (utf8 (printed s (if two then ascii "kotlin.collections." else []))) ≤ 19
-    go true true = omega arith
-    go true false = omega arith
-    go false true = omega arith
-    go false false = omega arith
-
-module _ (payload d2 : List ℕ) (n : Name) where
-  abbrev most : ℕ
-  most = length payload + length d2 + 878
-
-  list-most : length predefinedList ≤ 878
-  unfolding predefinedList
-  list-most = omega arith
-
-  part-most : (l : List ℕ) → length (partFrom (n .start) (n .end) l) ≤ length l
-  part-most l = omega (arith, length-take (n .end - n .start) (drop (n .start) l), length-drop (n .start) l)
-
-  source-most : IfSome (λ t. length t ≤ most) (sourceText payload d2 n)
-  unfolding sourceText
-  source-most =
-      let P : Option Text → Type 0 = IfSome λ t. length t ≤ most in
-      let s : (l : List ℕ) → length l ≤ most → length (fromUtf8 (partFrom (n .start) (n .end) l)) ≤ most =
-      λ l h. omega (arith, fromUtf8-length 0 (partFrom (n .start) (n .end) l), part-most l) in
-      if-ind P (eqb (n .source) 1) (λ e. s payload (omega arith)) λ e.
-      if-ind P (eqb (n .source) 2) (λ e. s predefinedList (omega (arith, list-most))) λ e.
-      if-ind P (eqb (n .source) 3) (λ e. omega (arith, fromUtf16-length (partFrom (n .start) (n .end) d2), part-most d2)) λ e. tt
-
-  pub name-most : (slashes : Bool) → length (nameBytes payload d2 n slashes) ≤ 4 * most + 19
-  name-most slashes = go (sourceText payload d2 n) refl source-most
-    where
-      go : (o : Option Text) → sourceText payload d2 n ≡ o → IfSome (λ t. length t ≤ most) o → length (nameBytes payload d2 n slashes) ≤ 4 * most + 19
-      go none e h = omega (arith, ap length (none-bytes payload d2 n slashes e))
-      go (some t) e h =
-          let p = utf8 (printed slashes (prefixOf (n .operation))) in
-          let c = changeOf n slashes in
-          let b : nameBytes payload d2 n slashes ≡ p ++ changedBytes c t =
-          some-bytes payload d2 n slashes t e ∙ ap (λ (o : Option Text). p ++ sourceBytes c o) e in
-          omega (arith, ap length b ∙ length-append p (changedBytes c t), prefix-most (n .operation) slashes, changed-most c t)

@@ -4,24 +4,23 @@ use mathlib.Core.Path.{_≡_, refl, ap, sym, _∙_, subst}
 use mathlib.Core.Bool.{Bool, true, false, _&&_, _||_}
 use mathlib.Core.List.{List, [], _∷_, _++_, map}
 use mathlib.Core.Option.{Option, none, some}
-use Prim.Native.Nat.{ℕ, zero, suc, _+_, _-_, _≤_, _<_}
-use native.Mathlib.Nat.{le-refl, zero-add}
-use native.Mathlib.Numerals.{add-one}
+use Prim.Native.Nat.{ℕ, suc, _+_, _-_, _≤_, _<_}
+use native.Mathlib.Nat.{le-refl}
 use native.Mathlib.Omega.{arith}
 use borrow.Author.Tests.{eq-eqb, ne-eqb, eqb-true, eqb-false}
 use lib.Dec.{eqb}
 use lib.ListN.{length, take, drop, getD, getElem?, length-drop, drop-of-length-le}
-use lib.Seq.{take-suc, getD-drop, take-nil}
+use lib.Seq.{take-suc, getD-drop}
 use Rattle.foundation.specs.Choices.{if_then_else_, ifSome, mapOption}
 use Rattle.foundation.specs.Results.{Res, ok, _>>=_}
-use Rattle.foundation.specs.Texts.{Text, ascii}
-use Rattle.characters.specs.Characters.{width, fromUtf8After, fromUtf8, fromUtf16, isHigh, isLow, lone, pair, partFrom}
+use Rattle.foundation.specs.Texts.{Text}
+use Rattle.characters.specs.Characters.{fromUtf8After, fromUtf8, fromUtf16, isHigh, isLow, lone, pair, partFrom}
 use Rattle.characters.specs.Told.{utf8At}
 use Rattle.characters.specs.Plain.{instead}
 use Rattle.characters.specs.declared.Character.{Character}
 use Rattle.characters.specs.declared.Character.the-variants.{Read, End}
 use Rattle.characters.proofs.TestLaws.{below}
-use Rattle.characters.proofs.EveryLaws.{map-twice}
+use Rattle.foundation.proofs.EveryLaws.{map-twice}
 use Rattle.characters.proofs.CharacterLaws.{utf8-none, utf8-end, utf8-inside, utf8-next}
 use Rattle.characters.proofs.SplitLaws.{Boundary, boundary-start, boundary-next, boundary-text}
 use Rattle.characters.proofs.SeamLaws.{units-seam}

@@ -1,6 +1,5 @@
 -- What the code's Name means: a part of the payload, of the predefined list or of d2, and what is done to its characters.
 -- Assumes nothing.
-use mathlib.Core.Bool.{Bool}
 use mathlib.Core.List.{List, map}
 use mathlib.Core.Option.{Option, none, some}
 use Prim.Native.Nat.{ℕ}

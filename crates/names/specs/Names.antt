@@ -1,13 +1,13 @@
 -- Names by their index: jvm_metadata.proto's StringTableTypes with the strings of d2 (document 01, "names.rs").
 -- Assumes nothing.
-use mathlib.Core.Bool.{Bool, true, false, _&&_}
+use mathlib.Core.Bool.{Bool, _&&_}
 use mathlib.Core.List.{List, [], _∷_, map}
 use mathlib.Core.Option.{Option, none, some}
 use Prim.Native.Nat.{ℕ, _-_}
 use lib.Dec.{eqb, leb, ltb}
-use lib.ListN.{length, take, drop, getElem?}
-use Rattle.foundation.specs.Choices.{if_then_else_, ifSome, mapOption, orElse}
-use Rattle.foundation.specs.Results.{Res, ok, refused, _>>=_}
+use lib.ListN.{take, drop, getElem?}
+use Rattle.foundation.specs.Choices.{if_then_else_, ifSome, mapOption}
+use Rattle.foundation.specs.Results.{Res, ok, _>>=_}
 use Rattle.foundation.specs.Texts.{Text}
 use Rattle.wire.specs.Wire.{Message}
 use Rattle.wire.specs.Messages.{messages, varints}

@@ -8,19 +8,13 @@ use lib.Dec.{eqb}
 use Rattle.foundation.specs.Choices.{if_then_else_, ifSome}
 use Rattle.foundation.specs.Results.{ok, _from_}
 use Rattle.wire.specs.Wire.{Message, cut}
-use Rattle.wire.specs.Messages.{as32}
-use Rattle.wire.specs.Asked.{FoundTold, numberOf, numberTold, pieceOf, pieceTold, PieceInside, indexTold}
+use Rattle.wire.specs.Asked.{FoundTold, numberTold, pieceTold, PieceInside, indexTold, numberIn}
 use Rattle.wire.specs.declared.WireValue.{WireValue}
 use Rattle.wire.specs.declared.message.Found.{Found}
 use Rattle.wire.specs.declared.message.Found.the-variants as found
-use Rattle.wire.specs.declared.message.Number.{Number}
-use Rattle.wire.specs.declared.message.Number.the-variants as number
-use Rattle.wire.specs.declared.message.Piece.{Piece}
-use Rattle.wire.specs.declared.message.Piece.the-variants as piece
 use Rattle.wire.specs.declared.repeated.Two.{Two}
 use Rattle.wire.specs.declared.repeated.Two.the-variants.{Neither, One, Both}
-use Rattle.names.specs.Records.{recordOf}
-use Rattle.names.specs.Records.{Record·range, Record·predefined-index, Record·operation, Record·substring-index, Record·replace-char, Record·string}
+use Rattle.names.specs.Records.{recordOf, Record·range, Record·predefined-index, Record·operation, Record·substring-index, Record·replace-char, Record·string}
 use Rattle.names.specs.Records as definition
 use Rattle.names.specs.declared.records.Firsts.{Firsts}
 use Rattle.names.specs.declared.records.Record.{Record}
@@ -48,17 +42,6 @@ pub record FirstsTold (base : ℕ) (s : List ℕ) (f : Firsts) : Type 0 where
   pub substring : FoundTold base s Record·substring-index (f .substring)
   pub replaced : FoundTold base s Record·replace-char (f .replaced)
   pub string : FoundTold base s Record·string (f .string)
-
-abbrev pub numberIn : Found → Number
-numberIn (found.Value v) = numberOf v
-numberIn found.Nothing = number.Nothing
-
-abbrev pub pieceIn : Found → Piece
-pieceIn (found.Value v) = pieceOf v
-pieceIn found.Nothing = piece.Nothing
-
-abbrev pub indexIn : Found → Option ℕ
-indexIn f = ifSome (numberTold (numberIn f)) none as32
 
 abbrev pub operationIn : Found → ℕ
 operationIn f = ifSome (numberTold (numberIn f)) 0 λ n. n

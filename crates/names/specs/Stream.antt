@@ -1,23 +1,21 @@
 -- What the code does with a name, in the definitions' words.
 -- Assumes nothing.
-use mathlib.Core.Bool.{Bool, true, false, _&&_, _||_}
+use mathlib.Core.Bool.{Bool, true, _||_}
 use mathlib.Core.Path.{_≡_}
-use mathlib.Core.List.{List, [], _∷_, _++_, map}
+use mathlib.Core.List.{List, [], map}
 use mathlib.Core.Option.{Option, none, some}
 use Prim.Native.Nat.{ℕ, _+_, _≤_}
 use lib.Dec.{eqb}
-use lib.ListN.{length, drop}
+use lib.ListN.{length}
 use lib.Seq.{sets}
 use Rattle.foundation.specs.Choices.{if_then_else_, ifSome}
-use Rattle.foundation.specs.Texts.{Text, ascii, same}
+use Rattle.foundation.specs.Texts.{Text, ascii}
 use Rattle.characters.specs.Characters.{fromUtf8, utf8, partFrom}
 use Rattle.characters.specs.Plain.{instead, withDots, withSlashes, isAscii}
 use Rattle.names.specs.Name.{predefinedList, nameText}
 use Rattle.names.specs.Records.{INTERNAL-TO-CLASS-ID, DESC-TO-CLASS-ID, substituted}
 use Rattle.names.specs.declared.name.Name.{Name}
 use Rattle.names.specs.declared.name.Change.{Change}
-use Rattle.names.specs.declared.stream.Prefix.{Prefix}
-use Rattle.names.specs.declared.stream.Prefix.the-variants.{Ends, Missing}
 use Rattle.names.specs.declared.name.Listed.{Listed}
 use Rattle.names.specs.declared.name.Listed.the-variants.{Part, Nothing}
 
@@ -71,24 +69,3 @@ nameBytes payload d2 n slashes = ifSome (nameText payload d2 n) [] λ t. utf8 (p
 pub record PutText (bytes : List ℕ) (at next : ℕ) (before after : List ℕ) : Type 0 where
   pub place : next ≡ at + length bytes
   pub written : after ≡ sets before at bytes
-
--- is a text, each character changed, what another holds from a place on?
-abbrev pub sameFrom : Change → Text → List ℕ → ℕ → Bool
-sameFrom h t text from = same (map (changed h) t) (drop from text)
-
-abbrev pub begins : List ℕ → List ℕ → Bool
-begins [] text = true
-begins (a ∷ p) [] = false
-begins (a ∷ p) (b ∷ text) = eqb a b && begins p text
-
--- Where in a text what stands in front of another ends: what that says of any text with it in front.
-abbrev pub PrefixTold : Text → List ℕ → Prefix → Type 0
-PrefixTold p text (Ends at) = (t : Text) → same (p ++ t) text ≡ same t (drop at text)
-PrefixTold p text Missing = (t : Text) → same (p ++ t) text ≡ false
-
-abbrev pub sameSource : Change → Option Text → List ℕ → ℕ → Bool
-sameSource h o text from = ifSome o false λ t. sameFrom h t text from
-
--- is a name there, and its text, with slashes for dots if they are asked for, this one?
-unfoldable pub sameName : List ℕ → List ℕ → Name → Bool → List ℕ → Bool
-sameName payload d2 n slashes text = ifSome (nameText payload d2 n) false λ t. same (printed slashes t) text

@@ -5,4 +5,4 @@ pub mod steps; // steps.rt: the name that a record builds
 pub mod qualified; // qualified.rt: class names by their index
 pub mod records; // records.rt: the records of the name table
 pub mod name; // name.rt: names as parts of the payload, the predefined list or d2
-pub mod stream; // stream.rt: names written and compared
+pub mod stream; // stream.rt: names written

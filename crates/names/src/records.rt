@@ -3,7 +3,6 @@
 ghost use mathlib.Core.Path.{_≡_};
 ghost use Prim.Native.Nat.{ℕ, _+_, _≤_, _<_};
 ghost use lib.ListN.{length, set};
-ghost use Rattle.foundation.specs.Choices.{ifSome};
 ghost use Rattle.foundation.specs.Results.{ok, _from_};
 ghost use Rattle.wire.specs.Wire.{cut, Message};
 ghost use Rattle.wire.specs.Messages.{varints};
@@ -11,7 +10,7 @@ ghost use Rattle.wire.specs.Asked.{FoundTold, indexTold};
 ghost use Rattle.wire.specs.Told.{restOf};
 ghost use Rattle.names.specs.Records.{served, twoOf};
 ghost use Rattle.names.specs.Index.{NotedTold, IndexTold};
-ghost use Rattle.names.specs.RecordTold.{firstSeen, withField, FirstsTold, numberIn, indexIn, operationIn, pieceIn, bothOf, RecordTold};
+ghost use Rattle.names.specs.RecordTold.{firstSeen, withField, FirstsTold, operationIn, bothOf, RecordTold};
 use wire::FieldStep;
 use wire::WireError;
 use wire::WireValue;
@@ -115,39 +114,6 @@ fn firsts_in(s: &[u8], base: u32) -> Firsts
     firsts
 }
 
-fn number_in(found: Found) -> Number
-    ensures { λ r. ⌜ r ≡ numberIn found ⌝ }
-{
-    let Found::Value { value } = found else {
-        return Number::Nothing;
-    };
-    value.varint()
-}
-
-fn piece_in(found: Found) -> Piece
-    ensures { λ r. ⌜ r ≡ pieceIn found ⌝ }
-{
-    let Found::Value { value } = found else {
-        return Piece::Nothing;
-    };
-    value.bytes()
-}
-
-fn index_in(found: Found) -> Indexed
-    ensures { λ r. ⌜ indexTold r ≡ indexIn found ⌝ }
-{
-    let number = number_in(found);
-    let Number::Value { value } = number else {
-        return Indexed::Nothing;
-    };
-    if 4294967295 < value {
-        return Indexed::Nothing;
-    }
-    Indexed::At {
-        index: value as u32,
-    }
-}
-
 // How many indices a record serves: range 0 counts as 1, and so does no range.
 fn served(range: Indexed) -> u32
     ensures { λ r. ⌜ r ≡ served (indexTold range) ⌝ }
@@ -164,7 +130,7 @@ fn served(range: Indexed) -> u32
 fn operation_in(found: Found) -> u64
     ensures { λ r. ⌜ r ≡ operationIn found ⌝ }
 {
-    let number = number_in(found);
+    let number = found.varint();
     let Number::Value { value } = number else {
         return 0;
     };
@@ -208,9 +174,9 @@ pub fn record_in(s: &[u8], base: u32) -> Record
     let replaced = firsts.replaced;
     let string = firsts.string;
     Record {
-        range: served(index_in(range)),
-        string: piece_in(string),
-        predefined: index_in(predefined),
+        range: served(range.index()),
+        string: string.bytes(),
+        predefined: predefined.index(),
         operation: operation_in(operation),
         substring: two_in(&*s, base, SUBSTRING_INDEX, substring),
         replaced: two_in(&*s, base, REPLACE_CHAR, replaced),

@@ -1,24 +1,24 @@
 -- How many bytes are counted: what a step takes of what a reader of members can afford.
 -- Assumes nothing.
 use mathlib.Core.Path.{_≡_, subst}
-use mathlib.Core.List.{List, [], _∷_}
+use mathlib.Core.List.{List}
 use Prim.Native.Nat.{ℕ, _+_, _*_, _^_, _≤_}
 use native.Mathlib.Omega.{arith}
 use lib.ListN.{length}
 use Rattle.foundation.specs.Choices.{All}
-use Rattle.sheet.specs.Rows.{Cell, row}
-use Rattle.sheet.specs.Put.{PutCells, PutHead, PutRows, past}
+use Rattle.sheet.specs.Rows.{Cell}
+use Rattle.sheet.specs.Put.{PutHead, past}
 use Rattle.sheet.specs.declared.State.{State}
 use Rattle.sheet.proofs.PutLaws.{put-types}
 use Rattle.schema.specs.Written as written
 use Rattle.schema.specs.Written.{cellLimit}
-use Rattle.schema.specs.Told.{Ready, Spends, PickedSpends}
+use Rattle.schema.specs.Told.{Ready, Spends}
 use Rattle.schema.specs.MembersTold.{Affords, Within, PickedWithin, ListedWithin}
 use Rattle.schema.specs.declared.Listed.{Listed}
 use Rattle.schema.specs.declared.Listed.the-variants as listed
 use Rattle.schema.specs.declared.Picked.{Picked}
 use Rattle.schema.specs.declared.Picked.the-variants as picked
-use Rattle.schema.proofs.WrittenLaws.{Small, cells-room, head-room, row-room}
+use Rattle.schema.proofs.WrittenLaws.{Small, head-room}
 
 -- Steps one after the other; a step that takes no more than is said.
 pub within-none : (s : State) → Within 0 s s
@@ -71,27 +71,14 @@ module _ {payload d2 : List ℕ} {n : ℕ} {s : State} (h : Affords payload d2 n
   pub affords-room : written.Room (2 ^ 61) payload d2 s
   affords-room = record { payload = h .payload-short; d2 = h .d2-short; places = omega (arith, h .room) }
 
-  -- What cells take, a record's kind and cells, a whole record.
+  -- What a record's kind and cells take.
   module _ (cs : List Cell) (small : All Small cs) {s′ : State} {S S′ T T′ : List ℕ} where
-    pub cells-within : PutCells cs (s .types) s s′ S S′ T T′ → Within (length cs * cellLimit) s s′
-    cells-within p =
-        let r = cells-room cs small affords-places p in
-        record { counts = omega (arith, r .places, put-types p); types = omega (arith, put-types p) }
-
     pub head-within : (k : ℕ) → PutHead k cs (s .types) s s′ S S′ T T′ → Within (1 + length cs * cellLimit) s s′
     head-within k p =
         let r = head-room cs small affords-places k p in
         record { counts = omega (arith, r .places, put-types p); types = omega (arith, put-types p) }
 
-    pub row-within : (k : ℕ) → PutRows (row k cs ∷ []) (s .types) s s′ S S′ T T′ → Within (1 + length cs * cellLimit) s s′
-    row-within k p =
-        let r = row-room cs small affords-places k p in
-        record { counts = omega (arith, r .places, put-types p); types = omega (arith, put-types p) }
-
 -- The same of an answer that is known.
-pub picked-spent : {s : State} {r : Picked} {s′ : State} → PickedSpends s r → r ≡ picked.Kept s′ → Within 0 s s′
-picked-spent {s} h e = spends-within (subst (PickedSpends s) e h)
-
 pub picked-within : {n : ℕ} {s : State} {r : Picked} {s′ : State} → PickedWithin n s r → r ≡ picked.Kept s′ → Within n s s′
 picked-within {n} {s} h e = subst (PickedWithin n s) e h
 

@@ -7,12 +7,12 @@ use mathlib.Core.Option.{Option, none, some}
 use Prim.Native.Nat.{ℕ}
 use lib.ListN.{getElem?}
 use Rattle.foundation.specs.Results as Results
-use Rattle.foundation.specs.Results.{Res, ok, _from_}
+use Rattle.foundation.specs.Results.{ok, _from_}
 use Rattle.foundation.specs.Texts.{Text, ascii}
 use Rattle.wire.specs.Wire.{groupsFrom, readVarint, readBytes, readDelimited, readFixed, readValue, readField, repeated, cut}
 use Rattle.wire.specs.Messages.{values, varintOf, index, flag, bytesOf, message, bodiesOf, cutAll, messages}
 use Rattle.names.specs.Names.{Names, recordAt, string, withoutLast, qualifiedName}
-use Rattle.schema.specs.Declarations.{Types, noTypes, andType, Ty, Signature, Parameter, Declarations}
+use Rattle.schema.specs.Declarations.{noTypes, andType, Ty, Signature, Parameter, Declarations}
 use Rattle.schema.specs.Reading.{kept, nameIn, classNameIn, allowance}
 use Rattle.schema.specs.Types.{resolveAt, typeIn, argumentIn, parseAt, typeAt, declaredType, typeTableIn}
 use Rattle.schema.specs.Members.{

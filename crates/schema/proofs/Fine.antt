@@ -6,11 +6,12 @@ use mathlib.Core.Option.{Option, none, some}
 use Prim.Native.Nat.{ℕ, zero, suc, _+_, _^_, _≤_, _<_}
 use native.Mathlib.Nat.{lt-of-le-of-lt}
 use native.Mathlib.Omega.{arith}
-use lib.Dec.{T, ltb}
+use lib.Dec.{ltb}
 use lib.ListN.{length, getElem?}
 use Rattle.foundation.specs.Choices.{ifSome, mapOption, orElse, bothOf, All, IfSome}
 use Rattle.foundation.specs.Results.{Res, ok, refused}
 use Rattle.foundation.specs.Texts.{Text, ascii}
+use Rattle.foundation.proofs.EveryLaws.{all-at}
 use Rattle.foundation.proofs.ChoiceLaws.{if-ind}
 use Rattle.foundation.proofs.ResultLaws.{Gives, gives-bind, gives-weaken}
 use Rattle.wire.specs.Wire.{Message}
@@ -191,11 +192,6 @@ module _ {n : ℕ} {s : Scope} (f : ScopeFine n s) (k : ℕ) (m : Message) where
   reads-classNameIn = reads-any (index k m) (reads-pure tt) λ i. reads-lift (qualifiedName (s .names) i) (f .names .qualifiedNames i)
 
 -- types, for a walk that gives fine ones
-all-getElem? : {A : Type 0} (P : A → Type 0) (xs : List A) (i : ℕ) → All P xs → IfSome P (getElem? xs i)
-all-getElem? P [] i p = tt
-all-getElem? P (x ∷ xs) zero p = p .0
-all-getElem? P (x ∷ xs) (suc i) p = all-getElem? P xs i (p .1)
-
 countOf-typesOf : (ts : List Ty) → countOf (typesOf ts) ≡ length ts
 countOf-typesOf [] = refl
 countOf-typesOf (t ∷ ts) = ap suc (countOf-typesOf ts)
@@ -210,7 +206,7 @@ module _ {n : ℕ} (few : n < 2 ^ 16) {s : Scope} (f : ScopeFine n s) where
     unfolding resolveAt
     reads-resolveAt d i =
         if-ind (Reads (IfSome FineTy)) (ltb d maxDepth) (λ t.
-        reads-ifSome (getElem? (s .table .types) i) (all-getElem? (Bounded n) (s .table .types) i (f .table)) (reads-pure tt) λ m b.
+        reads-ifSome (getElem? (s .table .types) i) (all-at (Bounded n) (s .table .types) i (f .table)) (reads-pure tt) λ m b.
         reads-bind (h (d + 1) m b) λ t p. reads-pure (record { name = p .name; count = p .count; arguments = p .arguments })) λ t.
         reads-pure tt
 

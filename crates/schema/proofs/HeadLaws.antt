@@ -3,7 +3,7 @@
 use mathlib.Core.Path.{_≡_, refl, ap, sym, _∙_, subst}
 use mathlib.Core.Bool.{Bool, true, false, not}
 use mathlib.Core.List.{List, [], _∷_}
-use mathlib.Core.Option.{Option, none, some}
+use mathlib.Core.Option.{Option, none}
 use Prim.Native.Nat.{ℕ, _≤_, _<_}
 use native.Mathlib.Omega.{arith}
 use lib.Dec.{eqb}
@@ -11,7 +11,7 @@ use lib.ListN.{length}
 use Rattle.foundation.specs.Choices.{ifSome}
 use Rattle.foundation.specs.Results.{ok, Part, _from_}
 use Rattle.wire.specs.Wire.{Value, field, readField, Message, cut}
-use Rattle.wire.specs.Messages.{values, value, firstOf, asVarint, asBody, as32, varintOf, index, flag, bodiesOf, cutAll, messages}
+use Rattle.wire.specs.Messages.{values, firstOf, asVarint, as32, varintOf, index, flag, bodiesOf, cutAll, messages}
 use Rattle.wire.specs.Told.{restOf, valueOf, FieldTold}
 use Rattle.wire.specs.Asked.{numberOf, numberTold, pieceOf, pieceTold, indexTold, bodies}
 use Rattle.wire.specs.declared.WireError.{WireError}
@@ -26,7 +26,6 @@ use Rattle.wire.proofs.FindLaws.{as-number, as-piece}
 use Rattle.schema.specs.Fields.{Type·argument, Type·nullable, Type·class-name}
 use Rattle.schema.specs.HeadTold.{NameKnown, FlagKnown, ArgumentsKnown, Known, HeadTold}
 use Rattle.schema.specs.declared.head.Seen.{Seen}
-use Rattle.schema.specs.declared.head.TypeHead.{TypeHead}
 
 -- What a message says of field k, if its first field has another number, and of a field that is its first.
 module _ (k : ℕ) {n : ℕ} (v : Value) (m : Message) (h : n ≡ k → ⊥) where

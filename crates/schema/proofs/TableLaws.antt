@@ -209,12 +209,6 @@ table-place payload at n t g =
     (i .0, omega (arith, length-take (length payload - at) (drop at payload)))
 
 module _ (payload : List ℕ) (at n : ℕ) (starts ends : List ℕ) where
-  pub index-past : length payload < at → (m : Message) → TypeIndexTold payload at n m starts ends types.NoRoom
-  index-past h m room = omega (arith, room .inside)
-
-  pub index-long : 4294967295 < length payload → (m : Message) → TypeIndexTold payload at n m starts ends types.NoRoom
-  index-long h m room = omega (arith, room .short)
-
   module _ (m : Message) (w : cut (_from_ at (drop at payload)) ≡ ok m) {x : Embedded}
       (t : EmbeddedTold at (take (length payload - at) (drop at payload)) n x) where
     body-is : cut (_from_ at (take (length payload - at) (drop at payload))) ≡ ok m

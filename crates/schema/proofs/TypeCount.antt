@@ -59,7 +59,6 @@ use Rattle.schema.specs.Counting.{
   declarationsSize,
   countKind,
 }
-use Rattle.schema.proofs.Falls.{Falls}
 
 -- Of what a reading gives, n types were entered before it, and all others by it.
 pub record Enters {A : Type 0} (n : ℕ) (size : A → ℕ) (m : Read A) : Type 0 where
@@ -268,10 +267,6 @@ enters-packageBody names m = enters-after (quiet-typeTableIn _ m) λ table. ente
 module _ {A : Type 0} {size : A → ℕ} {m : Read A} (h : Enters 0 size m) where
   pub entered : (l : ℕ) → Gives (λ r. size (r .0) + r .1 ≡ l) (m l)
   entered l = gives-weaken _ _ (m l) (h .at l) λ r p. omega arith
-
-  -- such a reading leaves no more types than it finds
-  pub enters-falls : Falls m
-  enters-falls = record { at = λ l. gives-weaken _ _ (m l) (h .at l) λ r p. omega arith }
 
 -- The types that a class or package enters are those in its declarations.
 module _ (names : Names) (m : Message) (l : ℕ) where

@@ -13,7 +13,7 @@ use Rattle.foundation.specs.Choices.{if_then_else_, ifSome}
 use Rattle.foundation.specs.Results as Results
 use Rattle.foundation.specs.Results.{Res, ok, _from_}
 use Rattle.wire.specs.Wire.{Message, cut}
-use Rattle.wire.specs.Messages.{index, message, as32}
+use Rattle.wire.specs.Messages.{index, as32}
 use Rattle.wire.specs.Asked.{EmbeddedIs, EmbeddedInside, EmbeddedTold, indexTold}
 use Rattle.wire.specs.declared.WireError.{WireError}
 use Rattle.wire.specs.declared.message.Piece.{Piece}
@@ -24,8 +24,8 @@ use Rattle.wire.specs.declared.message.Embedded.{Embedded}
 use Rattle.wire.specs.declared.message.Embedded.the-variants as embedded
 use Rattle.sheet.specs.Rows.{Row}
 use Rattle.sheet.specs.declared.State.{State}
-use Rattle.schema.specs.Declarations.{Types, Ty}
-use Rattle.schema.specs.Reading.{Read, pure, _>>=_, kept, Scope, allowance}
+use Rattle.schema.specs.Declarations.{Ty}
+use Rattle.schema.specs.Reading.{Read, pure, _>>=_, Scope, allowance}
 use Rattle.schema.specs.Types.{maxDepth, resolveAt, typeIn, typeAt, declaredType}
 use Rattle.schema.specs.Told.{Lent, Scoped, Ready, Spends, WalkedSpends, PickedSpends, WalkedTold, PickedTold}
 use Rattle.schema.specs.TypesTold.{orNullable, rowsIn, pickedOf, EntryIs, EntryTold, ParseTold, ResolveTold, TypeInTold, DeclaredTold}

@@ -9,7 +9,7 @@ use native.Mathlib.Nat.{add-zero}
 use native.Mathlib.Omega.{arith}
 use lib.ListN.{length, set, length-append}
 use lib.Seq.{sets}
-use Rattle.foundation.specs.Choices.{isSome, mapOption, ifSome, orElse, bothOf, All}
+use Rattle.foundation.specs.Choices.{isSome, ifSome, orElse, bothOf, All}
 use Rattle.foundation.specs.Digits.{little}
 use Rattle.foundation.specs.Texts.{Text, ascii}
 use Rattle.foundation.proofs.OverlayLaws.{sets-then}
@@ -19,14 +19,13 @@ use Rattle.names.specs.Stream.{PutText, nameBytes}
 use Rattle.names.specs.declared.name.Name.{Name}
 use Rattle.names.proofs.PresentLaws.{name-most}
 use Rattle.sheet.specs.Rows.{Cell, num, ref, row, presentBytes, absentBytes, cellBytes, cellText, bodyBytes, bodyText, texts, sheetFrom}
-use Rattle.sheet.specs.Put.{Put, PutCells, PutHead, PutRows}
+use Rattle.sheet.specs.Put.{PutCells, PutHead, PutRows}
 use Rattle.sheet.specs.declared.State.{State}
 use Rattle.sheet.proofs.RowLaws.{cellLength, cell-length}
 use Rattle.sheet.proofs.PutLaws.{put-sheet, put-text, put-types, put-same, put-left, cell-put, cells-then, head-then, row-done}
-use Rattle.schema.specs.Declarations.{Signature}
 use Rattle.schema.specs.Members.{signed}
 use Rattle.schema.specs.Rows.{named, signatureCells}
-use Rattle.schema.specs.Written.{Room, cellLimit, signatureBy, initBy, headCells, headCounts, constructorCells, functionCells, propertyCells, parameterCells}
+use Rattle.schema.specs.Written.{Room, cellLimit, signatureBy, initBy, headCells, headCounts, constructorCells, functionCells, propertyCells}
 use Rattle.schema.specs.declared.rows.SignatureNames.{SignatureNames}
 
 -- A name's text is what is written of it.
@@ -308,6 +307,3 @@ module _ {payload d2 : List ℕ} where
           name-small r name,
           (omega arith, (omega arith, (omega arith, (omega arith, (p .0, (p .1 .0, (q .0, (q .1 .0, signature-small r h)))))))),
         )
-
-    pub parameter-small : (name : Name) (default : Bool) → All Small (parameterCells (nameText payload d2 name) default)
-    parameter-small name default = (name-small r name, (omega arith, tt))

@@ -1,11 +1,11 @@
 -- Parameters, constructors, functions, properties, and the bodies of classes and packages, each read in document 01's order.
 -- Assumes nothing.
-use mathlib.Core.Bool.{Bool, true, false, not, _||_}
-use mathlib.Core.List.{List, [], _∷_}
+use mathlib.Core.Bool.{Bool, not, _||_}
+use mathlib.Core.List.{List, []}
 use mathlib.Core.Option.{Option, none, some}
 use Prim.Native.Nat.{ℕ, _/_, _%_, _^_}
 use lib.Dec.{eqb}
-use Rattle.foundation.specs.Choices.{if_then_else_, ifSome, isSome, mapOption, orElse, bothOf}
+use Rattle.foundation.specs.Choices.{ifSome, isSome, mapOption, orElse, bothOf}
 use Rattle.foundation.specs.Results.{Res, ok, refused}
 use Rattle.foundation.specs.Texts.{Text, ascii}
 use Rattle.wire.specs.Wire.{Message}

@@ -5,18 +5,14 @@ use mathlib.Core.List.{List, map}
 use mathlib.Core.Option.{Option}
 use Prim.Native.Nat.{ℕ, _+_, _*_, _^_, _≤_}
 use lib.ListN.{length}
-use Rattle.foundation.specs.Choices.{concat, orElse, bothOf}
+use Rattle.foundation.specs.Choices.{concat}
 use Rattle.foundation.specs.Results.{Res, ok, _from_}
-use Rattle.foundation.specs.Texts.{Text}
 use Rattle.wire.specs.Wire.{Message, cut}
-use Rattle.wire.specs.Told as wire
-use Rattle.names.specs.Name.{nameText}
 use Rattle.sheet.specs.Rows.{Row}
 use Rattle.sheet.specs.Put.{PutRows}
 use Rattle.sheet.specs.declared.State.{State}
-use Rattle.schema.specs.Declarations.{Signature}
 use Rattle.schema.specs.Reading.{Read, Scope, allowance}
-use Rattle.schema.specs.Members.{listIn, signed}
+use Rattle.schema.specs.Members.{listIn}
 use Rattle.schema.specs.Told.{Lent, Scoped, typeLength, nameLimit, refusal, PickedTold}
 use Rattle.schema.specs.declared.Listed.{Listed}
 use Rattle.schema.specs.declared.Listed.the-variants as listed

@@ -14,6 +14,7 @@ ghost use Rattle.schema.specs.HeadTold.{Known, HeadTold};
 use wire::FieldStep;
 use wire::WireValue;
 use wire::field_at;
+use wire::message::Found;
 use wire::message::Indexed;
 use wire::message::Number;
 use wire::message::Piece;
@@ -34,18 +35,11 @@ struct Seen {
     arguments: bool,
 }
 
-// A number above 2^32 - 1 is no index.
 fn index_of(value: WireValue) -> Indexed
     ensures { λ r. ⌜ ((k : ℕ) (m : Message) → varintOf k m ≡ numberTold (numberOf value) → index k m ≡ indexTold r) ⌝ }
 {
-    let found = value.varint();
-    let Number::Value { value: n } = found else {
-        return Indexed::Nothing;
-    };
-    if 4294967295 < n {
-        return Indexed::Nothing;
-    }
-    Indexed::At { index: n as u32 }
+    let found = Found::Value { value };
+    found.index()
 }
 
 fn is_set(value: WireValue) -> bool

@@ -11,7 +11,7 @@ use sheet::put_bit;
 use sheet::put_number;
 use sheet::put_ref;
 ghost use mathlib.Core.Path.{_≡_};
-ghost use mathlib.Core.List.{List, [], _∷_, _++_};
+ghost use mathlib.Core.List.{List, [], _∷_};
 ghost use mathlib.Core.Option.{none, some};
 ghost use Prim.Native.Nat.{ℕ, _+_, _^_, _≤_};
 ghost use lib.ListN.{length};

@@ -1,7 +1,7 @@
 // The type table of a class or package: its entries cut, and noted where they stand among the decoded bytes. The definition:
 // specs/Types.antt, `typeTableIn`; what the answers tell: specs/TableTold.antt.
 ghost use mathlib.Core.Path.{_≡_};
-ghost use Prim.Native.Nat.{ℕ, _^_, _≤_, _<_};
+ghost use Prim.Native.Nat.{_^_, _≤_, _<_};
 ghost use lib.ListN.{length, set, drop};
 ghost use Rattle.foundation.specs.Results.{ok, _from_};
 ghost use Rattle.wire.specs.Wire.{cut, Message};

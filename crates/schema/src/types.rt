@@ -1,20 +1,12 @@
-// Small readers of types: a type's nullable bit, an entry of the type table. Types are walked and written above, in `type_references`. The
-// definitions: specs/Types.antt; what the readers tell: specs/TypesTold.antt.
+// Small readers of types: an entry of the type table. Types are walked and written above, in `type_references`. What they tell:
+// specs/TypesTold.antt.
 ghost use mathlib.Core.Path.{_≡_};
 ghost use mathlib.Core.Bool.{_||_};
 ghost use Prim.Native.Nat.{_-_};
-ghost use Rattle.foundation.specs.Results.{ok, _from_};
-ghost use Rattle.wire.specs.Wire.{cut, Message};
-ghost use Rattle.wire.specs.Messages.{flag};
-ghost use Rattle.schema.specs.Fields.{Type·nullable};
 ghost use Rattle.schema.specs.TypesTold.{pickedOf, EntryTold};
 use crate::Picked;
 use crate::Walked;
 use wire::message::Piece;
-use wire::message::flag;
-
-// Field number of metadata.proto's Type.
-const NULLABLE: u32 = 3;
 
 pub fn less(n: usize) -> usize
     ensures { λ r. ⌜ r ≡ n - 1 ⌝ }
@@ -23,6 +15,15 @@ pub fn less(n: usize) -> usize
         return 0;
     }
     n - 1
+}
+
+pub fn either(a: bool, b: bool) -> bool
+    ensures { λ r. ⌜ r ≡ (a || b) ⌝ }
+{
+    if a {
+        return true;
+    }
+    b
 }
 
 fn wide(n: u32) -> usize
@@ -38,16 +39,6 @@ pub fn picked(walked: Walked) -> Picked
         Walked::Done { state } => Picked::Kept { state },
         Walked::Refused { stop } => Picked::Refused { stop },
     }
-}
-
-// A type is nullable by its own flag, or if it is said to be.
-pub fn is_nullable(msg: &[u8], base: u32, said: bool) -> bool
-    ensures { λ r. ⌜ ((m : Message) → cut (_from_ base (now (msg .entry))) ≡ ok m → (said || flag Type·nullable m) ≡ r) ⌝ }
-{
-    if said {
-        return true;
-    }
-    flag(&*msg, base, NULLABLE)
 }
 
 // Where an entry of the type table stands, if there is one at the index.

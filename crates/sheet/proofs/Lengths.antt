@@ -1,8 +1,8 @@
 -- The lengths of document 01's records, kind byte included.
 -- Assumes nothing.
 use mathlib.Core.Path.{_≡_, refl}
-use mathlib.Core.List.{List, [], _∷_, map}
-use Prim.Native.Nat.{ℕ, suc}
+use mathlib.Core.List.{[], _∷_, map}
+use Prim.Native.Nat.{suc}
 use Rattle.sheet.specs.Rows.{recordTable}
 use Rattle.sheet.specs.Refs.{bodyWidth}
 

@@ -1,6 +1,6 @@
 -- The bytes of rows read back as the rows, by the record table.
 -- Assumes nothing.
-use mathlib.Core.Path.{_≡_, refl, sym, ap, _∙_}
+use mathlib.Core.Path.{_≡_, refl, ap, _∙_}
 use mathlib.Core.Bool.{Bool, true, false}
 use mathlib.Core.List.{List, [], _∷_, _++_, append-assoc, append-nil}
 use mathlib.Core.Option.{Option, none, some}
@@ -11,12 +11,11 @@ use borrow.Author.Tests.{le-ltb, ne-eqb}
 use lib.Dec.{eqb}
 use lib.ListN.{length, take, drop, length-append}
 use lib.Seq.{take-at, drop-at, take-append-seam, drop-append-seam, drop-drop}
-use Rattle.foundation.specs.Choices.{if_then_else_, ifSome, mapOption, All}
+use Rattle.foundation.specs.Choices.{ifSome, mapOption, All}
 use Rattle.foundation.specs.Digits.{number, little}
 use Rattle.foundation.proofs.DigitLaws.{length-digits, number-digits-fits}
-use Rattle.sheet.specs.Rows.{Cell, num, ref, Row, row, bit, Form, wide, text, formsOf}
-use Rattle.sheet.specs.Rows.{refBytes, cellBytes, cellText, bodyText, bodyBytes, texts, sheetFrom}
-use Rattle.sheet.specs.Reading.{taken, Ref, refAt, refOf, cutBy, cutOut, formWidth, cellOf, takeCells, takeRow, takeRows, rowsOf}
+use Rattle.sheet.specs.Rows.{Cell, num, ref, Row, row, bit, Form, wide, text, formsOf, refBytes, cellBytes, cellText, bodyText, bodyBytes, texts, sheetFrom}
+use Rattle.sheet.specs.Reading.{taken, refAt, refOf, formWidth, cellOf, takeCells, takeRow, takeRows, rowsOf}
 use Rattle.sheet.proofs.RowLaws.{cellLength, cell-length}
 
 -- A cell of a form: a number of its width that fits, or a ref to any text.

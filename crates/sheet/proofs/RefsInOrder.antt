@@ -9,8 +9,7 @@ use native.Mathlib.Omega.{arith}
 use lib.ListN.{length, drop, length-append}
 use lib.Seq.{drop-at, take-append-seam}
 use Rattle.foundation.specs.Choices.{ifSome, All, IfSome}
-use Rattle.sheet.specs.Rows.{Cell, num, ref, Row, Form, wide, text, formsOf}
-use Rattle.sheet.specs.Rows.{cellBytes, cellText, bodyText, bodyBytes, texts, sheetFrom}
+use Rattle.sheet.specs.Rows.{Cell, num, ref, Row, Form, wide, text, formsOf, cellBytes, cellText, bodyText, bodyBytes, texts, sheetFrom}
 use Rattle.sheet.specs.Reading.{Ref, formWidth}
 use Rattle.sheet.specs.Refs.{formRefs, bodyRefs, bodyWidth, refsAfter, refsOf, CutInOrder}
 use Rattle.sheet.proofs.RowLaws.{bodyLength, cell-length, body-length}

@@ -34,9 +34,6 @@ unfolding texts
 texts-append [] qs = refl
 texts-append (r ∷ rs) qs = rw (texts-append rs qs) (sym (append-assoc (bodyText (r .body)) (texts rs) (texts qs)))
 
-pub texts-length-append : (rs qs : List Row) → length (texts (rs ++ qs)) ≡ length (texts rs) + length (texts qs)
-texts-length-append rs qs = rw (texts-append rs qs) (length-append (texts rs) (texts qs))
-
 pub texts-concat-map : {A : Type 0} (f : A → List Row) (xs : List A) → texts (concat (map f xs)) ≡ concat (map (λ x. texts (f x)) xs)
 unfolding texts
 texts-concat-map f [] = refl
@@ -102,7 +99,3 @@ pub rows-length-append : (rs qs : List Row) → rowsLength (rs ++ qs) ≡ rowsLe
 unfolding rowsLength
 rows-length-append [] qs = omega arith
 rows-length-append (r ∷ rs) qs = omega (arith, rows-length-append rs qs)
-
-pub sheet-length-append : (o p q : ℕ) (rs qs : List Row)
-    → length (sheetFrom o (rs ++ qs)) ≡ length (sheetFrom p rs) + length (sheetFrom q qs)
-sheet-length-append o p q rs qs = simp sheet-length (rows-length-append rs qs)

@@ -3,11 +3,9 @@
 use mathlib.Core.Path.{_≡_}
 use mathlib.Core.List.{List, [], _∷_, _++_}
 use mathlib.Core.Option.{Option, none, some}
-use Prim.Native.Nat.{ℕ, zero, suc, _+_, _-_, _^_}
-use lib.Dec.{eqb}
-use lib.ListN.{take, drop}
-use Rattle.foundation.specs.Choices.{if_then_else_, ifSome}
-use Rattle.foundation.specs.Digits.{number}
+use Prim.Native.Nat.{ℕ, zero, suc, _+_}
+use lib.ListN.{drop}
+use Rattle.foundation.specs.Choices.{ifSome}
 use Rattle.sheet.specs.Rows.{Form, wide, text, formsOf}
 use Rattle.sheet.specs.Reading.{Ref, refOf, cutBy, formWidth}
 

@@ -13,13 +13,10 @@ use Rattle.foundation.specs.Choices.{isSome}
 use Rattle.foundation.specs.Results as Results
 use Rattle.foundation.specs.Results.{Res, ok, refused, Part, _from_}
 use Rattle.wire.specs.Wire.{Message, cut}
-use Rattle.wire.specs.Messages.{as32, asVarint, asBody, varintOf, index, bytesOf, cutOption, message, messages}
+use Rattle.wire.specs.Messages.{as32, index, bytesOf, cutOption, message, messages}
 use Rattle.wire.specs.Told.{bodyOf}
-use Rattle.wire.specs.Asked.{FoundTold, BytesTold, EmbeddedIs, EmbeddedInside, EmbeddedTold, pieceTold, indexTold, NextTold, PieceInside, PieceAfter}
+use Rattle.wire.specs.Asked.{BytesTold, EmbeddedIs, EmbeddedInside, EmbeddedTold, pieceTold, indexTold, NextTold, PieceInside, PieceAfter}
 use Rattle.wire.specs.declared.WireError.{WireError}
-use Rattle.wire.specs.declared.message.Found.{Found}
-use Rattle.wire.specs.declared.message.Found.the-variants as found
-use Rattle.wire.specs.declared.message.Number.the-variants as number
 use Rattle.wire.specs.declared.message.Piece.{Piece}
 use Rattle.wire.specs.declared.message.Piece.the-variants as piece
 use Rattle.wire.specs.declared.message.Indexed.{Indexed}
@@ -27,7 +24,6 @@ use Rattle.wire.specs.declared.message.Indexed.the-variants as indexed
 use Rattle.wire.specs.declared.message.Embedded.{Embedded}
 use Rattle.wire.specs.declared.message.Embedded.the-variants as embedded
 use Rattle.wire.proofs.WalkLaws.{whole}
-use Rattle.wire.proofs.FindLaws.{asked-nothing, bytes-found, index-nothing}
 use Rattle.characters.specs.Characters.{partFrom}
 use Rattle.characters.proofs.PartLaws.{part-part, part-short}
 use Rattle.schema.specs.Fields.{Type·argument, Type·Argument·type, Type·Argument·type-id}
@@ -39,24 +35,10 @@ use Rattle.schema.specs.FoundTold.{TableOf}
 use Rattle.schema.specs.declared.Tables.{Tables}
 use Rattle.schema.proofs.TypeLaws.{resolve-nothing, resolve-deep, resolve-entry}
 use Rattle.schema.proofs.FoundLaws.{never-given, bind-given, first-same, Passed, next-is, passed-all, next, next-given}
-use Rattle.type_references.specs.ParseTold.{pieceFound, TypeIs, ArgumentInside, TypeFieldTold, ArgumentTold, KeptTold, CountTold}
+use Rattle.type_references.specs.ParseTold.{TypeIs, ArgumentInside, TypeFieldTold, ArgumentTold, KeptTold, CountTold}
 use Rattle.type_references.specs.declared.arguments.Argument.{Argument}
 use Rattle.type_references.specs.declared.arguments.Argument.the-variants as argument
 use Rattle.type_references.proofs.PendingLaws.{argument-nowhere, argument-indexed}
-
--- What was found, as bytes and as an index.
-pub bytes-in : (base n : ℕ) (s : List ℕ) (r : Found) → FoundTold base s n r → {x : Piece} → x ≡ pieceFound r → BytesTold base s n x
-unfolding bytesOf
-bytes-in base n s (found.Value v) t e = bytes-found n base s t refl e
-bytes-in base n s found.Nothing t e = record {
-  is = λ m w. asked-nothing asBody n base s t refl m w ∙ ap (pieceTold base s) (sym e);
-  inside = subst (PieceInside s) (sym e) tt;
-}
-
-pub index-in-none : (base n : ℕ) (s : List ℕ) {r : Found} → FoundTold base s n r → r ≡ found.Nothing → (m : Message) → cut (_from_ base s) ≡ ok m
-    → index n m ≡ none
-unfolding varintOf
-index-in-none base n s t g m w = index-nothing n m {r = number.Nothing} (asked-nothing asVarint n base s t g m w) refl
 
 -- The type in a message, from its two fields, and back.
 module _ {base : ℕ} {msg : List ℕ} {f g : ℕ} where

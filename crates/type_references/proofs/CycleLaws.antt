@@ -7,16 +7,14 @@ use Prim.Native.Nat.{ℕ, _+_, _-_, _*_, _≤_, _<_}
 use native.Mathlib.Omega.{arith}
 use lib.ListN.{length, take, drop}
 use lib.Seq.{take-length}
-use Rattle.foundation.specs.Results.{ok, _from_}
-use Rattle.wire.specs.Wire.{Message, cut}
 use Rattle.wire.specs.Asked.{NextTold}
 use Rattle.wire.specs.declared.message.Piece.{Piece}
 use Rattle.wire.specs.declared.message.Piece.the-variants as piece
 use Rattle.sheet.specs.declared.State.{State}
 use Rattle.schema.specs.Fields.{Type·argument}
-use Rattle.schema.specs.Reading.{Scope, kept, allowance}
-use Rattle.schema.specs.Types.{maxDepth, argumentIn, typeAt}
-use Rattle.schema.specs.Told.{Lent, Scoped, Ready, Spends, WalkedSpends}
+use Rattle.schema.specs.Reading.{kept, allowance}
+use Rattle.schema.specs.Types.{argumentIn, typeAt}
+use Rattle.schema.specs.Told.{Lent, Ready, Spends, WalkedSpends}
 use Rattle.schema.specs.TypesTold.{orNullable, rowsIn, ParseTold}
 use Rattle.schema.specs.declared.Tables.{Tables}
 use Rattle.schema.specs.declared.Stop.{Stop}

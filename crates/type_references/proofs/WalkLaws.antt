@@ -246,9 +246,6 @@ module _ {e : Lent} {msg : List ℕ} {base left top : ℕ} {s₀ : State} {S₀ 
     few-wait : height + (end - at) ≤ top + length msg
     few-wait = omega (arith, g .fewer, g .above, weight-more nest top height (g .above), weight-same nest₀ nest top (g .frame))
 
-    pub loop-deep : {n : ℕ} → left ≤ n → deep ≤ n
-    loop-deep h = omega (arith, g .shallow)
-
     -- what waits is as it was where a walk that starts at `height` is over
     pub frame-kept : (nest′ : List ℕ) → take height nest′ ≡ take height nest → take top nest′ ≡ take top nest₀
     frame-kept nest′ f = take-less nest nest′ top height (g .above) f ∙ g .frame

@@ -2,7 +2,7 @@
 -- Assumes nothing.
 use mathlib.Core.Path.{_≡_}
 use mathlib.Core.Bool.{Bool}
-use mathlib.Core.List.{List, [], _∷_}
+use mathlib.Core.List.{List}
 use mathlib.Core.Option.{Option, none, some}
 use Prim.Native.Nat.{ℕ, _+_, _-_, _≤_, _<_}
 use lib.ListN.{length}
@@ -11,12 +11,6 @@ use Rattle.foundation.specs.Results.{Res, ok, _from_}
 use Rattle.wire.specs.Wire.{Message, cut}
 use Rattle.wire.specs.Messages.{message, messages, index}
 use Rattle.wire.specs.Told as wire
-use Rattle.wire.specs.Asked.{FoundTold, pieceOf, indexTold}
-use Rattle.wire.specs.declared.message.Found.{Found}
-use Rattle.wire.specs.declared.message.Found.the-variants as found
-use Rattle.wire.specs.declared.message.Indexed.{Indexed}
-use Rattle.wire.specs.declared.message.Piece.{Piece}
-use Rattle.wire.specs.declared.message.Piece.the-variants as piece
 use Rattle.characters.specs.Characters.{partFrom}
 use Rattle.sheet.specs.Rows.{Row}
 use Rattle.sheet.specs.Put.{PutRows}
@@ -36,15 +30,6 @@ use Rattle.type_references.specs.declared.arguments.Argument.{Argument}
 use Rattle.type_references.specs.declared.arguments.Argument.the-variants as argument
 use Rattle.type_references.specs.declared.enter.Counted.{Counted}
 use Rattle.type_references.specs.declared.enter.Counted.the-variants as counted
-
--- the bytes of what was found
-abbrev pub pieceFound : Found → Piece
-pieceFound (found.Value v) = pieceOf v
-pieceFound found.Nothing = piece.Nothing
-
--- the index in it, whatever message it was found in
-abbrev pub IndexFound : Found → Indexed → Type 0
-IndexFound x r = (base n : ℕ) (s : List ℕ) → FoundTold base s n x → (m : Message) → cut (_from_ base s) ≡ ok m → index n m ≡ indexTold r
 
 -- A type in a message: inline in field f, from x to y of the bytes, else by its index in field g.
 abbrev pub TypeIs : ℕ → List ℕ → (f g : ℕ) → Message → Argument → Type 0

@@ -1,15 +1,12 @@
 // The arguments of a type: where the type of each stands, and how many are kept. What is told: specs/ParseTold.antt.
-ghost use mathlib.Core.Path.{_≡_};
 ghost use Prim.Native.Nat.{_+_, _≤_};
 ghost use lib.ListN.{length};
-ghost use Rattle.type_references.specs.ParseTold.{pieceFound, IndexFound, TypeFieldTold, ArgumentTold, KeptTold, CountTold};
+ghost use Rattle.type_references.specs.ParseTold.{TypeFieldTold, ArgumentTold, KeptTold, CountTold};
 use schema::Tables;
 use schema::types::entry_at;
 use wire::WireError;
 use wire::message::Checked;
-use wire::message::Found;
 use wire::message::Indexed;
-use wire::message::Number;
 use wire::message::Piece;
 use wire::message::bytes;
 use wire::message::check_from;
@@ -32,42 +29,16 @@ pub enum Argument {
     Refused { error: WireError },
 }
 
-fn bytes_in(found: Found) -> Piece
-    ensures { λ r. ⌜ r ≡ pieceFound found ⌝ }
-{
-    let Found::Value { value } = found else {
-        return Piece::Nothing;
-    };
-    value.bytes()
-}
-
-// A number above 2^32 - 1 is no index.
-fn index_in(found: Found) -> Indexed
-    ensures { λ r. ⌜ IndexFound found r ⌝ }
-{
-    let Found::Value { value } = found else {
-        return Indexed::Nothing;
-    };
-    let number = value.varint();
-    let Number::Value { value: n } = number else {
-        return Indexed::Nothing;
-    };
-    if 4294967295 < n {
-        return Indexed::Nothing;
-    }
-    Indexed::At { index: n as u32 }
-}
-
 // The type in a message: inline in one field, else by its index in another.
 pub fn type_field(msg: &[u8], base: u32, inline: u32, indexed: u32) -> Argument
     ensures { λ r. ⌜ TypeFieldTold base (now (msg .entry)) inline indexed r ⌝ }
 {
     let found = find_two(&*msg, base, inline, indexed);
     let first = found.first;
-    let piece = bytes_in(first);
+    let piece = first.bytes();
     let Piece::Body { start, end } = piece else {
         let second = found.second;
-        let at = index_in(second);
+        let at = second.index();
         let Indexed::At { index } = at else {
             return Argument::Nothing;
         };

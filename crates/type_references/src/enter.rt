@@ -1,6 +1,6 @@
 // A type is entered: its row, with how many of its arguments are kept. What is told: specs/ParseTold.antt.
 ghost use mathlib.Core.Path.{_≡_};
-ghost use mathlib.Core.Bool.{false, _||_};
+ghost use mathlib.Core.Bool.{false};
 ghost use mathlib.Core.List.{[], _∷_};
 ghost use Prim.Native.Nat.{_+_, _-_, _≤_};
 ghost use lib.ListN.{length};
@@ -23,6 +23,7 @@ use schema::Walked;
 use schema::head::type_head;
 use schema::name::class_name_at;
 use schema::rows::put_named;
+use schema::types::either;
 use schema::types::less;
 use sheet::State;
 use sheet::put;
@@ -70,15 +71,6 @@ fn put_type(
 pub enum Counted {
     Count { count: usize },
     Refused { error: WireError },
-}
-
-fn either(a: bool, b: bool) -> bool
-    ensures { λ r. ⌜ r ≡ (a || b) ⌝ }
-{
-    if a {
-        return true;
-    }
-    b
 }
 
 // The arguments of a type are cut and counted, if it has any. `left` is left at them.

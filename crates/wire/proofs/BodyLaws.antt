@@ -4,16 +4,15 @@ use mathlib.Core.Path.{_≡_, refl, ap, sym, _∙_, subst}
 use mathlib.Core.Bool.{Bool, true, false}
 use mathlib.Core.List.{List, [], _∷_}
 use mathlib.Core.Option.{Option, some}
-use Prim.Native.Nat.{ℕ, zero, suc, _+_, _-_, _%_, _/_, _≤_, _<_, _^_}
-use native.Mathlib.Nat.{sub-zero}
+use Prim.Native.Nat.{ℕ, _+_, _-_, _%_, _/_, _≤_, _<_, _^_}
 use native.Mathlib.Omega.{arith}
 use borrow.Author.Tests.{eq-eqb, eqb-true, eqb-false, ltb-false}
 use lib.Dec.{eqb, ltb}
 use lib.ListN.{length, take, drop, length-drop}
-use lib.Seq.{length-take-le, take-nil}
+use lib.Seq.{length-take-le}
 use Rattle.foundation.specs.Choices.{if_then_else_}
-use Rattle.foundation.specs.Results.{Res, ok, refused, _>>=_, Part, _from_, Got}
-use Rattle.foundation.proofs.ChoiceLaws.{if-ind}
+use Rattle.foundation.specs.Results.{Res, ok, _>>=_, Part, _from_, Got}
+use Rattle.foundation.proofs.ChoiceLaws.{if-ind, drop-take}
 use Rattle.foundation.proofs.ResultLaws.{Gives, gives-ok, gives-bind, gives-map}
 use Rattle.wire.specs.Wire.{
   VARINT,
@@ -49,7 +48,6 @@ use Rattle.wire.specs.declared.message.Found.{Found}
 use Rattle.wire.specs.declared.message.Found.the-variants as found
 use Rattle.wire.specs.declared.message.Piece.{Piece}
 use Rattle.wire.specs.declared.message.Piece.the-variants as piece
-use Rattle.wire.specs.declared.message.Embedded.{Embedded}
 use Rattle.wire.specs.declared.message.Embedded.the-variants as embedded
 use Rattle.wire.proofs.Later.{Later, gives-any, field-later}
 use Rattle.wire.proofs.WalkLaws.{whole, field-is, field-inside, Leads, leads-next, leads-never, leads-end, values-found, values-passed}
@@ -216,15 +214,10 @@ module _ (k base : ℕ) (s : List ℕ) where
   next-here i found.Nothing t q z = let z : _≡_ {A = ℕ} 0 1 = cc in absurd (omega arith)
 
 -- a part of a slice from its start to an end, from a place on
-drop-take : (a e : ℕ) (l : List ℕ) → a ≤ e → drop a (take e l) ≡ take (e - a) (drop a l)
-drop-take zero e l h = rw sub-zero
-drop-take (suc a) zero l h = absurd (omega arith)
-drop-take (suc a) (suc e) [] h = sym (take-nil (suc e - suc a))
-drop-take (suc a) (suc e) (b ∷ l) h =
-    let q : suc e - suc a ≡ e - a = omega arith in drop-take a e l (omega arith) ∙ ap (λ (n : ℕ). take n (drop a l)) (sym q)
-
 pub part-is : (base : ℕ) (s : List ℕ) (a e : ℕ) → a ≤ e → restOf base (take e s) a ≡ bodyOf base s a e
-part-is base s a e h = ap (λ (bs : List ℕ). _from_ (base + a) bs) (drop-take a e s h)
+part-is base s a e h =
+    let q : a + (e - a) ≡ e = omega arith in
+    ap (λ (bs : List ℕ). _from_ (base + a) bs) (ap (λ (n : ℕ). drop a (take n s)) (sym q) ∙ drop-take a (e - a) s)
 
 pub checked-part : (base : ℕ) (s : List ℕ) (a e : ℕ) (c : Checked) → a ≤ e → CheckedTold (cut (restOf base (take e s) a)) c
     → CheckedTold (cut (bodyOf base s a e)) c

@@ -7,11 +7,11 @@ use Rattle.foundation.specs.Choices.{All, IfSome}
 use Rattle.foundation.specs.Results.{Part}
 use Rattle.foundation.proofs.ResultLaws.{Gives, gives-both, gives-weaken}
 use Rattle.wire.specs.Wire.{Value, varint, fixed, body, Message, readVarint, cut, packed}
-use Rattle.wire.specs.Messages.{asVarint, asBody, varintOf, bytesOf, message, messages, varintsIn, varints}
+use Rattle.wire.specs.Messages.{asVarint, asBody, varintOf, message, messages}
 use Rattle.wire.proofs.Readers.{ReadIn, within-shorter, varint-below}
 use Rattle.wire.proofs.Progress.{every-gives, cut-few}
 use Rattle.wire.proofs.Places.{cut-in}
-use Rattle.wire.proofs.MessageLaws.{Values, values-weaken, varintOf-all, bytesOf-all, message-all, messages-all, varints-all}
+use Rattle.wire.proofs.MessageLaws.{Values, values-weaken, varintOf-all, message-all, messages-all}
 
 pub packed-below : (p : Part) → Gives (All (λ v. v < 2 ^ 64)) (packed p)
 unfolding packed
@@ -26,17 +26,6 @@ Small n (body p) = length (p .bytes) ≤ n
 pub record Bounded (n : ℕ) (m : Message) : Type 0 where
   pub few : length m ≤ n
   pub small : Values (Small n) m
-
-small-weaken : {j k : ℕ} → j ≤ k → (v : Value) → Small j v → Small k v
-small-weaken h (varint v) s = s
-small-weaken h (fixed w v) s = s
-small-weaken h (body p) s = omega arith
-
-pub bounded-weaken : {j k : ℕ} {m : Message} → j ≤ k → Bounded j m → Bounded k m
-bounded-weaken {j} {k} {m} h b = record {
-  few = omega arith;
-  small = values-weaken (Small j) (Small k) (small-weaken h) m (b .small);
-}
 
 module _ (n : ℕ) (p : Part) (h : length (p .bytes) ≤ n) where
   read-small : (v : Value) → ReadIn p v → Small n v
@@ -59,11 +48,6 @@ small-body n (varint k) s = tt
 small-body n (fixed w k) s = tt
 small-body n (body p) s = s
 
-small-varints : (n : ℕ) (v : Value) → Small n v → Gives (All (λ k. k < 2 ^ 64)) (varintsIn v)
-small-varints n (varint k) s = (s, tt)
-small-varints n (fixed w k) s = tt
-small-varints n (body p) s = packed-below p
-
 -- what such a message says of a field is as small
 module _ {n : ℕ} (k : ℕ) (m : Message) (b : Bounded n m) where
   each : (P : Value → Type 0) → ((v : Value) → Small n v → P v) → Values P m
@@ -72,9 +56,6 @@ module _ {n : ℕ} (k : ℕ) (m : Message) (b : Bounded n m) where
   pub varintOf-below : IfSome (λ v. v < 2 ^ 64) (varintOf k m)
   varintOf-below = varintOf-all (λ v. v < 2 ^ 64) k m (each _ (small-varint n))
 
-  pub bytesOf-bounded : IfSome (λ p. length (p .bytes) ≤ n) (bytesOf k m)
-  bytesOf-bounded = bytesOf-all (λ p. length (p .bytes) ≤ n) k m (each _ (small-body n))
-
   pub message-bounded : Gives (IfSome (Bounded n)) (message k m)
   message-bounded = message-all (λ p. length (p .bytes) ≤ n) (Bounded n) (cut-bounded n) k m (each _ (small-body n))
 
@@ -82,6 +63,3 @@ module _ {n : ℕ} (k : ℕ) (m : Message) (b : Bounded n m) where
   messages-bounded =
       let all = messages-all (λ p. length (p .bytes) ≤ n) (Bounded n) (cut-bounded n) k m (each _ (small-body n)) in
       gives-weaken _ (λ ms. All (Bounded n) ms × (length ms ≤ n)) (messages k m) all λ ms a. (a .0, omega (arith, a .1, b .few))
-
-  pub varints-below : Gives (All (λ v. v < 2 ^ 64)) (varints k m)
-  varints-below = varints-all (λ v. v < 2 ^ 64) k m (each _ (small-varints n))

@@ -31,7 +31,7 @@ use Rattle.wire.specs.declared.Varint.the-variants as read
 use Rattle.wire.specs.declared.WireValue.{WireValue}
 use Rattle.wire.specs.declared.ValueStep.{ValueStep}
 use Rattle.wire.specs.declared.ValueStep.the-variants as valueStep
-use Rattle.wire.proofs.Readers.{After, after-from, varint-after, varint-below, bytes-there, bytes-past}
+use Rattle.wire.proofs.Readers.{After, after-from, varint-after, bytes-there, bytes-past}
 
 -- what is left begins later in the slice, and in it
 pub after-inside : {m : ℕ} (base : ℕ) (s : List ℕ) (at next : ℕ) → at ≤ length s → After m (restOf base s at) (restOf base s next)
@@ -95,9 +95,6 @@ module _ (base : ℕ) (s : List ℕ) (at : ℕ) where
       pub varint-inside : at ≤ length s → (at + 1 ≤ next) × (next ≤ length s)
       varint-inside h =
           after-inside base s at next h (gives-ok (λ a. After 1 (restOf base s at) (a .1)) (varint-is g) (varint-after (restOf base s at)))
-
-      pub varint-fits : n < 2 ^ 64
-      varint-fits = gives-ok (λ a. a .0 < 2 ^ 64) (varint-is g) (varint-below (restOf base s at))
 
       pub delimited-past : length s - next < n → readDelimited (restOf base s at) ≡ refused pastItsMessage (base + at)
       unfolding readDelimited

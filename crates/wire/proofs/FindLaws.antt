@@ -14,7 +14,7 @@ use Rattle.foundation.specs.Results.{ok, _from_}
 use Rattle.wire.specs.Wire.{Value, readField, Message, cut}
 use Rattle.wire.specs.Messages.{values, firstOf, value, asVarint, asBody, varintOf, as32, index, flag, bytesOf}
 use Rattle.wire.specs.Told.{restOf, valueOf, Inside, FieldTold}
-use Rattle.wire.specs.Asked.{foundTold, FoundInside, FoundTold, FoundFrom, FoundAt, numberOf, numberTold, pieceOf, pieceTold, PieceInside, BytesTold}
+use Rattle.wire.specs.Asked.{foundTold, FoundInside, FoundTold, FoundFrom, FoundAt, numberOf, numberTold, numberIn, pieceOf, pieceIn, pieceTold, PieceInside, BytesTold, indexIn}
 use Rattle.wire.specs.declared.WireError.{WireError}
 use Rattle.wire.specs.declared.WireValue.{WireValue}
 use Rattle.wire.specs.declared.WireValue.the-variants as wire
@@ -140,3 +140,30 @@ module _ (k : ℕ) (m : Message) {r : Number} (e : varintOf k m ≡ numberTold r
     pub flag-is : flag k m ≡ not (eqb v 0)
     unfolding flag
     flag-is = ap (λ (o : Option ℕ). ifSome o false λ v. not (eqb v 0)) (e ∙ ap numberTold g)
+
+-- what is made of what was found
+module _ (base : ℕ) (s : List ℕ) (k : ℕ) (m : Message) (w : cut (_from_ base s) ≡ ok m) where
+  pub number-is : (f : Found) → FoundTold base s k f → varintOf k m ≡ numberTold (numberIn f)
+  unfolding varintOf
+  number-is (found.Value v) t = ap (λ (o : Option Value). ifSome o none asVarint) (t .is m w) ∙ as-number base s v
+  number-is found.Nothing t = ap (λ (o : Option Value). ifSome o none asVarint) (t .is m w)
+
+  pub index-is : (f : Found) → FoundTold base s k f → index k m ≡ indexIn f
+  unfolding index
+  index-is f t = ap (λ (o : Option ℕ). ifSome o none as32) (number-is f t)
+
+pub piece-is : (base : ℕ) (s : List ℕ) (k : ℕ) (f : Found) → FoundTold base s k f → {x : Piece} → x ≡ pieceIn f → BytesTold base s k x
+unfolding bytesOf
+piece-is base s k (found.Value v) t e = bytes-found k base s t refl e
+piece-is base s k found.Nothing t e = record {
+  is = λ m w. asked-nothing asBody k base s t refl m w ∙ ap (pieceTold base s) (sym e);
+  inside = subst (PieceInside s) (sym e) tt;
+}
+
+-- a number that fits 32 bits, or none
+module _ (f : Found) {x : Number} (e : x ≡ numberIn f) {n : ℕ} (g : x ≡ number.Value n) where
+  pub fits-index : n ≤ 4294967295 → some n ≡ indexIn f
+  fits-index h = rw (← e, g, lt-ltb n (2 ^ 32) (omega arith))
+
+  pub large-index : 4294967295 < n → none ≡ indexIn f
+  large-index h = rw (← e, g, le-ltb n (2 ^ 32) (omega arith))

@@ -4,8 +4,6 @@ pub mod WalkLaws
 pub mod FindLaws
 pub mod BodyLaws
 pub mod RepeatedLaws
-pub mod NoteLaws
-pub mod SlotLaws
 pub mod Readers
 pub mod Progress
 pub mod MessageLaws

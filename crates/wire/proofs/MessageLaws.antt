@@ -1,13 +1,14 @@
 -- A fact about every field of a message is a fact about what the message says of a field.
 -- Assumes nothing.
 use mathlib.Core.Path.{_≡_, refl, ap, subst}
-use mathlib.Core.List.{List, [], _∷_}
+use mathlib.Core.Bool.{Bool, true, false}
+use mathlib.Core.List.{List, [], _∷_, _++_}
 use mathlib.Core.Option.{Option, none, some}
 use Prim.Native.Nat.{ℕ, suc, _≤_}
 use native.Mathlib.Omega.{arith}
 use lib.Dec.{eqb}
 use lib.ListN.{length}
-use Rattle.foundation.specs.Choices.{All, IfSome}
+use Rattle.foundation.specs.Choices.{All, IfSome, if_then_else_}
 use Rattle.foundation.specs.Results.{Part}
 use Rattle.foundation.proofs.ChoiceLaws.{if-ind, some-ind, some-bind, all-append, all-weaken}
 use Rattle.foundation.proofs.ResultLaws.{Gives, gives-bind, gives-weaken}
@@ -49,6 +50,15 @@ module _ (P : Value → Type 0) (k : ℕ) where
 
   pub value-all : (m : Message) → Values P m → IfSome P (value k m)
   value-all m h = first-all (values k m) (values-all m h)
+
+pub values-append : (k : ℕ) (a b : Message) → values k (a ++ b) ≡ values k a ++ values k b
+unfolding values
+values-append k [] b = refl
+values-append k (f ∷ a) b = go (eqb (f .number) k) (values k (a ++ b)) (values k a) (values k b) (values-append k a b)
+  where
+    go : (t : Bool) (xs ys zs : List Value) → xs ≡ ys ++ zs → (if t then f .value ∷ xs else xs) ≡ (if t then f .value ∷ ys else ys) ++ zs
+    go true xs ys zs e = ap (λ (vs : List Value). f .value ∷ vs) e
+    go false xs ys zs e = e
 
 pub values-few : (k : ℕ) (m : Message) → length (values k m) ≤ length m
 unfolding values

@@ -1,15 +1,14 @@
 -- Where the bodies of a message stand: all of them, and those of the messages embedded in it, are pieces of the part that was cut first.
 -- Assumes nothing.
-use Prim.Native.Nat.{ℕ, _≤_}
-use lib.ListN.{length}
-use Rattle.foundation.specs.Choices.{All, IfSome}
+use Prim.Native.Nat.{ℕ}
+use Rattle.foundation.specs.Choices.{IfSome}
 use Rattle.foundation.specs.Results.{Part}
-use Rattle.foundation.proofs.ResultLaws.{Gives, gives-weaken}
+use Rattle.foundation.proofs.ResultLaws.{Gives}
 use Rattle.wire.specs.Wire.{Value, varint, fixed, body, Message, readField, cut}
-use Rattle.wire.specs.Messages.{asBody, bytesOf, message, messages}
+use Rattle.wire.specs.Messages.{asBody, bytesOf}
 use Rattle.wire.proofs.Readers.{Within, ReadIn, read-in-within, after-within, field-after}
 use Rattle.wire.proofs.Progress.{every-gives}
-use Rattle.wire.proofs.MessageLaws.{Values, values-weaken, bytesOf-all, message-all, messages-all}
+use Rattle.wire.proofs.MessageLaws.{Values, values-weaken, bytesOf-all}
 
 -- the message was read in the part
 abbrev pub CutIn : Part → Message → Type 0
@@ -21,10 +20,6 @@ cut-in-within {p} {q} w = values-weaken (ReadIn q) (ReadIn p) (read-in-within w)
 pub cut-in : (p : Part) → Gives (CutIn p) (cut p)
 unfolding cut
 cut-in = every-gives readField CutIn _ (λ p. tt) field-after λ p g m h c. (h .0, cut-in-within (after-within (h .1)) m c)
-
--- cutting a piece of the part
-cut-in-piece : (p q : Part) → Within p q → Gives (CutIn p) (cut q)
-cut-in-piece p q w = gives-weaken (CutIn q) (CutIn p) (cut q) (cut-in q) (cut-in-within w)
 
 read-bodies : (p : Part) (m : Message) → CutIn p m → Values (λ v. IfSome (Within p) (asBody v)) m
 read-bodies p = values-weaken (ReadIn p) (λ v. IfSome (Within p) (asBody v)) as-body
@@ -38,9 +33,3 @@ read-bodies p = values-weaken (ReadIn p) (λ v. IfSome (Within p) (asBody v)) as
 module _ (p : Part) (k : ℕ) (m : Message) (c : CutIn p m) where
   pub bytesOf-in : IfSome (Within p) (bytesOf k m)
   bytesOf-in = bytesOf-all (Within p) k m (read-bodies p m c)
-
-  pub message-in : Gives (IfSome (CutIn p)) (message k m)
-  message-in = message-all (Within p) (CutIn p) (cut-in-piece p) k m (read-bodies p m c)
-
-  pub messages-in : Gives (λ ms. All (CutIn p) ms × (length ms ≤ length m)) (messages k m)
-  messages-in = messages-all (Within p) (CutIn p) (cut-in-piece p) k m (read-bodies p m c)

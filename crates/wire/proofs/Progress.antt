@@ -112,7 +112,3 @@ packed-none = every-none readVarint
 pub packed-next : (p : Part) → 1 ≤ length (p .bytes) → packed p ≡ (readVarint p >>= λ (n, rest). packed rest >>= λ ns. ok (n ∷ ns))
 unfolding packed
 packed-next = every-next readVarint varint-takes
-
-pub packed-few : (p : Part) → Gives (λ ns. length ns ≤ length (p .bytes)) (packed p)
-unfolding packed
-packed-few = every-few readVarint varint-takes

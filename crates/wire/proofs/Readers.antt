@@ -9,7 +9,7 @@ use native.Mathlib.Omega.{arith}
 use borrow.Author.Tests.{ltb-false, lt-ltb, le-ltb}
 use lib.Dec.{eqb, ltb}
 use lib.ListN.{length, take, drop, length-drop, length-take}
-use lib.Seq.{drop-drop, take-all, take-length, take-take}
+use lib.Seq.{drop-drop, take-all, take-take}
 use Rattle.foundation.specs.Results.{Res, refused, Part, _from_, Got, got, pastItsMessage}
 use Rattle.foundation.specs.Digits.{number}
 use Rattle.foundation.proofs.ChoiceLaws.{if-ind}
@@ -82,9 +82,6 @@ within-length w = rw (ap (λ (x : Part). x .bytes) (w .is), length-take, length-
 
 pub within-shorter : {p q : Part} → Within p q → length (q .bytes) ≤ length (p .bytes)
 within-shorter w = omega (arith, within-length w, w .fits)
-
-pub within-self : (p : Part) → Within p p
-within-self p = record { start = 0; count = length (p .bytes); fits = omega arith; is = rw (add-zero, take-length) }
 
 piece-of-front : (s n k : ℕ) (l : List ℕ) → s + n ≤ k → take n (drop s (take k l)) ≡ take n (drop s l)
 piece-of-front zero n k l h = take-take n k l (omega arith)

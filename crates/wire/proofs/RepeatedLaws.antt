@@ -18,7 +18,6 @@ use Rattle.wire.specs.declared.Varint.{Varint}
 use Rattle.wire.specs.declared.Varint.the-variants as read
 use Rattle.wire.specs.declared.FieldStep.{FieldStep}
 use Rattle.wire.specs.declared.FieldStep.the-variants as step
-use Rattle.wire.specs.declared.message.Checked.{Checked}
 use Rattle.wire.specs.declared.message.Checked.the-variants as checked
 use Rattle.wire.specs.declared.repeated.Two.{Two}
 use Rattle.wire.specs.declared.repeated.Two.the-variants.{Neither, Both}

@@ -2,14 +2,13 @@
 -- Assumes nothing.
 use mathlib.Core.Path.{_≡_, refl, ap, sym, _∙_, subst}
 use mathlib.Core.List.{List, [], _∷_, _++_, append-assoc}
-use Prim.Native.Nat.{ℕ, _+_, _-_, _*_, _/_, _%_, _^_, _≤_, _<_}
-use native.Mathlib.Nat.{add-assoc}
+use Prim.Native.Nat.{ℕ, _+_, _-_, _*_, _/_, _%_, _≤_, _<_}
 use native.Mathlib.Omega.{arith}
 use lib.ListN.{length, getD}
-use Rattle.foundation.specs.Results.{Res, ok, refused, _>>=_, Part, _from_, got, mapGot}
-use Rattle.wire.specs.Wire.{Value, varint, body, field, readVarint, readField, Message, cut}
+use Rattle.foundation.specs.Results.{Res, ok, refused, _>>=_, Part, mapGot}
+use Rattle.wire.specs.Wire.{Value, varint, body, field, readField, Message, cut}
 use Rattle.wire.specs.Messages.{values, bodiesOf}
-use Rattle.wire.specs.Told.{restOf, bodyOf, valueOf, Inside, FieldTold, ShortTold, ShortField, Skips, SkipTold}
+use Rattle.wire.specs.Told.{restOf, valueOf, FieldTold, ShortTold, ShortField, Skips, SkipTold}
 use Rattle.wire.specs.Asked.{CheckedTold, FoundTold, FoundFrom, FoundAt, bodies, NextTold}
 use Rattle.wire.specs.declared.ShortVarint.{ShortVarint}
 use Rattle.wire.specs.declared.WireValue.{WireValue}
@@ -26,7 +25,7 @@ use Rattle.wire.proofs.FieldLaws.{value-varint, value-body, field-value
 use Rattle.wire.proofs.WalkLaws.{cut-field, field-inside, bind-ok, Leads, values-passed}
 use Rattle.wire.proofs.FindLaws.{Occur, find-start, find-on, find-whole}
 use Rattle.wire.proofs.BodyLaws.{Bodies, bodies-start, next-on}
-use Rattle.wire.proofs.NoteLaws.{values-append}
+use Rattle.wire.proofs.MessageLaws.{values-append}
 
 -- a varint of one or two bytes
 module _ (s : List ℕ) (at : ℕ) where

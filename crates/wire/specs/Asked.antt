@@ -6,10 +6,10 @@ use mathlib.Core.Option.{Option, none, some}
 use Prim.Native.Nat.{ℕ, _≤_, _<_}
 use lib.Dec.{eqb}
 use lib.ListN.{length}
-use Rattle.foundation.specs.Choices.{if_then_else_}
+use Rattle.foundation.specs.Choices.{if_then_else_, ifSome}
 use Rattle.foundation.specs.Results.{Res, ok, Part, _from_}
 use Rattle.wire.specs.Wire.{Value, readField, Message, cut}
-use Rattle.wire.specs.Messages.{values, value, bytesOf, message, bodiesOf}
+use Rattle.wire.specs.Messages.{values, value, as32, bytesOf, message, bodiesOf}
 use Rattle.wire.specs.Told.{refusal, restOf, valueOf, bodyOf, Inside, FieldTold}
 use Rattle.wire.specs.declared.WireValue.{WireValue}
 use Rattle.wire.specs.declared.WireValue.the-variants as wire
@@ -65,6 +65,10 @@ abbrev pub numberTold : Number → Option ℕ
 numberTold (number.Value v) = some v
 numberTold number.Nothing = none
 
+abbrev pub numberIn : Found → Number
+numberIn (found.Value v) = numberOf v
+numberIn found.Nothing = number.Nothing
+
 abbrev pub pieceOf : WireValue → Piece
 pieceOf (wire.Varint v) = piece.Nothing
 pieceOf (wire.Fixed width v) = piece.Nothing
@@ -89,6 +93,9 @@ pub record BytesTold (base : ℕ) (s : List ℕ) (n : ℕ) (r : Piece) : Type 0 
 abbrev pub indexTold : Indexed → Option ℕ
 indexTold (indexed.At i) = some i
 indexTold indexed.Nothing = none
+
+abbrev pub indexIn : Found → Option ℕ
+indexIn f = ifSome (numberTold (numberIn f)) none as32
 
 -- the message in field n, cut
 abbrev pub EmbeddedIs : ℕ → List ℕ → ℕ → Message → Embedded → Type 0

@@ -3,5 +3,4 @@ pub mod Messages
 pub mod Told
 pub mod Asked
 pub mod Repeated
-pub mod Notes
 pub mod Reader

@@ -1,14 +1,14 @@
 -- What a message says of a field. Departure: the first occurrence of a field counts, of whatever wire type, where the guide takes the
 -- last fitting one and merges messages.
 -- Assumes nothing.
-use mathlib.Core.Bool.{Bool, true, false, not}
+use mathlib.Core.Bool.{Bool, false, not}
 use mathlib.Core.List.{List, [], _∷_, _++_}
 use mathlib.Core.Option.{Option, none, some}
 use Prim.Native.Nat.{ℕ, _^_}
 use lib.Dec.{eqb, ltb}
 use Rattle.foundation.specs.Choices.{if_then_else_, ifSome}
-use Rattle.foundation.specs.Results.{Res, ok, refused, _>>=_, Part}
-use Rattle.wire.specs.Wire.{Value, varint, fixed, body, Field, Message, cut, packed}
+use Rattle.foundation.specs.Results.{Res, ok, _>>=_, Part}
+use Rattle.wire.specs.Wire.{Value, varint, fixed, body, Message, cut, packed}
 
 -- every occurrence of field n, in order
 unfoldable pub values : ℕ → Message → List Value

@@ -6,23 +6,7 @@ use Prim.Native.Nat.{ℕ, zero, suc, _+_, _/_, _%_, _^_}
 use lib.Dec.{eqb, ltb}
 use lib.ListN.{length, take, drop}
 use Rattle.foundation.specs.Choices.{if_then_else_}
-use Rattle.foundation.specs.Results.{
-  Res,
-  ok,
-  refused,
-  _>>=_,
-  Cause,
-  varintCutShort,
-  pastItsMessage,
-  fieldTooLarge,
-  wireType,
-  oversizedVarint,
-  Part,
-  _from_,
-  Got,
-  got,
-  mapGot,
-}
+use Rattle.foundation.specs.Results.{Res, ok, refused, _>>=_, varintCutShort, pastItsMessage, fieldTooLarge, wireType, oversizedVarint, Part, _from_, Got, got, mapGot}
 use Rattle.foundation.specs.Digits.{number}
 
 -- What a byte gives to its varint, with k more bytes allowed after it: its low 7 bits, the tenth only its lowest bit.

@@ -11,7 +11,6 @@ ghost use Rattle.wire.specs.Told.{restOf, varintTold, joinedTo, Delimite
 
 pub mod message; // message.rt: messages, cut and asked for their fields
 pub mod repeated; // repeated.rt: repeated numbers, single and packed
-pub mod notes; // notes.rt: the first occurrences of many fields by one walk
 pub mod reader; // reader.rt: a reader over a message
 
 // Why a part is refused, with the offset among the decoded bytes that is told.

@@ -3,9 +3,9 @@
 ghost use mathlib.Core.Path.{_≡_};
 ghost use Rattle.foundation.specs.Results.{ok, _from_};
 ghost use Rattle.wire.specs.Wire.{cut, Message};
-ghost use Rattle.wire.specs.Messages.{varintOf, index, flag, messages};
+ghost use Rattle.wire.specs.Messages.{varintOf, index, messages};
 ghost use Rattle.wire.specs.Told.{restOf};
-ghost use Rattle.wire.specs.Asked.{CheckedTold, FoundTold, FoundFrom, FoundAt, numberOf, numberTold, pieceOf, pieceIn, BytesTold, indexTold, EmbeddedTold, pieceIf, NextTold};
+ghost use Rattle.wire.specs.Asked.{CheckedTold, FoundTold, FoundFrom, FoundAt, numberOf, numberTold, numberIn, pieceOf, pieceIn, BytesTold, indexTold, indexIn, EmbeddedTold, pieceIf, NextTold};
 use super::FieldStep;
 use super::WireError;
 use super::WireValue;
@@ -224,7 +224,31 @@ impl WireValue {
 }
 
 impl Found {
-    fn bytes(self) -> Piece
+    pub fn varint(self) -> Number
+        ensures { λ r. ⌜ r ≡ numberIn self ⌝ }
+    {
+        match self {
+            Found::Value { value } => value.varint(),
+            Found::Nothing => Number::Nothing,
+        }
+    }
+
+    pub fn index(self) -> Indexed
+        ensures { λ r. ⌜ indexTold r ≡ indexIn self ⌝ }
+    {
+        let number = self.varint();
+        let Number::Value { value } = number else {
+            return Indexed::Nothing;
+        };
+        if 4294967295 < value {
+            return Indexed::Nothing;
+        }
+        Indexed::At {
+            index: value as u32,
+        }
+    }
+
+    pub fn bytes(self) -> Piece
         ensures { λ r. ⌜ r ≡ pieceIn self ⌝ }
     {
         match self {
@@ -274,16 +298,6 @@ pub fn index(s: &[u8], base: u32, number: u32) -> Indexed
     Indexed::At {
         index: value as u32,
     }
-}
-
-pub fn flag(s: &[u8], base: u32, number: u32) -> bool
-    ensures { λ r. ⌜ ((m : Message) → cut (_from_ base (now (s .entry))) ≡ ok m → flag number m ≡ r) ⌝ }
-{
-    let found = varint(&*s, base, number);
-    let Number::Value { value } = found else {
-        return false;
-    };
-    value != 0
 }
 
 pub enum Embedded {

@@ -145,21 +145,6 @@ fn show_two(name: &[u8], s: &[u8], number: u32) {
     print_two(two);
 }
 
-// Three wanted fields noted by one walk.
-fn show_notes(name: &[u8], s: &[u8]) {
-    print(name);
-    print(b"\n  ");
-    let wanted = [2u32, 1, 9];
-    let mut area = [7u64; 10];
-    print_checked(wire::notes::note(s, 0, &wanted, &mut area));
-    let mut i = 0;
-    while i < 10 {
-        print_number(b" ", area[i]);
-        i = i + 1;
-    }
-    print(b"\n");
-}
-
 fn published() {
     show(b"150", b"\x08\x96\x01", 0);
     show(b"testing", b"\x12\x07testing", 0);
@@ -235,10 +220,6 @@ fn asked() {
     show_two(b"packed and single", b"\x32\x02\x03\x01\x30\x05", 6);
     show_two(b"one", b"\x30\xff\xff\xff\xff\xff\x01", 6);
     show_two(b"an error after two", b"\x30\x01\x30\x02\x32\x01\x80", 6);
-    show_notes(
-        b"fields 2, 1 and 9 noted",
-        b"\x08\x96\x01\x12\x02hi\x08\x05",
-    );
 }
 
 fn main() {

@@ -1,5 +1,5 @@
 use mathlib.Core.Path.{_≡_, _∙_, sym, refl}
-use Prim.Native.Nat.{_+_, _*_, _^_, _≤_, _<_}
+use Prim.Native.Nat.{_+_, _*_, _^_, _≤_}
 use native.Mathlib.Omega.{arith}
 use lib.ListN.{length, drop}
 use Rattle.characters.specs.Told.{ranges, goOn}

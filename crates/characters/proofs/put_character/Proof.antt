@@ -1,4 +1,3 @@
-use native.Mathlib.Omega.{arith}
 use Rattle.characters.proofs.WriteLaws.{put-one, put-two, put-three, put-four}
 use borrow.Author.Needs.{needs}
 use Rattle.characters.proofs.put_character.Statement.{statement}

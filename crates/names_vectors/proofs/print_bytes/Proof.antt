@@ -1,5 +1,5 @@
 use mathlib.Core.Path.{_∙_, sym}
-use Prim.Native.Nat.{_≤_, _-_}
+use Prim.Native.Nat.{_-_}
 use native.Mathlib.Omega.{arith}
 use lib.ListN.{length}
 use Rattle.characters.proofs.CharacterLaws.{utf8-inside}

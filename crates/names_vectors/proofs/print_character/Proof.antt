@@ -1,6 +1,4 @@
 use Prim.Native.Nat.{_≤_, _-_}
-use native.Mathlib.Omega.{arith}
-use lib.ListN.{length}
 use borrow.Author.Needs.{needs}
 use Rattle.names_vectors.proofs.print_character.Statement.{statement}
 use Rattle.names_vectors.proofs.print_character.Tie as tie

@@ -1,6 +1,6 @@
 -- `sheet::copy_in` meets its contract. What is left of `src`, written from here on, gives the whole.
 -- Assumes nothing.
-use mathlib.Core.Path.{_≡_, refl, sym, _∙_}
+use mathlib.Core.Path.{_≡_, refl}
 use Prim.Native.Nat.{_+_, _-_}
 use lib.ListN.{length, drop}
 use lib.Seq.{sets}

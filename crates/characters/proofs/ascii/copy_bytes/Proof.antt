@@ -1,4 +1,4 @@
-use mathlib.Core.Path.{_≡_, refl, sym, _∙_}
+use mathlib.Core.Path.{refl}
 use mathlib.Core.List.{map}
 use Prim.Native.Nat.{_-_}
 use native.Mathlib.Omega.{arith}

@@ -1,6 +1,4 @@
-use native.Mathlib.Omega.{arith}
 use borrow.Author.Tests.{not-true, not-false}
-use Rattle.schema.proofs.CountLaws.{affords-room}
 use Rattle.declarations.proofs.BodyLaws.{head-package, head-class}
 use borrow.Author.Needs.{needs}
 use Rattle.declarations.proofs.body.head_in.Statement.{statement}

@@ -2,7 +2,6 @@ use Prim.Native.Nat.{_-_}
 use lib.ListN.{length, take, drop}
 use mathlib.Core.Path.{_∙_}
 use native.Mathlib.Omega.{arith}
-use lib.ListN.{length-take, length-drop}
 use Rattle.schema.specs.Told.{lent}
 use Rattle.schema.proofs.CountLaws.{listed-within}
 use Rattle.declarations.proofs.BodyLaws.{rest-length, constructors-affords, functions-affords, properties-affords, constructors-refused, functions-refused, properties-refused, members-done}

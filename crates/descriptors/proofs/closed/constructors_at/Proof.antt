@@ -7,7 +7,6 @@ use Rattle.schema.specs.Members.{constructorIn}
 use Rattle.schema.specs.Told.{lent}
 use Rattle.schema.proofs.ListLaws.{Looping, loop-start}
 use Rattle.descriptors.specs.Defaults.{closedConstructor}
-use Rattle.descriptors.proofs.ClosedLaws.{body-end, body-in, body-affords, body-refused, body-dropped, body-kept}
 use borrow.Author.Needs.{needs}
 use Rattle.descriptors.proofs.closed.constructors_at.Statement.{statement}
 use Rattle.descriptors.proofs.closed.constructors_at.Tie as tie

@@ -1,4 +1,4 @@
-use mathlib.Core.Path.{ap, _∙_}
+use mathlib.Core.Path.{ap, sym, _∙_}
 use mathlib.Core.Bool.{Bool, _||_}
 use native.Mathlib.Omega.{arith}
 use borrow.Author.Tests.{not-true, not-false}
@@ -10,7 +10,7 @@ use Rattle.descriptors.proofs.erased.put_type.Statement.{statement}
 use Rattle.descriptors.proofs.erased.put_type.Tie as tie
 use Rattle.descriptors.proofs.erased.put_type.Reads as reads
 use Rattle.descriptors.proofs.erased.put_type.Lts as lts
-use Rattle.descriptors.proofs.erased.either.Reads as either-reads
+use Rattle.schema.proofs.types.either.Reads as either-reads
 use Rattle.descriptors.proofs.erased.name_meaning.Reads as name-meaning-reads
 use Rattle.descriptors.proofs.erased.put_printed.Reads as put-printed-reads
 use Rattle.erasure.proofs.printed_as.Reads as printed-as-reads
@@ -72,7 +72,7 @@ same-length c = search needs
 
 -- src/erased.rt
 returns-2 : tie.Need-returns-2
-returns-2 c = type-part (lent (c .before .before .before .before .before .before .before .before .before .before .before .before .before .before .before .before .before .before .before .before .before .args .payload .now) (c .before .before .before .before .before .before .before .before .before .before .before .before .before .before .before .before .before .before .before .before .before .args .d2 .now) (c .before .before .before .before .before .before .before .before .before .before .before .before .before .before .before .before .before .before .before .before .before .args .ends .now) (c .before .before .before .before .before .before .before .before .before .before .before .before .before .before .before .before .before .before .before .before .before .args .starts .now) (c .before .before .before .before .before .before .before .before .before .before .before .before .before .before .before .before .before .before .before .before .before .args .stops .now) (c .before .before .before .before .before .before .before .before .before .before .before .before .before .before .before .before .before .before .before .before .before .args .firsts .now) (c .before .before .before .before .before .before .before .before .before .before .before .before .before .before .before .before .before .before .before .before .before .args .entry-starts .now) (c .before .before .before .before .before .before .before .before .before .before .before .before .before .before .before .before .before .before .before .before .before .args .entry-ends .now) (c .before .before .before .before .before .before .before .before .before .before .before .before .before .before .before .before .before .before .before .before .before .args .tables)) (c .before .before .before .before .before .before .before .before .before .before .before .before .before .before .before .before .before .before .before .before .before .args .start) (c .before .before .before .before .before .before .before .before .before .before .before .before .before .before .before .before .before .before .before .before .before .args .end) (c .before .before .before .before .before .before .before .before .before .before .before .before .before .before .before .before .before .before .before .before .before .args .nullable) (c .before .before .before .before .before .before .before .before .before .before .before .before .before .before .before .before .before .before .before .before .before .args .position) (c .before .before .before .before .before .before .before .before .before .before .before .before .before .before .before .before .before .before .before .before .before .args .at) (c .before .before .before .before .before .before .before .before .before .class-name-at .result) (λ s o m w. c .before .before .before .before .before .before .before .before .before .class-name-at .ensures s o Type·class-name m (c .before .before .before .before .before .before .before .before .before .before .type-head .ensures .name m w)) (units-each (c .before .before .before .before .before .before .before .before .before .before .before .before .before .before .before .before .before .before .before .before .before .args .d2 .now) λ i. omega (arith, c .before .before .before .before .before .before .before .before .before .before .before .before .before .before .before .before .before .before .before .shared-slice-known2 .given i)) (c .before .before .before .before .before .before .name-meaning .result) (c .before .before .before .before .before .before .name-meaning .ensures) (λ m w. ap (λ (b : Bool). c .before .before .before .before .before .before .before .before .before .before .before .before .before .before .before .before .before .before .before .before .before .args .nullable || b) (c .before .before .before .before .before .before .before .before .before .before .type-head .ensures .nullable m w) ∙ c .before .before .before .before .before .either .ensures) (c .before .before .before .before .printed-as .result) (c .before .before .before .before .printed-as .ensures) (c .before .before .before .before .before .before .before .before .is-there .ensures (c .before .before .before .before .before .before .before .before .before .before .before .before .before .before .before .before .before .before .before .before .before .args .payload .now) (c .before .before .before .before .before .before .before .before .before .before .before .before .before .before .before .before .before .before .before .before .before .args .d2 .now) ∙ not-false (c .before .before .before .before .before .before .before .before .is-there .result) (c .before .before .before .before .before .before .before .if1 .left)) (c .before .before .put-printed .ensures)
+returns-2 c = type-part (lent (c .before .before .before .before .before .before .before .before .before .before .before .before .before .before .before .before .before .before .before .before .before .args .payload .now) (c .before .before .before .before .before .before .before .before .before .before .before .before .before .before .before .before .before .before .before .before .before .args .d2 .now) (c .before .before .before .before .before .before .before .before .before .before .before .before .before .before .before .before .before .before .before .before .before .args .ends .now) (c .before .before .before .before .before .before .before .before .before .before .before .before .before .before .before .before .before .before .before .before .before .args .starts .now) (c .before .before .before .before .before .before .before .before .before .before .before .before .before .before .before .before .before .before .before .before .before .args .stops .now) (c .before .before .before .before .before .before .before .before .before .before .before .before .before .before .before .before .before .before .before .before .before .args .firsts .now) (c .before .before .before .before .before .before .before .before .before .before .before .before .before .before .before .before .before .before .before .before .before .args .entry-starts .now) (c .before .before .before .before .before .before .before .before .before .before .before .before .before .before .before .before .before .before .before .before .before .args .entry-ends .now) (c .before .before .before .before .before .before .before .before .before .before .before .before .before .before .before .before .before .before .before .before .before .args .tables)) (c .before .before .before .before .before .before .before .before .before .before .before .before .before .before .before .before .before .before .before .before .before .args .start) (c .before .before .before .before .before .before .before .before .before .before .before .before .before .before .before .before .before .before .before .before .before .args .end) (c .before .before .before .before .before .before .before .before .before .before .before .before .before .before .before .before .before .before .before .before .before .args .nullable) (c .before .before .before .before .before .before .before .before .before .before .before .before .before .before .before .before .before .before .before .before .before .args .position) (c .before .before .before .before .before .before .before .before .before .before .before .before .before .before .before .before .before .before .before .before .before .args .at) (c .before .before .before .before .before .before .before .before .before .class-name-at .result) (λ s o m w. c .before .before .before .before .before .before .before .before .before .class-name-at .ensures s o Type·class-name m (c .before .before .before .before .before .before .before .before .before .before .type-head .ensures .name m w)) (units-each (c .before .before .before .before .before .before .before .before .before .before .before .before .before .before .before .before .before .before .before .before .before .args .d2 .now) λ i. omega (arith, c .before .before .before .before .before .before .before .before .before .before .before .before .before .before .before .before .before .before .before .shared-slice-known2 .given i)) (c .before .before .before .before .before .before .name-meaning .result) (c .before .before .before .before .before .before .name-meaning .ensures) (λ m w. ap (λ (b : Bool). c .before .before .before .before .before .before .before .before .before .before .before .before .before .before .before .before .before .before .before .before .before .args .nullable || b) (c .before .before .before .before .before .before .before .before .before .before .type-head .ensures .nullable m w) ∙ sym (c .before .before .before .before .before .either .ensures)) (c .before .before .before .before .printed-as .result) (c .before .before .before .before .printed-as .ensures) (c .before .before .before .before .before .before .before .before .is-there .ensures (c .before .before .before .before .before .before .before .before .before .before .before .before .before .before .before .before .before .before .before .before .before .args .payload .now) (c .before .before .before .before .before .before .before .before .before .before .before .before .before .before .before .before .before .before .before .before .before .args .d2 .now) ∙ not-false (c .before .before .before .before .before .before .before .before .is-there .result) (c .before .before .before .before .before .before .before .if1 .left)) (c .before .before .put-printed .ensures)
 
 pub put-type-spec : {M : Type 1} → statement M
 put-type-spec =

@@ -1,7 +1,5 @@
-use mathlib.Core.Path.{sym, ap, subst, _∙_}
 use native.Mathlib.Omega.{arith}
-use Rattle.line.specs.Program.{zeros}
-use Rattle.line.proofs.AnswerLaws.{printed-short, printed-whole, wrote-short, wrote-whole}
+use Rattle.line.proofs.AnswerLaws.{wrote-short, wrote-whole}
 use borrow.Author.Needs.{needs}
 use Rattle.line.proofs.answer.put_answer.Statement.{statement}
 use Rattle.line.proofs.answer.put_answer.Tie as tie

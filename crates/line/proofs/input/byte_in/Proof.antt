@@ -1,8 +1,6 @@
 use Prim.Native.Nat.{_-_}
 use mathlib.Core.Path.{_∙_}
 use native.Mathlib.Omega.{arith}
-use borrow.Author.Tests.{lt-ltb, le-ltb}
-use mathlib.Core.Path.{sym, _∙_}
 use Rattle.line.proofs.InputLaws.{byte-before, byte-far, byte-there}
 use borrow.Author.Needs.{needs}
 use Rattle.line.proofs.input.byte_in.Statement.{statement}

@@ -1,12 +1,10 @@
 use mathlib.Core.Path.{_≡_, refl, _∙_}
 use Rattle.line.proofs.InputLaws.{numbers-start, numbers-step, numbers-end, number-whole}
-use mathlib.Core.Path.{_≡_, refl, sym, ap, _∙_}
 use Prim.Native.Nat.{_+_, _-_, _*_, _≤_, min}
 use lib.ListN.{length}
 use lib.Seq.{sets}
 use native.Mathlib.Omega.{arith}
 use Rattle.line.specs.Input.{numbersAt}
-use Rattle.line.proofs.InputLaws.{numbers-step, numbers-end, number-whole}
 use borrow.Author.Needs.{needs}
 use Rattle.line.proofs.input.units_at.Statement.{statement}
 use Rattle.line.proofs.input.units_at.Tie as tie

@@ -1,6 +1,5 @@
 use Rattle.line.proofs.OutputLaws.{wrote-decimal, fewest-twenty}
 use native.Mathlib.Omega.{arith}
-use Rattle.line.proofs.OutputLaws.{wrote-decimal}
 use borrow.Author.Needs.{needs}
 use Rattle.line.proofs.output.put_decimal.Statement.{statement}
 use Rattle.line.proofs.output.put_decimal.Tie as tie

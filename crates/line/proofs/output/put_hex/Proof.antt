@@ -1,12 +1,10 @@
-use mathlib.Core.Path.{_≡_, refl, _∙_}
+use mathlib.Core.Path.{_≡_, _∙_}
 use Rattle.line.proofs.OutputLaws.{hex-put, hex-end}
-use mathlib.Core.Path.{_≡_, refl, sym, ap, _∙_}
 use Prim.Native.Nat.{_+_, _-_, _*_, _≤_}
 use lib.ListN.{length, drop}
 use lib.Seq.{sets}
 use native.Mathlib.Omega.{arith}
 use Rattle.line.specs.Line.{hexOf}
-use Rattle.line.proofs.OutputLaws.{hex-step, hex-end}
 use borrow.Author.Needs.{needs}
 use Rattle.line.proofs.output.put_hex.Statement.{statement}
 use Rattle.line.proofs.output.put_hex.Tie as tie

@@ -1,6 +1,5 @@
-use mathlib.Core.Path.{sym, _∙_}
+use mathlib.Core.Path.{sym}
 use native.Mathlib.Omega.{arith}
-use lib.ListN.{length}
 use lib.Seq.{length-take-le}
 use Rattle.line.proofs.TakenLaws.{first-so-far, took-first, took-rest}
 use borrow.Author.Needs.{needs}

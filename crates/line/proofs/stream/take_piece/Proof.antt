@@ -1,5 +1,4 @@
 use mathlib.Core.Path.{refl}
-use native.Mathlib.Omega.{arith}
 use Rattle.line.proofs.TakenLaws.{bytes-take}
 use borrow.Author.Needs.{needs}
 use Rattle.line.proofs.stream.take_piece.Statement.{statement}

@@ -1,6 +1,5 @@
 use mathlib.Core.Path.{_∙_, sym, ap}
-use mathlib.Core.List.{List}
-use Prim.Native.Nat.{ℕ, _+_, _-_}
+use Prim.Native.Nat.{_-_}
 use native.Mathlib.Omega.{arith}
 use Rattle.foundation.specs.Results.{ok}
 use Rattle.names.specs.Name.{nameText}

@@ -1,6 +1,5 @@
 use mathlib.Core.Path.{_≡_, _∙_, refl}
-use mathlib.Core.Path.{_≡_, _∙_, sym, ap}
-use Prim.Native.Nat.{_+_, _*_, _-_, _≤_, _<_}
+use Prim.Native.Nat.{_*_, _-_, _≤_}
 use native.Mathlib.Omega.{arith}
 use lib.ListN.{length, length-set, length-take}
 use Rattle.names.proofs.NoteLaws.{Noting, noting-start, noting-end, noting-none, body-in, noting-refused, noting-full, noting-next}

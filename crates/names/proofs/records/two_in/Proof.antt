@@ -1,4 +1,4 @@
-use mathlib.Core.Path.{_∙_, sym, ap, subst}
+use mathlib.Core.Path.{_∙_, ap, subst}
 use Rattle.wire.specs.Asked.{FoundTold}
 use Rattle.wire.specs.Messages.{varints}
 use Rattle.wire.specs.Repeated.{twoTold}

@@ -1,10 +1,8 @@
 use Rattle.names.proofs.PartLaws.{part-none, part-some, part-ends}
-use mathlib.Core.Path.{subst, ap}
+use mathlib.Core.Path.{subst}
 use native.Mathlib.Omega.{arith}
 use Rattle.names.specs.Name.{predefinedList}
 use Rattle.names.specs.Steps.{SubstringTold}
-use Rattle.characters.proofs.PartLaws.{part-short}
-use Rattle.names.proofs.PartLaws.{part-none, part-some}
 use borrow.Author.Needs.{needs}
 use Rattle.names.proofs.steps.part_of.Statement.{statement}
 use Rattle.names.proofs.steps.part_of.Tie as tie

@@ -1,5 +1,4 @@
 use native.Mathlib.Omega.{arith}
-use lib.ListN.{length-take}
 use Rattle.names.proofs.PartLaws.{sub-backward, sub-outside, sub-start, sub-past, sub-end, sub-is}
 use borrow.Author.Needs.{needs}
 use Rattle.names.proofs.steps.substring.Statement.{statement}

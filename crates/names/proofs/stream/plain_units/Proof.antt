@@ -1,6 +1,4 @@
 use mathlib.Core.Path.{sym, _∙_}
-use mathlib.Core.Bool.{true, false}
-use native.Mathlib.Omega.{arith}
 use Rattle.names.proofs.AsciiLaws.{not-plain}
 use borrow.Author.Needs.{needs}
 use Rattle.names.proofs.stream.plain_units.Statement.{statement}

@@ -1,7 +1,7 @@
-use mathlib.Core.List.{[], _∷_, _++_}
+use mathlib.Core.List.{[], _∷_}
 use native.Mathlib.Omega.{arith}
-use Rattle.sheet.specs.Rows.{num, bit, oneIf, row}
-use Rattle.schema.specs.Rows.{named, signatureCells}
+use Rattle.sheet.specs.Rows.{num}
+use Rattle.schema.specs.Rows.{signatureCells}
 use Rattle.schema.specs.Written.{initBy}
 use Rattle.schema.proofs.WrittenLaws.{head-next, room-within, head-room, cells-room}
 use borrow.Author.Needs.{needs}

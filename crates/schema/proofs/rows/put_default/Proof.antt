@@ -1,4 +1,4 @@
-use mathlib.Core.List.{[], _∷_, _++_}
+use mathlib.Core.List.{[]}
 use native.Mathlib.Omega.{arith}
 use Rattle.schema.proofs.WrittenLaws.{default-put, kind-sheet}
 use borrow.Author.Needs.{needs}

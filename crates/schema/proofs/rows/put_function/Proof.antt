@@ -1,7 +1,7 @@
 use mathlib.Core.Path.{_∙_}
-use mathlib.Core.List.{[], _∷_, _++_}
+use mathlib.Core.List.{[], _∷_}
 use native.Mathlib.Omega.{arith}
-use Rattle.sheet.specs.Rows.{num, bit, oneIf, row}
+use Rattle.sheet.specs.Rows.{num, bit}
 use Rattle.names.specs.Name.{nameText}
 use Rattle.schema.specs.Rows.{named, signatureCells}
 use Rattle.schema.specs.Written.{signatureBy}

@@ -1,9 +1,9 @@
 use borrow.Author.Tests.{not-true, not-false}
 use mathlib.Core.Path.{_∙_}
-use mathlib.Core.List.{[], _∷_, _++_}
+use mathlib.Core.List.{[], _∷_}
 use native.Mathlib.Omega.{arith}
 use Rattle.names.specs.Name.{nameText}
-use Rattle.schema.specs.Rows.{named, signatureCells}
+use Rattle.schema.specs.Rows.{named}
 use Rattle.foundation.specs.Texts.{ascii}
 use Rattle.foundation.specs.Choices.{orElse}
 use mathlib.Core.Option.{some}

@@ -1,8 +1,8 @@
-use mathlib.Core.List.{[], _∷_, _++_}
+use mathlib.Core.List.{[], _∷_}
 use native.Mathlib.Omega.{arith}
-use Rattle.sheet.specs.Rows.{num, bit, oneIf, row}
+use Rattle.sheet.specs.Rows.{bit}
 use Rattle.names.specs.Name.{nameText}
-use Rattle.schema.specs.Rows.{named, signatureCells}
+use Rattle.schema.specs.Rows.{named}
 use Rattle.sheet.proofs.PutLaws.{row-done}
 use Rattle.schema.proofs.WrittenLaws.{head-next, room-within, head-room, cells-room, name-small}
 use borrow.Author.Needs.{needs}

@@ -1,7 +1,6 @@
-use mathlib.Core.List.{[], _∷_, _++_}
+use mathlib.Core.List.{[], _∷_}
 use native.Mathlib.Omega.{arith}
-use Rattle.sheet.specs.Rows.{num, bit, oneIf, row}
-use Rattle.sheet.proofs.PutLaws.{put-sheet}
+use Rattle.sheet.specs.Rows.{num, bit}
 use Rattle.schema.proofs.WrittenLaws.{cells-next, cell-sheet}
 use borrow.Author.Needs.{needs}
 use Rattle.schema.proofs.rows.put_property_flags.Statement.{statement}

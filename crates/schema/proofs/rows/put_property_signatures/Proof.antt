@@ -1,6 +1,6 @@
-use mathlib.Core.List.{[], _∷_, _++_}
+use mathlib.Core.List.{_++_}
 use native.Mathlib.Omega.{arith}
-use Rattle.schema.specs.Rows.{named, signatureCells}
+use Rattle.schema.specs.Rows.{signatureCells}
 use Rattle.schema.specs.Written.{signatureBy}
 use Rattle.schema.proofs.WrittenLaws.{cells-next, room-within, cells-room, signature-small}
 use borrow.Author.Needs.{needs}

@@ -1,7 +1,7 @@
 use mathlib.Core.Path.{_≡_, _∙_, refl}
-use Prim.Native.Nat.{_+_, _-_, _≤_, _<_}
+use Prim.Native.Nat.{_-_, _≤_}
 use native.Mathlib.Omega.{arith}
-use lib.ListN.{length, length-set, length-take}
+use lib.ListN.{length, length-take}
 use Rattle.schema.proofs.TableLaws.{Noting, noting-start, noting-none, body-in, noting-refused, no-start, no-end, noting-next}
 use borrow.Author.Needs.{needs}
 use Rattle.schema.proofs.table.note_entries.Statement.{statement}

@@ -1,16 +1,17 @@
-use mathlib.Core.Path.{refl}
+use mathlib.Core.Path.{refl, sym, _∙_}
 use native.Mathlib.Omega.{arith}
 use lib.ListN.{length-take}
+use Rattle.wire.proofs.FindLaws.{piece-is, index-is}
 use Rattle.wire.proofs.BodyLaws.{message-none, message-in, message-cut, message-refused}
-use Rattle.type_references.proofs.ArgumentLaws.{bytes-in, field-inline, field-refused, field-absent, field-by-index}
+use Rattle.type_references.proofs.ArgumentLaws.{field-inline, field-refused, field-absent, field-by-index}
 use borrow.Author.Needs.{needs}
 use Rattle.type_references.proofs.arguments.type_field.Statement.{statement}
 use Rattle.type_references.proofs.arguments.type_field.Tie as tie
 use Rattle.type_references.proofs.arguments.type_field.Reads as reads
 use Rattle.type_references.proofs.arguments.type_field.Lts as lts
-use Rattle.type_references.proofs.arguments.bytes_in.Reads as bytes-in-reads
-use Rattle.type_references.proofs.arguments.index_in.Reads as index-in-reads
 use Rattle.wire.proofs.message.Checked.error.Reads as error-reads
+use Rattle.wire.proofs.message.Found.bytes.Reads as bytes-reads
+use Rattle.wire.proofs.message.Found.index.Reads as index-reads
 use Rattle.wire.proofs.message.check_from.Reads as check-from-reads
 use Rattle.wire.proofs.message.find_two.Reads as find-two-reads
 
@@ -19,8 +20,8 @@ find-two-requires : tie.Need-find-two-requires
 find-two-requires c κs = search needs
 
 -- src/arguments.rt:67:9
-bytes-in-requires : tie.Need-bytes-in-requires
-bytes-in-requires c κs = search needs
+bytes-requires : tie.Need-bytes-requires
+bytes-requires c κs = search needs
 
 -- src/arguments.rt:68:23
 enum-known-piece : tie.Need-enum-known-piece
@@ -31,8 +32,8 @@ enum-told : tie.Need-enum-told
 enum-told c = search needs
 
 -- src/arguments.rt:70:13
-index-in-requires : tie.Need-index-in-requires
-index-in-requires c κs = search needs
+index-requires : tie.Need-index-requires
+index-requires c κs = search needs
 
 -- src/arguments.rt:71:27
 enum-known-at : tie.Need-enum-known-at
@@ -44,15 +45,15 @@ enum-told-2 c = search needs
 
 -- src/arguments.rt:72:13
 returns : tie.Need-returns
-returns c = field-absent (message-none (c .before .before .before .before .before .before .before .before .args .inline) (c .before .before .before .before .before .before .before .before .args .base) (c .before .before .before .before .before .before .before .before .args .msg .now) (bytes-in (c .before .before .before .before .before .before .before .before .args .base) (c .before .before .before .before .before .before .before .before .args .inline) (c .before .before .before .before .before .before .before .before .args .msg .now) (c .before .before .before .before .before .before .find-two .result .first) (c .before .before .before .before .before .before .find-two .ensures .0) (c .before .before .before .before .before .bytes-in .ensures)) (c .before .before .before .enum-told .given .1)) refl (c .before .before .index-in .ensures (c .before .before .before .before .before .before .before .before .args .base) (c .before .before .before .before .before .before .before .before .args .indexed) (c .before .before .before .before .before .before .before .before .args .msg .now) (c .before .before .before .before .before .before .find-two .ensures .1)) (c .enum-told2 .given .1)
+returns c = field-absent (message-none (c .before .before .before .before .before .before .before .before .args .inline) (c .before .before .before .before .before .before .before .before .args .base) (c .before .before .before .before .before .before .before .before .args .msg .now) (piece-is (c .before .before .before .before .before .before .before .before .args .base) (c .before .before .before .before .before .before .before .before .args .msg .now) (c .before .before .before .before .before .before .before .before .args .inline) (c .before .before .before .before .before .before .find-two .result .first) (c .before .before .before .before .before .before .find-two .ensures .0) (c .before .before .before .before .before .bytes .ensures)) (c .before .before .before .enum-told .given .1)) refl (λ m w. index-is (c .before .before .before .before .before .before .before .before .args .base) (c .before .before .before .before .before .before .before .before .args .msg .now) (c .before .before .before .before .before .before .before .before .args .indexed) m w (c .before .before .before .before .before .before .find-two .result .second) (c .before .before .before .before .before .before .find-two .ensures .1) ∙ sym (c .before .before .index .ensures)) (c .enum-told2 .given .1)
 
 -- src/arguments.rt:74:9
 returns-2 : tie.Need-returns-2
-returns-2 c = field-by-index (message-none (c .before .before .before .before .before .before .before .before .before .args .inline) (c .before .before .before .before .before .before .before .before .before .args .base) (c .before .before .before .before .before .before .before .before .before .args .msg .now) (bytes-in (c .before .before .before .before .before .before .before .before .before .args .base) (c .before .before .before .before .before .before .before .before .before .args .inline) (c .before .before .before .before .before .before .before .before .before .args .msg .now) (c .before .before .before .before .before .before .before .find-two .result .first) (c .before .before .before .before .before .before .before .find-two .ensures .0) (c .before .before .before .before .before .before .bytes-in .ensures)) (c .before .before .before .before .enum-told .given .1)) refl (c .before .before .before .index-in .ensures (c .before .before .before .before .before .before .before .before .before .args .base) (c .before .before .before .before .before .before .before .before .before .args .indexed) (c .before .before .before .before .before .before .before .before .before .args .msg .now) (c .before .before .before .before .before .before .before .find-two .ensures .1)) (c .before .at .given .1)
+returns-2 c = field-by-index (message-none (c .before .before .before .before .before .before .before .before .before .args .inline) (c .before .before .before .before .before .before .before .before .before .args .base) (c .before .before .before .before .before .before .before .before .before .args .msg .now) (piece-is (c .before .before .before .before .before .before .before .before .before .args .base) (c .before .before .before .before .before .before .before .before .before .args .msg .now) (c .before .before .before .before .before .before .before .before .before .args .inline) (c .before .before .before .before .before .before .before .find-two .result .first) (c .before .before .before .before .before .before .before .find-two .ensures .0) (c .before .before .before .before .before .before .bytes .ensures)) (c .before .before .before .before .enum-told .given .1)) refl (λ m w. index-is (c .before .before .before .before .before .before .before .before .before .args .base) (c .before .before .before .before .before .before .before .before .before .args .msg .now) (c .before .before .before .before .before .before .before .before .before .args .indexed) m w (c .before .before .before .before .before .before .before .find-two .result .second) (c .before .before .before .before .before .before .before .find-two .ensures .1) ∙ sym (c .before .before .before .index .ensures)) (c .before .at .given .1)
 
 -- src/arguments.rt:76:30
 slice-aggregate-check-from : tie.Need-slice-aggregate-check-from
-slice-aggregate-check-from c = let h = message-in (c .before .before .before .before .before .before .before .args .inline) (c .before .before .before .before .before .before .before .args .base) (c .before .before .before .before .before .before .before .args .msg .now) (bytes-in (c .before .before .before .before .before .before .before .args .base) (c .before .before .before .before .before .before .before .args .inline) (c .before .before .before .before .before .before .before .args .msg .now) (c .before .before .before .before .before .find-two .result .first) (c .before .before .before .before .before .find-two .ensures .0) (c .before .before .before .before .bytes-in .ensures)) (c .before .before .piece .given .1) in simp length-take (omega arith)
+slice-aggregate-check-from c = let h = message-in (c .before .before .before .before .before .before .before .args .inline) (c .before .before .before .before .before .before .before .args .base) (c .before .before .before .before .before .before .before .args .msg .now) (piece-is (c .before .before .before .before .before .before .before .args .base) (c .before .before .before .before .before .before .before .args .msg .now) (c .before .before .before .before .before .before .before .args .inline) (c .before .before .before .before .before .find-two .result .first) (c .before .before .before .before .before .find-two .ensures .0) (c .before .before .before .before .bytes .ensures)) (c .before .before .piece .given .1) in simp length-take (omega arith)
 
 -- src/arguments.rt:76:9
 check-from-requires : tie.Need-check-from-requires
@@ -71,21 +72,21 @@ error-requires c κs = search needs
 
 -- src/arguments.rt:78:9
 returns-3 : tie.Need-returns-3
-returns-3 c = field-refused (message-refused (c .before .before .before .before .before .before .before .before .before .before .before .args .inline) (c .before .before .before .before .before .before .before .before .before .before .before .args .base) (c .before .before .before .before .before .before .before .before .before .before .before .args .msg .now) (bytes-in (c .before .before .before .before .before .before .before .before .before .before .before .args .base) (c .before .before .before .before .before .before .before .before .before .before .before .args .inline) (c .before .before .before .before .before .before .before .before .before .before .before .args .msg .now) (c .before .before .before .before .before .before .before .before .before .find-two .result .first) (c .before .before .before .before .before .before .before .before .before .find-two .ensures .0) (c .before .before .before .before .before .before .before .before .bytes-in .ensures)) (c .before .before .before .before .before .before .piece .given .1) (c .before .before .before .check-from .ensures) (c .before .enum-told4 .given .1) (c .error .ensures _ (c .before .enum-told4 .given .1))) refl
+returns-3 c = field-refused (message-refused (c .before .before .before .before .before .before .before .before .before .before .before .args .inline) (c .before .before .before .before .before .before .before .before .before .before .before .args .base) (c .before .before .before .before .before .before .before .before .before .before .before .args .msg .now) (piece-is (c .before .before .before .before .before .before .before .before .before .before .before .args .base) (c .before .before .before .before .before .before .before .before .before .before .before .args .msg .now) (c .before .before .before .before .before .before .before .before .before .before .before .args .inline) (c .before .before .before .before .before .before .before .before .before .find-two .result .first) (c .before .before .before .before .before .before .before .before .before .find-two .ensures .0) (c .before .before .before .before .before .before .before .before .bytes .ensures)) (c .before .before .before .before .before .before .piece .given .1) (c .before .before .before .check-from .ensures) (c .before .enum-told4 .given .1) (c .error .ensures _ (c .before .enum-told4 .given .1))) refl
 
 -- src/arguments.rt:62:1
 returns-4 : tie.Need-returns-4
-returns-4 c = field-inline (message-cut (c .before .before .before .before .before .before .before .before .before .before .args .inline) (c .before .before .before .before .before .before .before .before .before .before .args .base) (c .before .before .before .before .before .before .before .before .before .before .args .msg .now) (bytes-in (c .before .before .before .before .before .before .before .before .before .before .args .base) (c .before .before .before .before .before .before .before .before .before .before .args .inline) (c .before .before .before .before .before .before .before .before .before .before .args .msg .now) (c .before .before .before .before .before .before .before .before .find-two .result .first) (c .before .before .before .before .before .before .before .before .find-two .ensures .0) (c .before .before .before .before .before .before .before .bytes-in .ensures)) (c .before .before .before .before .before .piece .given .1) (c .before .before .check-from .ensures) (c .enum-told3 .given .1)) refl
+returns-4 c = field-inline (message-cut (c .before .before .before .before .before .before .before .before .before .before .args .inline) (c .before .before .before .before .before .before .before .before .before .before .args .base) (c .before .before .before .before .before .before .before .before .before .before .args .msg .now) (piece-is (c .before .before .before .before .before .before .before .before .before .before .args .base) (c .before .before .before .before .before .before .before .before .before .before .args .msg .now) (c .before .before .before .before .before .before .before .before .before .before .args .inline) (c .before .before .before .before .before .before .before .before .find-two .result .first) (c .before .before .before .before .before .before .before .before .find-two .ensures .0) (c .before .before .before .before .before .before .before .bytes .ensures)) (c .before .before .before .before .before .piece .given .1) (c .before .before .check-from .ensures) (c .enum-told3 .given .1)) refl
 
 pub type-field-spec : {M : Type 1} → statement M
 type-field-spec =
     tie.close
     (tie.spec
     find-two-requires
-    bytes-in-requires
+    bytes-requires
     enum-known-piece
     enum-told
-    index-in-requires
+    index-requires
     enum-known-at
     enum-told-2
     returns

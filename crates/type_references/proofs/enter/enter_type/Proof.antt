@@ -10,7 +10,7 @@ use Rattle.schema.proofs.head.type_head.Reads as type-head-reads
 use Rattle.schema.proofs.name.class_name_at.Reads as class-name-at-reads
 use Rattle.schema.proofs.types.less.Reads as less-reads
 use Rattle.type_references.proofs.enter.count_arguments.Reads as count-arguments-reads
-use Rattle.type_references.proofs.enter.either.Reads as either-reads
+use Rattle.schema.proofs.types.either.Reads as either-reads
 use Rattle.type_references.proofs.enter.put_type.Reads as put-type-reads
 
 -- src/enter.rt:145:9
