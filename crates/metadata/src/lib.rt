@@ -21,7 +21,6 @@ use names::steps::absent;
 use schema::rows::put_head;
 use schema::rows::put_head_counts;
 
-pub mod lent; // lent.rt: `read` on lent scratch
 pub mod exported; // exported.rt: the function of the static library
 
 // Number and detail of a refusal (0 and 0: accepted), both lengths, the types entered, and the version as it came.
@@ -35,7 +34,7 @@ pub struct Answer {
 }
 
 // Metadata kinds 3 and 4: the head alone.
-fn head_alone(kind: u8, sheet: &mut [u8], text: &mut [u8]) -> Outcome
+pub fn head_alone(kind: u8, sheet: &mut [u8], text: &mut [u8]) -> Outcome
     ensures { λ r. ⌜ answered (now (sheet .entry)) (now (text .entry)) kind nothingRead ≡ told r (now (sheet .exit)) (now (text .exit)) ⌝ }
 {
     if sheet.len() < 20 {
@@ -242,7 +241,8 @@ fn read_longer(
 
 // A kind that carries declarations. `read_longer` is called from two places, so that the compiler keeps its frames apart from this one's: a
 // frame of many pages costs a small class more than its reading.
-fn read_any(
+// It requires what `fault_of` has found of the input: refusals 1 to 4 are the entries' own.
+pub fn read_any(
     kind: u8,
     d1: &[u16],
     d2: &[u16],
@@ -305,7 +305,8 @@ fn outcome_of(
     read_kind(kind_of(k), &*d1, &*d2, &*ends, sheet, text)
 }
 
-fn answer_of(outcome: Outcome, version: [i32; 3]) -> Answer
+// The answer with the version as it came.
+pub fn answer_of(outcome: Outcome, version: [i32; 3]) -> Answer
     ensures { λ r. ⌜ (r .number ≡ outcome .number) × (r .detail ≡ outcome .detail) × (r .sheet ≡ outcome .sheet) × (r .text ≡ outcome .text) × (r .types ≡ outcome .types) × (r .version ≡ version) ⌝ }
 {
     Answer {

@@ -1,12 +1,12 @@
 use Rattle.decoding.specs.DecodeTold.{readingOf}
 use Rattle.metadata.proofs.ReadLaws.{core-answered, core-again}
 use borrow.Author.Needs.{needs}
-use Rattle.metadata.proofs.lent.lent_body.Statement.{statement}
-use Rattle.metadata.proofs.lent.lent_body.Tie as tie
-use Rattle.metadata.proofs.lent.lent_body.Reads as reads
-use Rattle.metadata.proofs.lent.lent_body.Lts as lts
+use Rattle.lent_scratch.proofs.lent_body.Statement.{statement}
+use Rattle.lent_scratch.proofs.lent_body.Tie as tie
+use Rattle.lent_scratch.proofs.lent_body.Reads as reads
+use Rattle.lent_scratch.proofs.lent_body.Lts as lts
 use Rattle.decoding.proofs.decode.decode_in.Reads as decode-in-reads
 use Rattle.metadata.proofs.read_any.Reads as read-any-reads
 
 -- src/lent.rt:42:9
 decode-in-requires : tie.Need-decode-in-requires

@@ -1,16 +1,16 @@
 use mathlib.Core.Path.{_∙_, ap, sym}
 use lib.IntN.{ℤ}
 use mir.Facts.{toZ-ofZ}
 use Rattle.metadata.specs.Read.{read}
 use Rattle.decoding.specs.Told.{input}
 use Rattle.metadata.proofs.ReadLaws.{answer-is}
 use borrow.Author.Needs.{needs}
-use Rattle.metadata.proofs.lent.read_lent.Statement.{statement}
-use Rattle.metadata.proofs.lent.read_lent.Tie as tie
-use Rattle.metadata.proofs.lent.read_lent.Reads as reads
-use Rattle.metadata.proofs.lent.read_lent.Lts as lts
+use Rattle.lent_scratch.proofs.read_lent.Statement.{statement}
+use Rattle.lent_scratch.proofs.read_lent.Tie as tie
+use Rattle.lent_scratch.proofs.read_lent.Reads as reads
+use Rattle.lent_scratch.proofs.read_lent.Lts as lts
 use Rattle.metadata.proofs.answer_of.Reads as answer-of-reads
-use Rattle.metadata.proofs.lent.lent_outcome.Reads as lent-outcome-reads
+use Rattle.lent_scratch.proofs.lent_outcome.Reads as lent-outcome-reads
 
 -- src/lent.rt:168:9
 lent-outcome-requires : tie.Need-lent-outcome-requires

@@ -1,15 +1,15 @@
 use mathlib.Core.Path.{_∙_, ap}
 use mir.Facts.{toZ-ofZ}
 use Rattle.decoding.specs.Inputs.{kindOf}
 use Rattle.metadata.proofs.ReadLaws.{kind-within, read-fault, kept-is, read-kind-is}
 use borrow.Author.Needs.{needs}
-use Rattle.metadata.proofs.lent.lent_outcome.Statement.{statement}
-use Rattle.metadata.proofs.lent.lent_outcome.Tie as tie
-use Rattle.metadata.proofs.lent.lent_outcome.Reads as reads
-use Rattle.metadata.proofs.lent.lent_outcome.Lts as lts
+use Rattle.lent_scratch.proofs.lent_outcome.Statement.{statement}
+use Rattle.lent_scratch.proofs.lent_outcome.Tie as tie
+use Rattle.lent_scratch.proofs.lent_outcome.Reads as reads
+use Rattle.lent_scratch.proofs.lent_outcome.Lts as lts
 use Rattle.decoding.proofs.inputs.fault_of.Reads as fault-of-reads
 use Rattle.decoding.proofs.inputs.kind_of.Reads as kind-of-reads
-use Rattle.metadata.proofs.lent.lent_kind.Reads as lent-kind-reads
+use Rattle.lent_scratch.proofs.lent_kind.Reads as lent-kind-reads
 use Rattle.decoding.proofs.outcome.fault_refusal.Reads as fault-refusal-reads
 
 -- src/lent.rt:126:9

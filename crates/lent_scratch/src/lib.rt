@@ -5,12 +5,8 @@ ghost use Prim.Native.Nat.{_≤_};
 ghost use Rattle.decoding.specs.Answered.{answered};
 ghost use Rattle.decoding.specs.Told.{input};
 ghost use Rattle.decoding.specs.DecodeTold.{told, Kept, readingOf, readingBy};
 ghost use Rattle.metadata.specs.Read.{read};
 ghost use Rattle.metadata.specs.ReadTold.{toldBy};
-use crate::Answer;
-use crate::answer_of;
-use crate::head_alone;
-use crate::read_any;
 use decoding::decode::Core;
 use decoding::decode::decode_in;
 use decoding::inputs::Fault;
@@ -18,6 +14,10 @@ use decoding::inputs::fault_of;
 use decoding::inputs::kind_of;
 use decoding::outcome::Outcome;
 use decoding::outcome::fault_refusal;
+use metadata::Answer;
+use metadata::answer_of;
+use metadata::head_alone;
+use metadata::read_any;
 
 // A kind that carries declarations.
 fn lent_body(

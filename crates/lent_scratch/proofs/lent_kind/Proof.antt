@@ -1,12 +1,12 @@
 use mathlib.Core.Path.{refl}
 use Rattle.metadata.proofs.ReadLaws.{kind-alone, kind-carries}
 use borrow.Author.Needs.{needs}
-use Rattle.metadata.proofs.lent.lent_kind.Statement.{statement}
-use Rattle.metadata.proofs.lent.lent_kind.Tie as tie
-use Rattle.metadata.proofs.lent.lent_kind.Reads as reads
-use Rattle.metadata.proofs.lent.lent_kind.Lts as lts
+use Rattle.lent_scratch.proofs.lent_kind.Statement.{statement}
+use Rattle.lent_scratch.proofs.lent_kind.Tie as tie
+use Rattle.lent_scratch.proofs.lent_kind.Reads as reads
+use Rattle.lent_scratch.proofs.lent_kind.Lts as lts
 use Rattle.metadata.proofs.head_alone.Reads as head-alone-reads
-use Rattle.metadata.proofs.lent.lent_body.Reads as lent-body-reads
+use Rattle.lent_scratch.proofs.lent_body.Reads as lent-body-reads
 
 -- src/lent.rt:84:9
 head-alone-requires : tie.Need-head-alone-requires
