@@ -11,3 +11,4 @@ pub mod PartLaws
 pub mod UnitLaws
 pub mod WriteLaws
 pub mod AsciiLaws
+pub mod SizeLaws

@@ -3,3 +3,4 @@ pub mod Splits
 pub mod Plain
 pub mod WellFormed
 pub mod Told
+pub mod Sizes

@@ -9,6 +9,7 @@ ghost use Rattle.characters.specs.Characters.{width, placeOf, partFrom};
 ghost use Rattle.characters.specs.Told.{rowOf, rowTold, ranges, goOn, utf8At, pairedAt, utf16At, placeTold, PutCharacter};
 
 pub mod ascii; // ascii.rt: texts of characters below 128
+pub mod measure; // measure.rt: how long texts of 16-bit units are in UTF-8
 
 pub enum Character {
     Read { code: u32, next: usize },

@@ -13,3 +13,4 @@ pub mod LookupLaws
 pub mod ShortLaws
 pub mod UnwrapLaws
 pub mod PresentLaws
+pub mod WidthLaws

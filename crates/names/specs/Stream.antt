@@ -10,7 +10,7 @@ use lib.ListN.{length}
 use lib.Seq.{sets}
 use Rattle.foundation.specs.Choices.{if_then_else_, ifSome}
 use Rattle.foundation.specs.Texts.{Text, ascii}
-use Rattle.characters.specs.Characters.{fromUtf8, utf8, partFrom}
+use Rattle.characters.specs.Characters.{width, fromUtf8, utf8, partFrom}
 use Rattle.characters.specs.Plain.{instead, withDots, withSlashes, isAscii}
 use Rattle.names.specs.Name.{predefinedList, nameText}
 use Rattle.names.specs.Records.{INTERNAL-TO-CLASS-ID, DESC-TO-CLASS-ID, substituted}
@@ -57,6 +57,10 @@ printed slashes t = if slashes then substituted 0x2e 0x2f t else t
 -- a text in UTF-8, each character changed
 abbrev pub changedBytes : Change → Text → List ℕ
 changedBytes h t = utf8 (map (changed h) t)
+
+-- a change after which each character takes as many bytes as before
+abbrev pub KeepsWidth : Change → Type 0
+KeepsWidth h = (c : ℕ) → width (changed h c) ≡ width c
 
 abbrev pub sourceBytes : Change → Option Text → List ℕ
 sourceBytes h t = ifSome t [] (changedBytes h)

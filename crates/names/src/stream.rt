@@ -7,13 +7,14 @@ use crate::name::character_of;
 use crate::name::part_of;
 use characters::Character;
 use characters::ascii;
+use characters::measure;
 ghost use mathlib.Core.Path.{_≡_};
 ghost use mathlib.Core.Bool.{true};
 ghost use Prim.Native.Nat.{_+_, _^_, _≤_, _<_};
 ghost use lib.ListN.{length};
 ghost use Rattle.characters.specs.Characters.{fromUtf8, fromUtf16, utf8, partFrom};
 ghost use Rattle.names.specs.Name.{predefinedList, sourceText};
-ghost use Rattle.names.specs.Stream.{changedBytes, sourceBytes, nameBytes, PutText, PlainPart, prefixOf, printed};
+ghost use Rattle.names.specs.Stream.{changedBytes, KeepsWidth, sourceBytes, nameBytes, PutText, PlainPart, prefixOf, printed};
 
 // The text of some bytes, each character changed, one by one. Answers the place after it.
 fn put_utf8(s: &[u8], change: Change, area: &mut [u8], at: usize) -> usize
@@ -58,8 +59,44 @@ fn put_utf16(
     }
 }
 
+// Does a change keep how many bytes each character takes?
+fn keeps_width(change: Change) -> bool
+    ensures { λ r. ⌜ (r ≡ true → KeepsWidth change) ⌝ }
+{
+    characters::width_of(change.from) == characters::width_of(change.to)
+}
+
+// The place after the text of some bytes, each character changed, where nothing is written: at once where it is made of characters
+// below 128 and no character's width changes.
+fn past_bytes(s: &[u8], change: Change, at: usize) -> usize
+    requires { ⌜ at + length (changedBytes change (fromUtf8 (now s))) < 2 ^ 64 ⌝ }
+    ensures { λ r. ⌜ r ≡ at + length (changedBytes change (fromUtf8 (now (s .entry)))) ⌝ }
+{
+    if keeps_width(change) {
+        if ascii::ascii_bytes(&*s) {
+            return at + s.len();
+        }
+    }
+    let mut none = [0u8; 0];
+    put_utf8(&*s, change, &mut none, at)
+}
+
+// The same of units of d2: by the units alone, where the part is there and no character's width changes.
+fn past_units(units: &[u16], start: usize, end: usize, change: Change, at: usize) -> usize
+    requires { ⌜ at + length (changedBytes change (fromUtf16 (partFrom start end (now units)))) < 2 ^ 64 ⌝ }
+    ensures { λ r. ⌜ r ≡ at + length (changedBytes change (fromUtf16 (partFrom start end (now (units .entry))))) ⌝ }
+{
+    if end <= units.len() {
+        if keeps_width(change) {
+            return at + measure::utf8_size(&*units, start, end);
+        }
+    }
+    let mut none = [0u8; 0];
+    put_utf16(&*units, start, end, change, &mut none, at)
+}
+
 // The text of some bytes, each character changed: at once where it is made of characters below 128, none is replaced, and there is room
-// for all of it or, as in measuring, for none.
+// for all of it; where there is room for none, as in measuring, it is only measured.
 fn put_bytes(s: &[u8], change: Change, area: &mut [u8], at: usize) -> usize
     requires { ⌜ at + length (changedBytes change (fromUtf8 (now s))) < 2 ^ 64 ⌝ }
     ensures { λ r. ⌜ PutText (changedBytes change (fromUtf8 (now (s .entry)))) at r (now (area .entry)) (now (area .exit)) ⌝ }
@@ -75,6 +112,9 @@ fn put_bytes(s: &[u8], change: Change, area: &mut [u8], at: usize) -> usize
                 return next;
             }
         }
+    }
+    if area.len() <= at {
+        return past_bytes(&*s, change, at);
     }
     put_utf8(&*s, change, area, at)
 }
@@ -92,7 +132,7 @@ fn plain_units(units: &[u16], start: usize, end: usize) -> bool
     ascii::ascii_units(&*units, start, end)
 }
 
-// The same of units of d2.
+// The text of some units of d2, in the same way.
 fn put_units(
     units: &[u16],
     start: usize,
@@ -115,6 +155,9 @@ fn put_units(
                 return next;
             }
         }
+    }
+    if area.len() <= at {
+        return past_units(&*units, start, end, change, at);
     }
     put_utf16(&*units, start, end, change, area, at)
 }

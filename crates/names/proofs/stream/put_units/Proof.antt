@@ -3,54 +3,64 @@ use Rattle.characters.specs.Characters.{partFrom}
 use Rattle.characters.specs.Plain.{shown}
 use Rattle.characters.proofs.PartLaws.{part-long}
 use Rattle.names.proofs.AsciiLaws.{units-bytes, shown-put, shown-past, shown-fits}
+use Rattle.names.proofs.WidthLaws.{put-past}
 use borrow.Author.Needs.{needs}
 use Rattle.names.proofs.stream.put_units.Statement.{statement}
 use Rattle.names.proofs.stream.put_units.Tie as tie
 use Rattle.names.proofs.stream.put_units.Reads as reads
 use Rattle.names.proofs.stream.put_units.Lts as lts
 use Rattle.characters.proofs.ascii.copy_units.Reads as copy-units-reads
+use Rattle.names.proofs.stream.past_units.Reads as past-units-reads
 use Rattle.names.proofs.stream.plain_units.Reads as plain-units-reads
 use Rattle.names.proofs.stream.put_utf16.Reads as put-utf16-reads
 
--- src/stream.rt:108:12
+-- src/stream.rt:149:12
 plain-units-requires : tie.Need-plain-units-requires
 plain-units-requires c κs = search needs
 
--- src/stream.rt:109:30
+-- src/stream.rt:150:30
 sub-next : tie.Need-sub-next
 sub-next c = let p = c .before .plain-units .ensures (c .if2 .taken) in omega (arith, p .ordered)
 
--- src/stream.rt:109:24
+-- src/stream.rt:150:24
 add-next : tie.Need-add-next
 add-next c = let a = c .before .before .before .before .before .before .args in let p = c .before .plain-units .ensures (c .if2 .taken) in record { fits = shown-fits (shown (a .change .dots) (a .change .slashes)) (partFrom (a .start) (a .end) (a .units .now)) (a .at) (units-bytes (a .change) (c .before .before .if1 .taken) _ (p .ascii)) (part-long (a .units .now) (a .start) (a .end) (p .ordered) (p .inside)) _ (c .before .before .before .before .before .before .pre) }
 
--- src/stream.rt:111:17
+-- src/stream.rt:152:17
 returns : tie.Need-returns
 returns c = let a = c .before .before .before .before .before .before .before .args in let p = c .before .before .plain-units .ensures (c .before .if2 .taken) in shown-past (shown (a .change .dots) (a .change .slashes)) (partFrom (a .start) (a .end) (a .units .now)) (a .at) (units-bytes (a .change) (c .before .before .before .if1 .taken) _ (p .ascii)) (part-long (a .units .now) (a .start) (a .end) (p .ordered) (p .inside)) (c .if3 .taken)
 
--- src/stream.rt:114:17
+-- src/stream.rt:155:17
 copy-units-requires : tie.Need-copy-units-requires
 copy-units-requires c κs = let p = c .before .before .before .before .plain-units .ensures (c .before .before .before .if2 .taken) in (p .inside, p .ascii, c .before .if4 .taken)
 
--- src/stream.rt:123:17
+-- src/stream.rt:156:17
 same-length : tie.Need-same-length
 same-length c = search needs
 
--- src/stream.rt:123:17
+-- src/stream.rt:156:17
 returns-2 : tie.Need-returns-2
 returns-2 c = let a = c .before .before .before .before .before .before .before .before .before .before .before .before .args in let p = c .before .before .before .before .before .before .before .plain-units .ensures (c .before .before .before .before .before .before .if2 .taken) in shown-put (shown (a .change .dots) (a .change .slashes)) (partFrom (a .start) (a .end) (a .units .now)) (a .at) (units-bytes (a .change) (c .before .before .before .before .before .before .before .before .if1 .taken) _ (p .ascii)) (part-long (a .units .now) (a .start) (a .end) (p .ordered) (p .inside)) (c .before .before .copy-units .ensures)
 
--- src/stream.rt:127:5
+-- src/stream.rt:161:9
+past-units-requires : tie.Need-past-units-requires
+past-units-requires c κs = search needs
+
+-- src/stream.rt:161:9
+returns-3 : tie.Need-returns-3
+returns-3 c = put-past _ (c .before .if5 .taken) (c .past-units .ensures)
+
+-- src/stream.rt:163:5
 put-utf16-requires : tie.Need-put-utf16-requires
 put-utf16-requires c κs = search needs
 
--- src/stream.rt:96:1
+-- src/stream.rt:137:1
 same-length-2 : tie.Need-same-length-2
 same-length-2 c = search needs
 
--- src/stream.rt:96:1
-returns-3 : tie.Need-returns-3
-returns-3 c = search needs
+-- src/stream.rt:137:1
+returns-4 : tie.Need-returns-4
+returns-4 c = search needs
 
 pub put-units-spec : {M : Type 1} → statement M
 put-units-spec =
@@ -63,6 +73,8 @@ put-units-spec =
     copy-units-requires
     same-length
     returns-2
+    past-units-requires
+    returns-3
     put-utf16-requires
     same-length-2
-    returns-3)
+    returns-4)
