@@ -16,6 +16,7 @@ use mir.Syntax.{w32}
 use mir.Val.{SFits, ofZ, toZ}
 use mir.Facts.{toZ-ofZ}
 use borrow.Author.Tests.{lt-ltb, le-ltb, le-leb, lt-leb, leb-true}
+use Rattle.foundation.specs.Choices.{if_then_else_}
 use Rattle.foundation.specs.Results.{d1TooLong, d2TooLong, stringEnds, newerVersion}
 use Rattle.foundation.proofs.ChoiceLaws.{if-ind, and-left, and-right}
 use Rattle.encoding.specs.Encoding.{unitLimit}
