@@ -103,10 +103,14 @@ def misfit(edit, functions):
     return None if edit.old != edit.new else 'it changes nothing'
 
 
+def restore(crate, sources):
+    for file in sources.glob('*.rt'):
+        shutil.copy(ROOT / 'crates' / crate / 'src' / file.name, file)
+
+
 def apply(batch, functions, sources):
     """Writes the files of one batch, from the last function of a file to the first, so that places stay."""
-    for file in sources.glob('*.rt'):
-        shutil.copy(ROOT / 'crates' / batch[0].crate / 'src' / file.name, file)
+    restore(batch[0].crate, sources)
     for edit in sorted(batch, key=lambda edit: -functions[edit.function].start):
         function, file = functions[edit.function], sources / edit.file
         text = file.read_text()
@@ -168,8 +172,9 @@ def try_crate(crate, edits, functions, copy, count):
         return
     parts = batches(edits, reached(functions))
     print(f'{crate}: {len(edits)} wrong answers in {len(parts)} runs', flush=True)
+    sources = copy / 'crates' / crate / 'src'
     for batch in parts:
-        apply(batch, functions, copy / 'crates' / crate / 'src')
+        apply(batch, functions, sources)
         log = check(crate, copy)
         for edit in batch:
             kind, words = verdict(edit, log)
@@ -177,6 +182,8 @@ def try_crate(crate, edits, functions, copy, count):
             print(f'{"!" if kind == WRONG else " "} {crate} {edit.function}: {edit.words}: {words}', flush=True)
         if not re.search('^fn ', log, re.M):
             print(log[:1500])
+    # the crates above it are to stand on the crate as it is
+    restore(crate, sources)
 
 
 def main(words):
