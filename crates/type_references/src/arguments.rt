@@ -8,8 +8,10 @@ use wire::WireError;
 use wire::message::Checked;
 use wire::message::Indexed;
 use wire::message::Piece;
+use wire::message::bytes;
 use wire::message::check_from;
 use wire::message::find_two;
+use wire::message::index;
 use wire::message::next_body;
 
 // Field numbers of metadata.proto's Type and Type.Argument.
@@ -82,17 +84,14 @@ fn is_kept(
 ) -> bool
     ensures { λ r. ⌜ KeptTold (now (payload .entry)) (now («entry_starts» .entry)) (now («entry_ends» .entry)) tables (now (msg .entry)) base left r ⌝ }
 {
-    let two = find_two(&*msg, base, ARGUMENT_TYPE, ARGUMENT_TYPE_ID);
-    let first = two.first;
-    let inner = bytes_in(first);
+    let inner = bytes(&*msg, base, ARGUMENT_TYPE);
     let Piece::Nothing = inner else {
         return true;
     };
     if left == 0 {
         return false;
     }
-    let second = two.second;
-    let found = index_in(second);
+    let found = index(&*msg, base, ARGUMENT_TYPE_ID);
     let Indexed::At { index: i } = found else {
         return false;
     };
