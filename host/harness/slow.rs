@@ -60,6 +60,8 @@ pub fn slowest() -> Vec<(&'static str, Input)> {
     let looking_up = filled(&bytes(4, &number(2, 3999)), records.len() + 8);
     let replaced = [bytes(6, "a/".repeat(8000).as_bytes()), bytes(5, &[0x61, 0x62]), number(3, 1)].concat();
     let replaced = bytes(1, &replaced);
+    let broken = bytes(1, &bytes(6, &[0xff; 16000]));
+    let widened = bytes(1, &[bytes(6, &[0x61; 16000]), bytes(5, &[0x61, 0xe9, 0x01])].concat());
     let naming = filled(&bytes(4, &number(2, 0)), replaced.len() + 8);
     let strangers = filled(&[0x00, 0x00], 16);
     let long = "\u{2020}".repeat(UNITS);
@@ -72,6 +74,8 @@ pub fn slowest() -> Vec<(&'static str, Input)> {
         ("a chain of 2,047 inline arrays", package(&[], &chain, &names())),
         ("4,000 records, a name at the last in each property", package(&records, &looking_up, &names())),
         ("a record of 16,000 bytes with steps, in each property", package(&replaced, &naming, &names())),
+        ("a record of 16,000 bytes that are no UTF-8, in each property", package(&broken, &naming, &names())),
+        ("a record of 16,000 bytes that a step widens, in each property", package(&widened, &naming, &names())),
         (
             "fields of a function that nothing asks for",
             package(&[], &bytes(3, &function_with(0, &strangers)), &names()),
