@@ -66,7 +66,7 @@ enum {
  *     them until the call returns;
  *   - sheet, text and answer overlap neither each other nor d1, d2 or ends. (d1, d2 and ends are only read; they may overlap each other.)
  *
- * Stack: less than 64 KiB for a d1 of at most 256 units, less than 600 KiB for any other input; lend a thread 1 MiB.
+ * Stack: less than 96 KiB for a d1 of at most 1,024 units, less than 640 KiB for any other input; lend a thread 1 MiB.
  *
  * What the caller gets: if answer[SHEET_NUMBER] is 0, the sheet stands in the first answer[SHEET_LENGTH] bytes of its area and the text in the
  * first answer[SHEET_TEXT_LENGTH] bytes of its own. All other bytes of both areas are as they were; after a refusal all of them are.
