@@ -36,13 +36,13 @@ fn open_body(
 ) -> Opened
     ensures { λ r. ⌜ BodyTold (now (bytes .entry)) at records (now («entry_starts» .exit)) (now («entry_ends» .exit)) r ⌝ }
 {
-    let checked = check_from(&*bytes, 0, at);
+    let checked = check_from(bytes, 0, at);
     let Checked::Whole = checked else {
         return Opened::Refused {
             error: checked.error(),
         };
     };
-    let types = index_types(&*bytes, at, TYPE_TABLE, entry_starts, entry_ends);
+    let types = index_types(bytes, at, TYPE_TABLE, entry_starts, entry_ends);
     match types {
         TypeIndex::Types { count, first } => Opened::Body {
             at,
@@ -80,7 +80,7 @@ fn open_table(
     };
     let records = index_records(&bytes[..end], start, starts, stops, firsts);
     match records {
-        RecordIndex::Records { count } => open_body(&*bytes, rest, count, entry_starts, entry_ends),
+        RecordIndex::Records { count } => open_body(bytes, rest, count, entry_starts, entry_ends),
         RecordIndex::Refused { error } => Opened::Refused { error },
         RecordIndex::NoRoom => Opened::NoRoom,
     }
@@ -97,10 +97,10 @@ pub fn open_payload(
 ) -> Opened
     ensures { λ r. ⌜ OpenedTold (now (bytes .entry)) (now (starts .exit)) (now (stops .exit)) (now (firsts .exit)) (now («entry_starts» .exit)) (now («entry_ends» .exit)) r ⌝ }
 {
-    let table = wire::reader::open_payload(&*bytes);
+    let table = wire::reader::open_payload(bytes);
     match table {
         wire::reader::Opened::Parts { start, end, rest } => open_table(
-            &*bytes,
+            bytes,
             start,
             end,
             rest,

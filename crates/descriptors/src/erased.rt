@@ -56,7 +56,7 @@ fn may_be_listed(payload: &[u8], d2: &[u16], name: Name) -> bool
     if operation == 2 {
         return true;
     }
-    let character = utf16_at(&*d2, name.start, name.end);
+    let character = utf16_at(d2, name.start, name.end);
     let Character::Read { code, next: _ } = character else {
         return true;
     };
@@ -68,11 +68,11 @@ fn name_meaning(payload: &[u8], d2: &[u16], name: Name) -> Meaning
     requires { ⌜ (length (now payload) ≤ 32768) × (length (now d2) ≤ 32768) ⌝ }
     ensures { λ r. ⌜ Means (nameBytes (now (payload .entry)) (now (d2 .entry)) name true) r ⌝ }
 {
-    if !may_be_listed(&*payload, &*d2, name) {
+    if !may_be_listed(payload, d2, name) {
         return Meaning::Other;
     }
     let mut bytes = [0u8; 36];
-    let size = put_name(&*payload, &*d2, name, true, &mut bytes, 0);
+    let size = put_name(payload, d2, name, true, &mut bytes, 0);
     if 36 < size {
         return Meaning::Other;
     }
@@ -85,7 +85,7 @@ fn put_class(payload: &[u8], d2: &[u16], name: Name, area: &mut [u8], at: usize)
     ensures { λ r. ⌜ PutText (0x4c ∷ (nameBytes (now (payload .entry)) (now (d2 .entry)) name true ++ (0x3b ∷ []))) at r (now (area .entry)) (now (area .exit)) ⌝ }
 {
     put(area, at, b'L');
-    let next = put_name(&*payload, &*d2, name, true, area, at + 1);
+    let next = put_name(payload, d2, name, true, area, at + 1);
     put(area, next, b';');
     next + 1 - at
 }
@@ -111,7 +111,7 @@ fn put_printed(
             TypePart::Bracket
         }
         Printed::ClassItself => TypePart::Whole {
-            size: put_class(&*payload, &*d2, name, area, at),
+            size: put_class(payload, d2, name, area, at),
         },
         Printed::Nothing => TypePart::Absent,
     }
@@ -143,20 +143,20 @@ fn put_type(
     let found = head.name;
     let name = class_name_at(
         found,
-        &*payload,
-        &*d2,
-        &*ends,
-        &*starts,
-        &*stops,
-        &*firsts,
+        payload,
+        d2,
+        ends,
+        starts,
+        stops,
+        firsts,
         tables.records,
     );
     if !is_there(name) {
         return TypePart::Absent;
     }
-    let meaning = name_meaning(&*payload, &*d2, name);
+    let meaning = name_meaning(payload, d2, name);
     let printed = printed_as(meaning, either(nullable, head.nullable), position);
-    put_printed(printed, &*payload, &*d2, name, area, at)
+    put_printed(printed, payload, d2, name, area, at)
 }
 
 // The part of the type whose message stands from start to end: as many [ as arrays are nested, then what the innermost comes to.
@@ -193,14 +193,14 @@ pub fn put_erased(
             last,
             said,
             here,
-            &*payload,
-            &*d2,
-            &*ends,
-            &*starts,
-            &*stops,
-            &*firsts,
-            &*entry_starts,
-            &*entry_ends,
+            payload,
+            d2,
+            ends,
+            starts,
+            stops,
+            firsts,
+            entry_starts,
+            entry_ends,
             tables,
             area,
             next,
@@ -215,12 +215,12 @@ pub fn put_erased(
             TypePart::Bracket => {}
         }
         let found = first_argument(
-            &*payload,
+            payload,
             first,
             last,
             less(deep),
-            &*entry_starts,
-            &*entry_ends,
+            entry_starts,
+            entry_ends,
             tables,
         );
         let Found::Type {

@@ -66,11 +66,11 @@ const RECEIVER_ROLE: u8 = 2;
 pub fn has_receiver(msg: &[u8], base: u32, inline: u32, indexed: u32) -> bool
     ensures { λ r. ⌜ ReceiverTold (now (msg .entry)) base inline indexed r ⌝ }
 {
-    let body = bytes(&*msg, base, inline);
+    let body = bytes(msg, base, inline);
     let Piece::Nothing = body else {
         return true;
     };
-    let occurrence = find(&*msg, base, indexed);
+    let occurrence = find(msg, base, indexed);
     let Found::Nothing = occurrence else {
         return true;
     };
@@ -120,20 +120,20 @@ pub fn constructor_in(
     requires { ⌜ Affords (now payload) (now d2) (memberCost (length (now msg))) state × (base + length (now msg) ≤ length (now payload)) ⌝ }
     ensures { λ r. ⌜ MemberTold constructorIn constructorRows (memberCost (length (now (msg .entry)))) (lent (now (payload .entry)) (now (d2 .entry)) (now (ends .entry)) (now (starts .entry)) (now (stops .entry)) (now (firsts .entry)) (now («entry_starts» .entry)) (now («entry_ends» .entry)) tables) (now (msg .entry)) base state r (now (sheet .entry)) (now (sheet .exit)) (now (text .entry)) (now (text .exit)) ⌝ }
 {
-    let flags = flags_in(&*msg, base, CONSTRUCTOR_FLAGS, OMITTED);
+    let flags = flags_in(msg, base, CONSTRUCTOR_FLAGS, OMITTED);
     let signed = signature_in(
-        &*msg,
+        msg,
         base,
         SIGNATURE,
-        &*payload,
-        &*ends,
-        &*starts,
-        &*stops,
-        &*firsts,
+        payload,
+        ends,
+        starts,
+        stops,
+        firsts,
         tables.records,
     );
     let names = names_of(signed);
-    let head = put_constructor(&*payload, &*d2, flags, names, state, sheet, text);
+    let head = put_constructor(payload, d2, flags, names, state, sheet, text);
     let counted = head.sheet;
     let past = counted + 2;
     let after = State {
@@ -142,17 +142,17 @@ pub fn constructor_in(
         types: head.types,
     };
     let parameters = parameters_in(
-        &*msg,
+        msg,
         base,
         CONSTRUCTOR_PARAMETER,
-        &*payload,
-        &*d2,
-        &*ends,
-        &*starts,
-        &*stops,
-        &*firsts,
-        &*entry_starts,
-        &*entry_ends,
+        payload,
+        d2,
+        ends,
+        starts,
+        stops,
+        firsts,
+        entry_starts,
+        entry_ends,
         tables,
         after,
         sheet,
@@ -185,7 +185,7 @@ fn function_head(
     requires { ⌜ Affords (now payload) (now d2) functionHeadCost state ⌝ }
     ensures { λ r. ⌜ FunctionHead (now (payload .entry)) (now (d2 .entry)) (now (msg .entry)) base name signed state r (now (sheet .entry)) (now (sheet .exit)) (now (text .entry)) (now (text .exit)) ⌝ }
 {
-    let flags = flags_in(&*msg, base, FUNCTION_FLAGS, OMITTED);
+    let flags = flags_in(msg, base, FUNCTION_FLAGS, OMITTED);
     let own = names_of(signed);
     let own_name = own.name;
     let descriptor = own.descriptor;
@@ -194,10 +194,10 @@ fn function_head(
         name: either,
         descriptor,
     };
-    let receiver = has_receiver(&*msg, base, RECEIVER_TYPE, RECEIVER_TYPE_ID);
+    let receiver = has_receiver(msg, base, RECEIVER_TYPE, RECEIVER_TYPE_ID);
     put_function(
-        &*payload,
-        &*d2,
+        payload,
+        d2,
         name,
         flags,
         names,
@@ -230,19 +230,19 @@ fn function_types(
     ensures { λ r. ⌜ FunctionTypesTold (lent (now (payload .entry)) (now (d2 .entry)) (now (ends .entry)) (now (starts .entry)) (now (stops .entry)) (now (firsts .entry)) (now («entry_starts» .entry)) (now («entry_ends» .entry)) tables) (now (msg .entry)) base signed state r (now (sheet .entry)) (now (sheet .exit)) (now (text .entry)) (now (text .exit)) ⌝ }
 {
     let receiver = declared_type(
-        &*msg,
+        msg,
         base,
         RECEIVER_TYPE,
         RECEIVER_TYPE_ID,
         RECEIVER_ROLE,
-        &*payload,
-        &*d2,
-        &*ends,
-        &*starts,
-        &*stops,
-        &*firsts,
-        &*entry_starts,
-        &*entry_ends,
+        payload,
+        d2,
+        ends,
+        starts,
+        stops,
+        firsts,
+        entry_starts,
+        entry_ends,
         tables,
         state,
         sheet,
@@ -257,19 +257,19 @@ fn function_types(
         };
     }
     declared_type(
-        &*msg,
+        msg,
         base,
         RETURN_TYPE,
         RETURN_TYPE_ID,
         RETURN_ROLE,
-        &*payload,
-        &*d2,
-        &*ends,
-        &*starts,
-        &*stops,
-        &*firsts,
-        &*entry_starts,
-        &*entry_ends,
+        payload,
+        d2,
+        ends,
+        starts,
+        stops,
+        firsts,
+        entry_starts,
+        entry_ends,
         tables,
         next,
         sheet,
@@ -299,41 +299,31 @@ pub fn function_in(
     ensures { λ r. ⌜ MemberTold functionIn functionRows (memberCost (length (now (msg .entry)))) (lent (now (payload .entry)) (now (d2 .entry)) (now (ends .entry)) (now (starts .entry)) (now (stops .entry)) (now (firsts .entry)) (now («entry_starts» .entry)) (now («entry_ends» .entry)) tables) (now (msg .entry)) base state r (now (sheet .entry)) (now (sheet .exit)) (now (text .entry)) (now (text .exit)) ⌝ }
 {
     let name = name_in(
-        &*msg,
+        msg,
         base,
         FUNCTION_NAME,
-        &*payload,
-        &*ends,
-        &*starts,
-        &*stops,
-        &*firsts,
+        payload,
+        ends,
+        starts,
+        stops,
+        firsts,
         tables.records,
     );
     if !is_there(name) {
         return Picked::Dropped;
     }
     let signed = signature_in(
-        &*msg,
+        msg,
         base,
         SIGNATURE,
-        &*payload,
-        &*ends,
-        &*starts,
-        &*stops,
-        &*firsts,
+        payload,
+        ends,
+        starts,
+        stops,
+        firsts,
         tables.records,
     );
-    let head = function_head(
-        &*msg,
-        base,
-        name,
-        signed,
-        &*payload,
-        &*d2,
-        state,
-        sheet,
-        text,
-    );
+    let head = function_head(msg, base, name, signed, payload, d2, state, sheet, text);
     let place = head.sheet;
     let past = place + 2;
     let after = State {
@@ -342,17 +332,17 @@ pub fn function_in(
         types: head.types,
     };
     let parameters = parameters_in(
-        &*msg,
+        msg,
         base,
         FUNCTION_PARAMETER,
-        &*payload,
-        &*d2,
-        &*ends,
-        &*starts,
-        &*stops,
-        &*firsts,
-        &*entry_starts,
-        &*entry_ends,
+        payload,
+        d2,
+        ends,
+        starts,
+        stops,
+        firsts,
+        entry_starts,
+        entry_ends,
         tables,
         after,
         sheet,
@@ -362,17 +352,17 @@ pub fn function_in(
         return refused_list(parameters);
     };
     let types = function_types(
-        &*msg,
+        msg,
         base,
         signed,
-        &*payload,
-        &*d2,
-        &*ends,
-        &*starts,
-        &*stops,
-        &*firsts,
-        &*entry_starts,
-        &*entry_ends,
+        payload,
+        d2,
+        ends,
+        starts,
+        stops,
+        firsts,
+        entry_starts,
+        entry_ends,
         tables,
         next,
         sheet,

@@ -16,7 +16,7 @@ pub const OMITTED_SMALL: u64 = 0;
 pub fn flags_in(msg: &[u8], base: u32, number: u32, omitted: u64) -> u64
     ensures { λ r. ⌜ ((m : Message) → cut (_from_ base (now (msg .entry))) ≡ ok m → ifSome (varintOf number m) omitted (λ flags. flags) ≡ r) ⌝ }
 {
-    let found = varint(&*msg, base, number);
+    let found = varint(msg, base, number);
     match found {
         Number::Value { value } => value,
         Number::Nothing => omitted,

@@ -51,7 +51,7 @@ const VARARG_ROLE: u8 = 4;
 fn declares_default(msg: &[u8], base: u32) -> bool
     ensures { λ r. ⌜ ((m : Message) → cut (_from_ base (now (msg .entry))) ≡ ok m → bitOf 1 (smallFlagsIn ValueParameter·flags m) ≡ r) ⌝ }
 {
-    let flags = flags_in(&*msg, base, FLAGS, OMITTED_SMALL);
+    let flags = flags_in(msg, base, FLAGS, OMITTED_SMALL);
     flags / 2 % 2 == 1
 }
 
@@ -76,19 +76,19 @@ fn parameter_types(
     ensures { λ r. ⌜ ParameterTypesTold (lent (now (payload .entry)) (now (d2 .entry)) (now (ends .entry)) (now (starts .entry)) (now (stops .entry)) (now (firsts .entry)) (now («entry_starts» .entry)) (now («entry_ends» .entry)) tables) (now (msg .entry)) base state r (now (sheet .entry)) (now (sheet .exit)) (now (text .entry)) (now (text .exit)) ⌝ }
 {
     let own = declared_type(
-        &*msg,
+        msg,
         base,
         TYPE,
         TYPE_ID,
         PARAMETER_ROLE,
-        &*payload,
-        &*d2,
-        &*ends,
-        &*starts,
-        &*stops,
-        &*firsts,
-        &*entry_starts,
-        &*entry_ends,
+        payload,
+        d2,
+        ends,
+        starts,
+        stops,
+        firsts,
+        entry_starts,
+        entry_ends,
         tables,
         state,
         sheet,
@@ -98,19 +98,19 @@ fn parameter_types(
         return own;
     };
     declared_type(
-        &*msg,
+        msg,
         base,
         VARARG_TYPE,
         VARARG_TYPE_ID,
         VARARG_ROLE,
-        &*payload,
-        &*d2,
-        &*ends,
-        &*starts,
-        &*stops,
-        &*firsts,
-        &*entry_starts,
-        &*entry_ends,
+        payload,
+        d2,
+        ends,
+        starts,
+        stops,
+        firsts,
+        entry_starts,
+        entry_ends,
         tables,
         next,
         sheet,
@@ -139,32 +139,32 @@ pub fn parameter_in(
     ensures { λ r. ⌜ MemberTold parameterIn parameterRows parameterCost (lent (now (payload .entry)) (now (d2 .entry)) (now (ends .entry)) (now (starts .entry)) (now (stops .entry)) (now (firsts .entry)) (now («entry_starts» .entry)) (now («entry_ends» .entry)) tables) (now (msg .entry)) base state r (now (sheet .entry)) (now (sheet .exit)) (now (text .entry)) (now (text .exit)) ⌝ }
 {
     let name = name_in(
-        &*msg,
+        msg,
         base,
         NAME,
-        &*payload,
-        &*ends,
-        &*starts,
-        &*stops,
-        &*firsts,
+        payload,
+        ends,
+        starts,
+        stops,
+        firsts,
         tables.records,
     );
     if !is_there(name) {
         return Picked::Dropped;
     }
-    let default = declares_default(&*msg, base);
-    let head = put_parameter(&*payload, &*d2, name, default, state, sheet, text);
+    let default = declares_default(msg, base);
+    let head = put_parameter(payload, d2, name, default, state, sheet, text);
     picked(parameter_types(
-        &*msg,
+        msg,
         base,
-        &*payload,
-        &*d2,
-        &*ends,
-        &*starts,
-        &*stops,
-        &*firsts,
-        &*entry_starts,
-        &*entry_ends,
+        payload,
+        d2,
+        ends,
+        starts,
+        stops,
+        firsts,
+        entry_starts,
+        entry_ends,
         tables,
         head,
         sheet,
@@ -197,7 +197,7 @@ fn parameters_at(
     let mut count: usize = 0;
     let mut next = state;
     loop {
-        let piece = next_body(&*msg, base, number, at);
+        let piece = next_body(msg, base, number, at);
         let Piece::Body { start, end } = piece else {
             return Listed::Done { state: next, count };
         };
@@ -205,14 +205,14 @@ fn parameters_at(
         let parameter = parameter_in(
             &msg[start..end],
             base + start as u32,
-            &*payload,
-            &*d2,
-            &*ends,
-            &*starts,
-            &*stops,
-            &*firsts,
-            &*entry_starts,
-            &*entry_ends,
+            payload,
+            d2,
+            ends,
+            starts,
+            stops,
+            firsts,
+            entry_starts,
+            entry_ends,
             tables,
             next,
             sheet,
@@ -250,7 +250,7 @@ pub fn parameters_in(
     requires { ⌜ Affords (now payload) (now d2) (parameterCost * length (now msg)) state × (base + length (now msg) ≤ length (now payload)) ⌝ }
     ensures { λ r. ⌜ ListTold parameterIn parameterRows (parameterCost * length (now (msg .entry))) (lent (now (payload .entry)) (now (d2 .entry)) (now (ends .entry)) (now (starts .entry)) (now (stops .entry)) (now (firsts .entry)) (now («entry_starts» .entry)) (now («entry_ends» .entry)) tables) (now (msg .entry)) base number state r (now (sheet .entry)) (now (sheet .exit)) (now (text .entry)) (now (text .exit)) ⌝ }
 {
-    let checked = check_messages(&*msg, base, number);
+    let checked = check_messages(msg, base, number);
     let Checked::Whole = checked else {
         return Listed::Refused {
             stop: Stop::Wire {
@@ -259,17 +259,17 @@ pub fn parameters_in(
         };
     };
     parameters_at(
-        &*msg,
+        msg,
         base,
         number,
-        &*payload,
-        &*d2,
-        &*ends,
-        &*starts,
-        &*stops,
-        &*firsts,
-        &*entry_starts,
-        &*entry_ends,
+        payload,
+        d2,
+        ends,
+        starts,
+        stops,
+        firsts,
+        entry_starts,
+        entry_ends,
         tables,
         state,
         sheet,

@@ -60,7 +60,7 @@ const RECEIVER_ROLE: u8 = 2;
 fn is_default(msg: &[u8], base: u32, number: u32) -> bool
     ensures { λ r. ⌜ ((m : Message) → cut (_from_ base (now (msg .entry))) ≡ ok m → accessorIsDefault number m ≡ r) ⌝ }
 {
-    let flags = flags_in(&*msg, base, number, OMITTED_SMALL);
+    let flags = flags_in(msg, base, number, OMITTED_SMALL);
     flags / 64 % 2 != 1
 }
 
@@ -79,16 +79,16 @@ fn put_record(
     requires { ⌜ Room (2 ^ 61) (now payload) (now d2) state ⌝ }
     ensures { λ r. ⌜ RecordTold (now (payload .entry)) (now (d2 .entry)) (now (msg .entry)) base name names state r (now (sheet .entry)) (now (sheet .exit)) (now (text .entry)) (now (text .exit)) ⌝ }
 {
-    let flags = flags_in(&*msg, base, FLAGS, OMITTED);
-    let receiver = has_receiver(&*msg, base, RECEIVER_TYPE, RECEIVER_TYPE_ID);
-    let getter_default = is_default(&*msg, base, GETTER_FLAGS);
-    let setter_default = is_default(&*msg, base, SETTER_FLAGS);
+    let flags = flags_in(msg, base, FLAGS, OMITTED);
+    let receiver = has_receiver(msg, base, RECEIVER_TYPE, RECEIVER_TYPE_ID);
+    let getter_default = is_default(msg, base, GETTER_FLAGS);
+    let setter_default = is_default(msg, base, SETTER_FLAGS);
     let field = names.field;
     let getter = names.getter;
     let setter = names.setter;
     put_property(
-        &*payload,
-        &*d2,
+        payload,
+        d2,
         name,
         flags,
         receiver,
@@ -126,31 +126,21 @@ fn named_property(
     requires { ⌜ Affords (now payload) (now d2) (memberCost (length (now msg))) state × (base + length (now msg) ≤ length (now payload)) ⌝ }
     ensures { λ r. ⌜ NamedPropertyTold (lent (now (payload .entry)) (now (d2 .entry)) (now (ends .entry)) (now (starts .entry)) (now (stops .entry)) (now (firsts .entry)) (now («entry_starts» .entry)) (now («entry_ends» .entry)) tables) (now (msg .entry)) base name names state r (now (sheet .entry)) (now (sheet .exit)) (now (text .entry)) (now (text .exit)) ⌝ }
 {
-    let written = put_record(
-        &*msg,
-        base,
-        &*payload,
-        &*d2,
-        name,
-        names,
-        state,
-        sheet,
-        text,
-    );
+    let written = put_record(msg, base, payload, d2, name, names, state, sheet, text);
     let received = declared_type(
-        &*msg,
+        msg,
         base,
         RECEIVER_TYPE,
         RECEIVER_TYPE_ID,
         RECEIVER_ROLE,
-        &*payload,
-        &*d2,
-        &*ends,
-        &*starts,
-        &*stops,
-        &*firsts,
-        &*entry_starts,
-        &*entry_ends,
+        payload,
+        d2,
+        ends,
+        starts,
+        stops,
+        firsts,
+        entry_starts,
+        entry_ends,
         tables,
         written,
         sheet,
@@ -166,19 +156,19 @@ fn named_property(
                 },
                 Checked::Whole => {
                     let typed = declared_type(
-                        &*msg,
+                        msg,
                         base,
                         RETURN_TYPE,
                         RETURN_TYPE_ID,
                         RETURN_ROLE,
-                        &*payload,
-                        &*d2,
-                        &*ends,
-                        &*starts,
-                        &*stops,
-                        &*firsts,
-                        &*entry_starts,
-                        &*entry_ends,
+                        payload,
+                        d2,
+                        ends,
+                        starts,
+                        stops,
+                        firsts,
+                        entry_starts,
+                        entry_ends,
                         tables,
                         next,
                         sheet,
@@ -216,46 +206,37 @@ pub fn property_in(
 {
     let records = tables.records;
     let name = name_in(
-        &*msg,
+        msg,
         base,
         NAME,
-        &*payload,
-        &*ends,
-        &*starts,
-        &*stops,
-        &*firsts,
+        payload,
+        ends,
+        starts,
+        stops,
+        firsts,
         records,
     );
     if !is_there(name) {
         return Picked::Dropped;
     }
-    let signed = property_signatures(
-        &*msg,
-        base,
-        &*payload,
-        &*ends,
-        &*starts,
-        &*stops,
-        &*firsts,
-        records,
-    );
+    let signed = property_signatures(msg, base, payload, ends, starts, stops, firsts, records);
     match signed {
         PropertySigned::Refused { error } => Picked::Refused {
             stop: Stop::Wire { error },
         },
         PropertySigned::Names { names } => named_property(
-            &*msg,
+            msg,
             base,
             name,
             names,
-            &*payload,
-            &*d2,
-            &*ends,
-            &*starts,
-            &*stops,
-            &*firsts,
-            &*entry_starts,
-            &*entry_ends,
+            payload,
+            d2,
+            ends,
+            starts,
+            stops,
+            firsts,
+            entry_starts,
+            entry_ends,
             tables,
             state,
             sheet,
@@ -289,7 +270,7 @@ fn properties_at(
     let mut count: usize = 0;
     let mut next = state;
     loop {
-        let piece = next_body(&*msg, base, number, at);
+        let piece = next_body(msg, base, number, at);
         let Piece::Body { start, end } = piece else {
             return Listed::Done { state: next, count };
         };
@@ -297,14 +278,14 @@ fn properties_at(
         let property = property_in(
             &msg[start..end],
             base + start as u32,
-            &*payload,
-            &*d2,
-            &*ends,
-            &*starts,
-            &*stops,
-            &*firsts,
-            &*entry_starts,
-            &*entry_ends,
+            payload,
+            d2,
+            ends,
+            starts,
+            stops,
+            firsts,
+            entry_starts,
+            entry_ends,
             tables,
             next,
             sheet,
@@ -342,7 +323,7 @@ pub fn properties_in(
     requires { ⌜ Affords (now payload) (now d2) (2 ^ 20 * length (now msg)) state × (base + length (now msg) ≤ length (now payload)) ⌝ }
     ensures { λ r. ⌜ ListTold propertyIn propertyRows (2 ^ 20 * length (now (msg .entry))) (lent (now (payload .entry)) (now (d2 .entry)) (now (ends .entry)) (now (starts .entry)) (now (stops .entry)) (now (firsts .entry)) (now («entry_starts» .entry)) (now («entry_ends» .entry)) tables) (now (msg .entry)) base number state r (now (sheet .entry)) (now (sheet .exit)) (now (text .entry)) (now (text .exit)) ⌝ }
 {
-    let checked = check_messages(&*msg, base, number);
+    let checked = check_messages(msg, base, number);
     let Checked::Whole = checked else {
         return Listed::Refused {
             stop: Stop::Wire {
@@ -351,17 +332,17 @@ pub fn properties_in(
         };
     };
     properties_at(
-        &*msg,
+        msg,
         base,
         number,
-        &*payload,
-        &*d2,
-        &*ends,
-        &*starts,
-        &*stops,
-        &*firsts,
-        &*entry_starts,
-        &*entry_ends,
+        payload,
+        d2,
+        ends,
+        starts,
+        stops,
+        firsts,
+        entry_starts,
+        entry_ends,
         tables,
         state,
         sheet,

@@ -77,25 +77,25 @@ fn names_in(
     ensures { λ r. ⌜ ((units : List ℕ) (c : Scope) → NamesOf (now (payload .entry)) units (now (ends .entry)) (now (starts .entry)) (now (stops .entry)) (now (firsts .entry)) records (c .names) → (m : Message) → cut (_from_ base (now (msg .entry))) ≡ ok m → NamesTold (now (payload .entry)) units c m r) ⌝ }
 {
     let name = name_in(
-        &*msg,
+        msg,
         base,
         NAME,
-        &*payload,
-        &*ends,
-        &*starts,
-        &*stops,
-        &*firsts,
+        payload,
+        ends,
+        starts,
+        stops,
+        firsts,
         records,
     );
     let descriptor = name_in(
-        &*msg,
+        msg,
         base,
         DESC,
-        &*payload,
-        &*ends,
-        &*starts,
-        &*stops,
-        &*firsts,
+        payload,
+        ends,
+        starts,
+        stops,
+        firsts,
         records,
     );
     SignatureNames { name, descriptor }
@@ -116,17 +116,17 @@ pub fn signature_in(
     requires { ⌜ base + length (now msg) < 2 ^ 32 ⌝ }
     ensures { λ r. ⌜ ((units : List ℕ) (c : Scope) → NamesOf (now (payload .entry)) units (now (ends .entry)) (now (starts .entry)) (now (stops .entry)) (now (firsts .entry)) records (c .names) → (m : Message) → cut (_from_ base (now (msg .entry))) ≡ ok m → SignedTold (now (payload .entry)) units c number m r) ⌝ }
 {
-    let inner = message(&*msg, base, number);
+    let inner = message(msg, base, number);
     match inner {
         Embedded::Inline { start, end } => Signed::Names {
             names: names_in(
                 &msg[start..end],
                 base + start as u32,
-                &*payload,
-                &*ends,
-                &*starts,
-                &*stops,
-                &*firsts,
+                payload,
+                ends,
+                starts,
+                stops,
+                firsts,
                 records,
             ),
         },
@@ -149,16 +149,16 @@ pub fn field_in(
     requires { ⌜ base + length (now msg) < 2 ^ 32 ⌝ }
     ensures { λ r. ⌜ ((units : List ℕ) (c : Scope) → NamesOf (now (payload .entry)) units (now (ends .entry)) (now (starts .entry)) (now (stops .entry)) (now (firsts .entry)) records (c .names) → (m : Message) → cut (_from_ base (now (msg .entry))) ≡ ok m → (l : ℕ) → fieldIn c m l ≡ ok (signatureBy (now (payload .entry)) units r, l)) ⌝ }
 {
-    let inner = message(&*msg, base, FIELD);
+    let inner = message(msg, base, FIELD);
     match inner {
         Embedded::Inline { start, end } => names_in(
             &msg[start..end],
             base + start as u32,
-            &*payload,
-            &*ends,
-            &*starts,
-            &*stops,
-            &*firsts,
+            payload,
+            ends,
+            starts,
+            stops,
+            firsts,
             records,
         ),
         Embedded::Nothing => unsigned(),
@@ -230,36 +230,27 @@ fn three_in(
     requires { ⌜ base + length (now msg) < 2 ^ 32 ⌝ }
     ensures { λ r. ⌜ ((units : List ℕ) (c : Scope) → NamesOf (now (payload .entry)) units (now (ends .entry)) (now (starts .entry)) (now (stops .entry)) (now (firsts .entry)) records (c .names) → (m : Message) → cut (_from_ base (now (msg .entry))) ≡ ok m → ThreeTold (now (payload .entry)) units c (some m) r) ⌝ }
 {
-    let field = field_in(
-        &*msg,
-        base,
-        &*payload,
-        &*ends,
-        &*starts,
-        &*stops,
-        &*firsts,
-        records,
-    );
+    let field = field_in(msg, base, payload, ends, starts, stops, firsts, records);
     let getter = signature_in(
-        &*msg,
+        msg,
         base,
         GETTER,
-        &*payload,
-        &*ends,
-        &*starts,
-        &*stops,
-        &*firsts,
+        payload,
+        ends,
+        starts,
+        stops,
+        firsts,
         records,
     );
     let setter = signature_in(
-        &*msg,
+        msg,
         base,
         SETTER,
-        &*payload,
-        &*ends,
-        &*starts,
-        &*stops,
-        &*firsts,
+        payload,
+        ends,
+        starts,
+        stops,
+        firsts,
         records,
     );
     PropertyNames {
@@ -283,17 +274,17 @@ pub fn property_signatures(
     requires { ⌜ base + length (now msg) < 2 ^ 32 ⌝ }
     ensures { λ r. ⌜ ((units : List ℕ) (c : Scope) → NamesOf (now (payload .entry)) units (now (ends .entry)) (now (starts .entry)) (now (stops .entry)) (now (firsts .entry)) records (c .names) → (m : Message) → cut (_from_ base (now (msg .entry))) ≡ ok m → PropertySignedTold (now (payload .entry)) units c m r) ⌝ }
 {
-    let inner = message(&*msg, base, PROPERTY_SIGNATURE);
+    let inner = message(msg, base, PROPERTY_SIGNATURE);
     match inner {
         Embedded::Inline { start, end } => PropertySigned::Names {
             names: three_in(
                 &msg[start..end],
                 base + start as u32,
-                &*payload,
-                &*ends,
-                &*starts,
-                &*stops,
-                &*firsts,
+                payload,
+                ends,
+                starts,
+                stops,
+                firsts,
                 records,
             ),
         },

@@ -17,8 +17,8 @@ head-in-requires : tie.Need-head-in-requires
 head-in-requires c κs = (head-affords (c .before .before .before .before .before .before .before .before .before .before .before .before .args .at) (c .before .before .before .before .before .before .before .before .before .before .before .before .pre .0), c .before .before .before .before .before .before .before .before .before .before .before .before .pre .1)
 
 -- src/body.rt:302:16
-add-t42 : tie.Need-add-t42
-add-t42 c = search needs
+add-t30 : tie.Need-add-t30
+add-t30 c = search needs
 
 -- src/body.rt:306:9
 members-in-requires : tie.Need-members-in-requires
@@ -65,7 +65,7 @@ body-in-spec =
     tie.close
     (tie.spec
     head-in-requires
-    add-t42
+    add-t30
     members-in-requires
     enum-known-members
     put-head-counts-requires

@@ -58,8 +58,8 @@ put-all-requires : tie.Need-put-all-requires
 put-all-requires c κs = search needs
 
 -- src/defaults.rt:274:27
-add-t38 : tie.Need-add-t38
-add-t38 c = let h = written-within (partCost * ((c .before .before .before .before .before .before .before .before .before .before .before .before .before .before .before .before .before .before .before .before .before .before .before .before .before .args .end) - (c .before .before .before .before .before .before .before .before .before .before .before .before .before .before .before .before .before .before .before .before .before .before .before .before .before .args .start))) (c .before .before .before .before .before .before .before .before .before .before .parameter-parts .ensures .within) (c .before .before .before .before .before .before .before2 .given .1) in omega (arith, c .before .before .before .before .before .before .before .before .before .before .before .before .before .before .before .before .before .before .before .before .before .before .before .before .before .pre .room)
+add-t22 : tie.Need-add-t22
+add-t22 c = let h = written-within (partCost * ((c .before .before .before .before .before .before .before .before .before .before .before .before .before .before .before .before .before .before .before .before .before .before .before .before .before .args .end) - (c .before .before .before .before .before .before .before .before .before .before .before .before .before .before .before .before .before .before .before .before .before .before .before .before .before .args .start))) (c .before .before .before .before .before .before .before .before .before .before .parameter-parts .ensures .within) (c .before .before .before .before .before .before .before2 .given .1) in omega (arith, c .before .before .before .before .before .before .before .before .before .before .before .before .before .before .before .before .before .before .before .before .before .before .before .before .before .pre .room)
 
 -- src/defaults.rt:235:1
 same-length-2 : tie.Need-same-length-2
@@ -84,6 +84,6 @@ constructor-default-spec =
     add-put-all-2
     slice-aggregate-put-all
     put-all-requires
-    add-t38
+    add-t22
     same-length-2
     returns-2)
