@@ -46,15 +46,16 @@ use Rattle.declarations.specs.BodyTold.{bodyCost, BodyWalked}
 use Rattle.declarations.specs.declared.payload.Opened.{Opened}
 use Rattle.declarations.specs.declared.payload.Opened.the-variants as opened
 use Rattle.declarations.proofs.PayloadLaws.{body-after}
-use Rattle.decoding.specs.Refusals.{numberOf, detailOf}
-use Rattle.decoding.specs.Answered.{textLimit, refusal, sheetWritten, written, answered}
-use Rattle.decoding.specs.DecodeTold.{told, RefusedAs, strings, Kept, start, MeasuredAt, MeasuredTold, WrittenOut, CoreTold, FrameRoom, readingOf}
-use Rattle.decoding.specs.declared.outcome.Outcome.{Outcome}
-use Rattle.decoding.specs.declared.decode.Measured.{Measured}
-use Rattle.decoding.specs.declared.decode.Measured.the-variants as measured
-use Rattle.decoding.specs.declared.decode.Core.{Core}
-use Rattle.decoding.specs.declared.decode.Core.the-variants as core
-use Rattle.decoding.proofs.OutcomeLaws.{refused-as}
+use Rattle.inputs.specs.Refusals.{numberOf, detailOf}
+use Rattle.inputs.specs.Outcomes.{refusal, told, RefusedAs}
+use Rattle.inputs.specs.declared.outcome.Outcome.{Outcome}
+use Rattle.inputs.proofs.OutcomeLaws.{refused-as}
+use Rattle.decoding.specs.Answered.{textLimit, sheetWritten, written, answered}
+use Rattle.decoding.specs.DecodeTold.{strings, Kept, start, MeasuredAt, MeasuredTold, WrittenOut, CoreTold, FrameRoom, readingOf}
+use Rattle.decoding.specs.declared.Measured.{Measured}
+use Rattle.decoding.specs.declared.Measured.the-variants as measured
+use Rattle.decoding.specs.declared.Core.{Core}
+use Rattle.decoding.specs.declared.Core.the-variants as core
 
 pub start-affords : (bytes d2 ends : List ℕ) (at : ℕ) {s : State} → Kept bytes d2 ends → s ≡ start → Affords bytes d2 (bodyCost (length bytes - at)) s
 start-affords bytes d2 ends at k e =

@@ -1,3 +1,1 @@
-pub mod InputLaws
-pub mod OutcomeLaws
 pub mod DecodeLaws

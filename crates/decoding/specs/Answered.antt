@@ -6,12 +6,12 @@ use Prim.Native.Nat.{ℕ, _-_, min}
 use lib.Dec.{ltb}
 use lib.ListN.{length, drop}
 use Rattle.foundation.specs.Choices.{if_then_else_}
-use Rattle.foundation.specs.Results.{Cause, textTooLong, sheetTooLong, Res, ok, refused}
+use Rattle.foundation.specs.Results.{textTooLong, sheetTooLong, Res, ok, refused}
 use Rattle.sheet.specs.Rows.{Row, texts, sheetFrom}
 use Rattle.schema.specs.Declarations.{Declarations}
 use Rattle.schema.specs.Reading.{allowance}
+use Rattle.inputs.specs.Outcomes.{Answer, refusal}
 use Rattle.declarations.specs.Payload.{declarationRows}
-use Rattle.decoding.specs.Refusals.{numberOf, detailOf}
 
 -- what stands for the body of metadata kinds 3 and 4
 abbrev pub headAlone : Declarations
@@ -23,21 +23,6 @@ nothingRead = ok (headAlone, allowance)
 -- no present ref is FFFFFFFF hex
 abbrev pub textLimit : ℕ
 textLimit = 65534
-
--- The answer, and what both areas hold afterwards.
-pub record Answer : Type 0 where
-  pub number : ℕ
-  pub detail : ℕ
-  pub sheetLength : ℕ
-  pub textLength : ℕ
-  pub types : ℕ
-  pub sheet : List ℕ
-  pub text : List ℕ
-
--- a refusal leaves both areas untouched
-abbrev pub refusal : List ℕ → List ℕ → Cause → Answer
-refusal sheet text c =
-    record { number = numberOf c; detail = detailOf c; sheetLength = 0; textLength = 0; types = 0; sheet = sheet; text = text }
 
 -- bytes past the lengths stay
 abbrev pub accepted : List ℕ → List ℕ → List ℕ → List ℕ → ℕ → Answer

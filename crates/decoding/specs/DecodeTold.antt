@@ -1,4 +1,4 @@
--- What the code's answers tell of the whole reading: refusals, the measuring walk, both areas written.
+-- What the code's answers tell of the whole reading: the measuring walk, both areas written.
 -- Assumes nothing.
 use mathlib.Core.Path.{_≡_}
 use mathlib.Core.Bool.{true}
@@ -7,42 +7,26 @@ use mathlib.Core.Option.{Option}
 use Prim.Native.Nat.{ℕ, _*_, _≤_, _<_}
 use lib.ListN.{length, drop}
 use Rattle.foundation.specs.Choices.{if_then_else_}
-use Rattle.foundation.specs.Results.{Cause, Res, ok, _>>=_}
+use Rattle.foundation.specs.Results.{Res, ok, _>>=_}
 use Rattle.foundation.specs.Texts.{Text}
 use Rattle.encoding.specs.Encoding.{decoded, unitLimit}
-use Rattle.names.specs.Names.{stringsFrom, d2String, endsFit}
 use Rattle.sheet.specs.Rows.{texts, sheetFrom}
 use Rattle.sheet.specs.Put.{PutRows}
 use Rattle.sheet.specs.declared.State.{State}
+use Rattle.names.specs.Names.{stringsFrom, d2String, endsFit}
 use Rattle.schema.specs.Declarations.{Declarations}
 use Rattle.schema.specs.Reading.{allowance}
 use Rattle.schema.specs.Told as schema
 use Rattle.schema.specs.declared.Tables.{Tables}
+use Rattle.inputs.specs.Inputs.{carriesDeclarations}
+use Rattle.inputs.specs.Outcomes.{told}
 use Rattle.declarations.specs.Payload.{payload, declarationRows}
 use Rattle.declarations.specs.PayloadTold.{OpenedAt, IndexRoom}
-use Rattle.decoding.specs.Inputs.{carriesDeclarations}
-use Rattle.decoding.specs.Answered.{Answer, nothingRead, refusal, answered}
-use Rattle.decoding.specs.declared.outcome.Outcome.{Outcome}
-use Rattle.decoding.specs.declared.decode.Measured.{Measured}
-use Rattle.decoding.specs.declared.decode.Measured.the-variants as measured
-use Rattle.decoding.specs.declared.decode.Core.{Core}
-use Rattle.decoding.specs.declared.decode.Core.the-variants as core
-
--- an answer, and what both areas hold afterwards
-abbrev pub told : Outcome → List ℕ → List ℕ → Answer
-told r sheet text = record {
-  number = r .number;
-  detail = r .detail;
-  sheetLength = r .sheet;
-  textLength = r .text;
-  types = r .types;
-  sheet = sheet;
-  text = text;
-}
-
--- The refusal of a cause, which leaves both areas as they are.
-abbrev pub RefusedAs : Cause → Outcome → Type 0
-RefusedAs c r = (sheet text : List ℕ) → refusal sheet text c ≡ told r sheet text
+use Rattle.decoding.specs.Answered.{nothingRead, answered}
+use Rattle.decoding.specs.declared.Measured.{Measured}
+use Rattle.decoding.specs.declared.Measured.the-variants as measured
+use Rattle.decoding.specs.declared.Core.{Core}
+use Rattle.decoding.specs.declared.Core.the-variants as core
 
 -- the action that looks a string of d2 up
 abbrev pub strings : List ℕ → List ℕ → ℕ → Res (Option Text)

@@ -1,5 +1,329 @@
-// From an input to an outcome: what is refused before the payload is looked at, the numbers of refusals, and the decoded bytes measured and
-// written. The definitions: specs/Inputs.antt, specs/Answered.antt; what the answers tell: specs/Told.antt, specs/DecodeTold.antt.
-pub mod inputs; // inputs.rt: refusals 1 to 4, the metadata kind
-pub mod outcome; // outcome.rt: numbers and details of refusals
-pub mod decode; // decode.rt: the measuring walk, then both areas
+// The decoded bytes read and written. One walk measures into lent scratch areas, clipped, and finds every refusal; only then are the
+// areas touched: copied from the scratch areas if these hold the whole, else walked again. What the functions tell: specs/DecodeTold.antt.
+ghost use mathlib.Core.Path.{_≡_};
+ghost use Prim.Native.Nat.{_≤_};
+ghost use lib.ListN.{length};
+ghost use Rattle.inputs.specs.Outcomes.{told};
+ghost use Rattle.declarations.specs.Payload.{payload};
+ghost use Rattle.declarations.specs.PayloadTold.{IndexRoom};
+ghost use Rattle.decoding.specs.Answered.{answered};
+ghost use Rattle.decoding.specs.DecodeTold.{strings, Kept, MeasuredAt, MeasuredTold, WrittenOut, CoreTold, FrameRoom, readingOf};
+use declarations::body::body_in;
+use declarations::payload::Opened;
+use declarations::payload::open_payload;
+use encoding::Decoded;
+use encoding::decode;
+use inputs::outcome::Outcome;
+use inputs::outcome::refused;
+use inputs::outcome::stop_refusal;
+use schema::Stop;
+use schema::Tables;
+use schema::Walked;
+use sheet::State;
+use sheet::put_all;
+
+// How many types one class may have.
+const ALLOWANCE: usize = 2048;
+
+// No present ref is FFFFFFFF hex.
+const TEXT_LIMIT: usize = 65534;
+
+// What the measuring walk finds: where the body begins, its tables, and how far both areas are written; or why it stops.
+pub enum Measured {
+    Read {
+        at: usize,
+        tables: Tables,
+        end: State,
+    },
+    Refused {
+        stop: Stop,
+    },
+    NoRoom,
+}
+
+// An answer, or no room in what is lent for the decoded bytes or an index.
+pub enum Core {
+    Answered { outcome: Outcome },
+    NoRoom,
+}
+
+pub fn start() -> State
+    ensures { λ r. ⌜ r ≡ record { sheet = 0; text = 0; types = 2048 } ⌝ }
+{
+    State {
+        sheet: 0,
+        text: 0,
+        types: ALLOWANCE,
+    }
+}
+
+// Refusals 7 to 10, both lengths and the types, with no area touched but the scratch.
+pub fn measure(
+    kind: u8,
+    bytes: &[u8],
+    d2: &[u16],
+    ends: &[u32],
+    starts: &mut [u32],
+    stops: &mut [u32],
+    firsts: &mut [u64],
+    entry_starts: &mut [u32],
+    entry_ends: &mut [u32],
+    scratch_sheet: &mut [u8],
+    scratch_text: &mut [u8],
+) -> Measured
+    requires { ⌜ Kept (now bytes) (now d2) (now ends) ⌝ }
+    ensures { λ r. ⌜ MeasuredTold kind (now (bytes .entry)) (now (d2 .entry)) (now (ends .entry)) (now (starts .exit)) (now (stops .exit)) (now (firsts .exit)) (now («entry_starts» .exit)) (now («entry_ends» .exit)) r (now («scratch_sheet» .exit)) (now («scratch_text» .exit)) ⌝ }
+{
+    let opened = open_payload(&*bytes, starts, stops, firsts, entry_starts, entry_ends);
+    match opened {
+        Opened::Body { at, tables } => {
+            let walked = body_in(
+                kind,
+                &*bytes,
+                at,
+                &*d2,
+                &*ends,
+                starts,
+                stops,
+                firsts,
+                entry_starts,
+                entry_ends,
+                tables,
+                start(),
+                scratch_sheet,
+                scratch_text,
+            );
+            match walked {
+                Walked::Done { state } => Measured::Read {
+                    at,
+                    tables,
+                    end: state,
+                },
+                Walked::Refused { stop } => Measured::Refused { stop },
+            }
+        }
+        Opened::Refused { error } => Measured::Refused {
+            stop: Stop::Wire { error },
+        },
+        Opened::NoRoom => Measured::NoRoom,
+    }
+}
+
+// What was measured fits both areas: copied from the scratch areas if these hold the whole, else walked again.
+fn write_out(
+    kind: u8,
+    bytes: &[u8],
+    at: usize,
+    d2: &[u16],
+    ends: &[u32],
+    starts: &[u32],
+    stops: &[u32],
+    firsts: &[u64],
+    entry_starts: &[u32],
+    entry_ends: &[u32],
+    tables: Tables,
+    end: State,
+    scratch_sheet: &[u8],
+    scratch_text: &[u8],
+    sheet: &mut [u8],
+    text: &mut [u8],
+)
+    requires { ⌜ Kept (now bytes) (now d2) (now ends) × (end .sheet ≤ length (now sheet)) × (end .text ≤ length (now text)) × MeasuredAt kind (now bytes) (now d2) (now ends) (now starts) (now stops) (now firsts) (now «entry_starts») (now «entry_ends») at tables end (now «scratch_sheet») (now «scratch_text») ⌝ }
+    ensures { λ _. ⌜ WrittenOut kind (payload kind (strings (now (d2 .entry)) (now (ends .entry))) (now (bytes .entry))) (now (sheet .entry)) (now (sheet .exit)) (now (text .entry)) (now (text .exit)) ⌝ }
+{
+    let size = end.sheet;
+    let length = end.text;
+    if size <= scratch_sheet.len() {
+        if length <= scratch_text.len() {
+            put_all(sheet, 0, &scratch_sheet[..size]);
+            put_all(text, 0, &scratch_text[..length]);
+            return;
+        }
+    }
+    body_in(
+        kind,
+        &*bytes,
+        at,
+        &*d2,
+        &*ends,
+        &*starts,
+        &*stops,
+        &*firsts,
+        &*entry_starts,
+        &*entry_ends,
+        tables,
+        start(),
+        sheet,
+        text,
+    );
+}
+
+// 11, 12, or both areas written.
+fn write_in(
+    kind: u8,
+    bytes: &[u8],
+    at: usize,
+    d2: &[u16],
+    ends: &[u32],
+    starts: &[u32],
+    stops: &[u32],
+    firsts: &[u64],
+    entry_starts: &[u32],
+    entry_ends: &[u32],
+    tables: Tables,
+    end: State,
+    scratch_sheet: &[u8],
+    scratch_text: &[u8],
+    sheet: &mut [u8],
+    text: &mut [u8],
+) -> Outcome
+    requires { ⌜ Kept (now bytes) (now d2) (now ends) × MeasuredAt kind (now bytes) (now d2) (now ends) (now starts) (now stops) (now firsts) (now «entry_starts») (now «entry_ends») at tables end (now «scratch_sheet») (now «scratch_text») ⌝ }
+    ensures { λ r. ⌜ answered (now (sheet .entry)) (now (text .entry)) kind (payload kind (strings (now (d2 .entry)) (now (ends .entry))) (now (bytes .entry))) ≡ told r (now (sheet .exit)) (now (text .exit)) ⌝ }
+{
+    let size = end.sheet;
+    let length = end.text;
+    if TEXT_LIMIT < length {
+        return refused(11, 0);
+    }
+    if text.len() < length {
+        return refused(11, 0);
+    }
+    if sheet.len() < size {
+        return refused(12, 0);
+    }
+    write_out(
+        kind,
+        &*bytes,
+        at,
+        &*d2,
+        &*ends,
+        &*starts,
+        &*stops,
+        &*firsts,
+        &*entry_starts,
+        &*entry_ends,
+        tables,
+        end,
+        &*scratch_sheet,
+        &*scratch_text,
+        sheet,
+        text,
+    );
+    Outcome {
+        number: 0,
+        detail: 0,
+        sheet: size,
+        text: length,
+        types: ALLOWANCE - end.types,
+    }
+}
+
+// The decoded bytes of a kind that carries declarations.
+pub fn read_in(
+    kind: u8,
+    bytes: &[u8],
+    d2: &[u16],
+    ends: &[u32],
+    starts: &mut [u32],
+    stops: &mut [u32],
+    firsts: &mut [u64],
+    entry_starts: &mut [u32],
+    entry_ends: &mut [u32],
+    scratch_sheet: &mut [u8],
+    scratch_text: &mut [u8],
+    sheet: &mut [u8],
+    text: &mut [u8],
+) -> Core
+    requires { ⌜ Kept (now bytes) (now d2) (now ends) ⌝ }
+    ensures { λ r. ⌜ CoreTold kind (payload kind (strings (now (d2 .entry)) (now (ends .entry))) (now (bytes .entry))) (IndexRoom (now (bytes .entry)) (now (starts .exit)) (now (stops .exit)) (now (firsts .exit)) (now («entry_starts» .exit)) (now («entry_ends» .exit))) r (now (sheet .entry)) (now (sheet .exit)) (now (text .entry)) (now (text .exit)) ⌝ }
+{
+    let measured = measure(
+        kind,
+        &*bytes,
+        &*d2,
+        &*ends,
+        starts,
+        stops,
+        firsts,
+        entry_starts,
+        entry_ends,
+        scratch_sheet,
+        scratch_text,
+    );
+    match measured {
+        Measured::Read { at, tables, end } => Core::Answered {
+            outcome: write_in(
+                kind,
+                &*bytes,
+                at,
+                &*d2,
+                &*ends,
+                starts,
+                stops,
+                firsts,
+                entry_starts,
+                entry_ends,
+                tables,
+                end,
+                scratch_sheet,
+                scratch_text,
+                sheet,
+                text,
+            ),
+        },
+        Measured::Refused { stop } => Core::Answered {
+            outcome: stop_refusal(stop),
+        },
+        Measured::NoRoom => Core::NoRoom,
+    }
+}
+
+// d1 of a kind that carries declarations, within its limit.
+pub fn decode_in(
+    kind: u8,
+    d1: &[u16],
+    d2: &[u16],
+    ends: &[u32],
+    bytes: &mut [u8],
+    starts: &mut [u32],
+    stops: &mut [u32],
+    firsts: &mut [u64],
+    entry_starts: &mut [u32],
+    entry_ends: &mut [u32],
+    scratch_sheet: &mut [u8],
+    scratch_text: &mut [u8],
+    sheet: &mut [u8],
+    text: &mut [u8],
+) -> Core
+    requires { ⌜ Kept (now d1) (now d2) (now ends) ⌝ }
+    ensures { λ r. ⌜ CoreTold kind (readingOf kind (now (d1 .entry)) (now (d2 .entry)) (now (ends .entry))) (FrameRoom (now (d1 .entry)) (now (bytes .exit)) (now (starts .exit)) (now (stops .exit)) (now (firsts .exit)) (now («entry_starts» .exit)) (now («entry_ends» .exit))) r (now (sheet .entry)) (now (sheet .exit)) (now (text .entry)) (now (text .exit)) ⌝ }
+{
+    let decoded = decode(&*d1, bytes);
+    match decoded {
+        Decoded::Bytes { length } => read_in(
+            kind,
+            &bytes[..length],
+            &*d2,
+            &*ends,
+            starts,
+            stops,
+            firsts,
+            entry_starts,
+            entry_ends,
+            scratch_sheet,
+            scratch_text,
+            sheet,
+            text,
+        ),
+        Decoded::TooLong => Core::Answered {
+            outcome: refused(1, 0),
+        },
+        Decoded::Empty => Core::Answered {
+            outcome: refused(5, 0),
+        },
+        Decoded::NotAByte { unit } => Core::Answered {
+            outcome: refused(6, unit as u64),
+        },
+        Decoded::NoRoom => Core::NoRoom,
+    }
+}

@@ -9,9 +9,9 @@ use Rattle.foundation.specs.Choices.{ifSome, mapOption, All}
 use Rattle.foundation.proofs.ChoiceLaws.{all-append}
 use Rattle.characters.specs.WellFormed.{Units}
 use Rattle.schema.specs.Declarations.{Function}
+use Rattle.inputs.specs.Inputs.{Input}
+use Rattle.inputs.specs.Outcomes.{Answer}
 use Rattle.descriptors.specs.Defaults.{functionParts, descriptor}
-use Rattle.decoding.specs.Inputs.{Input}
-use Rattle.decoding.specs.Answered.{Answer}
 use Rattle.metadata.specs.Read.{read}
 use Rattle.promises.specs.Walk.{Sheet, closedFunctionOf}
 use Rattle.promises.specs.Promises.{Promised}

@@ -8,8 +8,8 @@ use lib.ListN.{length}
 use Rattle.foundation.specs.Choices.{ifSome, All}
 use Rattle.foundation.specs.Results.{Res, ok, refused}
 use Rattle.schema.specs.Declarations.{Function, Declarations}
-use Rattle.decoding.specs.Inputs.{Input}
-use Rattle.decoding.specs.Answered.{Answer}
+use Rattle.inputs.specs.Inputs.{Input}
+use Rattle.inputs.specs.Outcomes.{Answer}
 use Rattle.metadata.specs.Read.{reading}
 use Rattle.promises.specs.Walk.{walk}
 use Rattle.promises.specs.Promises.{sheetBytes, textBytes}

@@ -4,20 +4,20 @@ use mathlib.Core.Bool.{Bool}
 use Rattle.encoding.specs.Encoding.{decoded, firstAbove255, unpacked}
 use Rattle.wire.specs.Wire.{groupsFrom, readVarint, readBytes, readDelimited, readFixed, readValue, readField, repeated, cut, packed}
 use Rattle.wire.specs.Messages.{values, varintOf, index, flag, bytesOf, message, bodiesOf, cutAll, messages, joined, varints}
+use Rattle.sheet.specs.Rows.{bodyText, bodyBytes, texts, sheetFrom}
 use Rattle.characters.specs.Characters.{isScalar, width, utf8Of, utf8, leadOf, run, step, fromUtf8After, fromUtf16}
 use Rattle.characters.specs.Splits.{splitAt, substringOf}
 use Rattle.names.specs.Records.{recordOf, predefinedText, baseText, replaceOf, operated, textOf}
 use Rattle.names.specs.Names.{endsFit, recordsOf, recordAt, string, withoutLast, qualifiedName, stringsFrom, d2String}
-use Rattle.sheet.specs.Rows.{bodyText, bodyBytes, texts, sheetFrom}
 use Rattle.schema.specs.Reading.{kept, nameIn, classNameIn}
 use Rattle.schema.specs.Types.{resolveAt, typeIn, argumentIn, parseAt, typeAt, declaredType, typeTableIn}
 use Rattle.schema.specs.Members.{signatureOf, signatureIn, fieldOf, fieldIn, parameterIn, listIn, constructorIn, functionIn, propertyIn, membersIn, classBody, packageBody}
 use Rattle.schema.specs.Rows.{typesRows, parameterRows, constructorRows, functionRows, propertyRows}
+use Rattle.inputs.specs.Refusals.{numberOf, detailOf}
+use Rattle.inputs.specs.Inputs.{laterFault, faultOf}
 use Rattle.erasure.specs.Erasure.{lookUp, firstErased, erased, erasedReturn, print}
 use Rattle.descriptors.specs.Defaults.{functionParts, constructorParts, descriptor, closedConstructor, closedFunction}
 use Rattle.declarations.specs.Payload.{payload, declarationRows}
-use Rattle.decoding.specs.Refusals.{numberOf, detailOf}
-use Rattle.decoding.specs.Inputs.{laterFault, faultOf}
 use Rattle.decoding.specs.Answered.{sheetWritten, written}
 use Rattle.metadata.specs.Read.{reading, read}
 use Rattle.examples.specs.Cases.{Case, holds}

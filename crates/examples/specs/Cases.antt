@@ -11,7 +11,7 @@ use lib.IntN.{ℤ}
 use lib.ListN.{length, replicate}
 use Rattle.foundation.specs.Choices.{if_then_else_}
 use Rattle.foundation.specs.Texts.{same}
-use Rattle.decoding.specs.Inputs.{Input}
+use Rattle.inputs.specs.Inputs.{Input}
 use Rattle.metadata.specs.Read.{read}
 
 abbrev pub hexDigit : ℕ → ℕ

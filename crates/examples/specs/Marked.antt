@@ -12,9 +12,9 @@ use Rattle.foundation.specs.Results.{Res, ok, refused, _from_, Got}
 use Rattle.foundation.specs.Texts.{ascii, same}
 use Rattle.encoding.specs.Encoding.{decoded}
 use Rattle.wire.specs.Wire.{readVarint}
-use Rattle.decoding.specs.Refusals.{numberOf}
-use Rattle.decoding.specs.Inputs.{Input}
-use Rattle.decoding.specs.Answered.{Answer}
+use Rattle.inputs.specs.Refusals.{numberOf}
+use Rattle.inputs.specs.Inputs.{Input}
+use Rattle.inputs.specs.Outcomes.{Answer}
 use Rattle.metadata.specs.Read.{read}
 use Rattle.examples.specs.Cases.{Case, Expected, given, gives, hex, holds, area}
 

@@ -2,18 +2,19 @@
 // there is too little room, `read`'s own frames serve.
 ghost use mathlib.Core.Path.{_≡_};
 ghost use Prim.Native.Nat.{_≤_};
+ghost use Rattle.inputs.specs.Told.{input};
+ghost use Rattle.inputs.specs.Outcomes.{told};
 ghost use Rattle.decoding.specs.Answered.{answered};
-ghost use Rattle.decoding.specs.Told.{input};
-ghost use Rattle.decoding.specs.DecodeTold.{told, Kept, readingOf, readingBy};
+ghost use Rattle.decoding.specs.DecodeTold.{Kept, readingOf, readingBy};
 ghost use Rattle.metadata.specs.Read.{read};
 ghost use Rattle.metadata.specs.ReadTold.{toldBy};
-use decoding::decode::Core;
-use decoding::decode::decode_in;
-use decoding::inputs::Fault;
-use decoding::inputs::fault_of;
-use decoding::inputs::kind_of;
-use decoding::outcome::Outcome;
-use decoding::outcome::fault_refusal;
+use decoding::Core;
+use decoding::decode_in;
+use inputs::Fault;
+use inputs::fault_of;
+use inputs::kind_of;
+use inputs::outcome::Outcome;
+use inputs::outcome::fault_refusal;
 use metadata::Answer;
 use metadata::answer_of;
 use metadata::head_alone;

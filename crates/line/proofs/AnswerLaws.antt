@@ -22,19 +22,20 @@ use Rattle.foundation.proofs.ChoiceLaws.{if-ind}
 use Rattle.foundation.proofs.OverlayLaws.{sets-front}
 use Rattle.foundation.specs.Results.{Cause, Res, ok, refused, sheetTooLong, textTooLong}
 use Rattle.foundation.specs.Texts.{ascii}
-use Rattle.schema.specs.Declarations.{Declarations}
 use Rattle.sheet.specs.Rows.{Row, sheetFrom, texts}
-use Rattle.declarations.specs.Payload.{declarationRows}
-use Rattle.decoding.specs.Answered as R
-use Rattle.decoding.specs.Inputs.{Input, kindOf}
-use Rattle.decoding.specs.Answered.{answered, written, sheetWritten, refusal, accepted, textLimit}
-use Rattle.metadata.specs.Read.{read, reading}
+use Rattle.schema.specs.Declarations.{Declarations}
 use Rattle.schema.specs.Reading.{allowance}
+use Rattle.inputs.specs.Inputs.{Input, kindOf}
+use Rattle.inputs.specs.Outcomes.{refusal}
+use Rattle.inputs.specs.Told.{input}
+use Rattle.declarations.specs.Payload.{declarationRows}
+use Rattle.inputs.specs.Outcomes as R
+use Rattle.decoding.specs.Answered.{answered, written, sheetWritten, accepted, textLimit}
+use Rattle.metadata.specs.Read.{read, reading}
+use Rattle.metadata.specs.declared.Answer.{Answer}
+use Rattle.metadata.specs.ReadTold.{toldBy}
 use Rattle.line.specs.declared.input.Counts.{Counts}
 use Rattle.line.specs.declared.stream.Taken.{Taken}
-use Rattle.metadata.specs.declared.Answer.{Answer}
-use Rattle.decoding.specs.Told.{input}
-use Rattle.metadata.specs.ReadTold.{toldBy}
 use Rattle.line.specs.Input.{d1Place, d2Place, endsPlace, numberAt, numbersAt, signedOf, countsOf, inputEnd, inputOf, given}
 use Rattle.line.specs.Line.{decimal, partOf, lineOf}
 use Rattle.line.specs.Wrote.{Wrote}

@@ -9,7 +9,7 @@ use lib.ListN.{take}
 use Rattle.foundation.specs.Choices.{concat}
 use Rattle.foundation.specs.Digits.{little}
 use Rattle.foundation.specs.Texts.{ascii}
-use Rattle.decoding.specs.Inputs.{Input}
+use Rattle.inputs.specs.Inputs.{Input}
 use Rattle.line.specs.Input.{d1Count, d2Count, endsCount, given, signedOf}
 use Rattle.line.specs.Line.{decimal, hexOf, partOf, lineOf}
 

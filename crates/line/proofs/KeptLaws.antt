@@ -10,8 +10,8 @@ use lib.Dec.{ltb}
 use lib.ListN.{length, take}
 use lib.Seq.{getD-take}
 use Rattle.foundation.specs.Results.{d1TooLong, d2TooLong}
-use Rattle.decoding.specs.Inputs.{Input, laterFault, faultOf}
-use Rattle.decoding.specs.Answered.{refusal}
+use Rattle.inputs.specs.Inputs.{Input, laterFault, faultOf}
+use Rattle.inputs.specs.Outcomes.{refusal}
 use Rattle.metadata.specs.Read.{reading, read}
 use Rattle.line.specs.Input.{numberAt, numbersAt, signedOf, d1Count, d2Count, endsCount, countsOf, inputOf, d1Place, d2Place, endsPlace}
 use Rattle.line.specs.Taken.{keptLimit}

@@ -9,7 +9,7 @@ use lib.Dec.{leb, ltb}
 use lib.IntN.{ℤ, pos, negsuc}
 use lib.ListN.{length, getD}
 use Rattle.foundation.specs.Choices.{if_then_else_}
-use Rattle.decoding.specs.Inputs.{Input}
+use Rattle.inputs.specs.Inputs.{Input}
 use Rattle.line.specs.declared.input.Counts.{Counts}
 
 -- the number in w bytes from a place on; where no byte stands, it is 0

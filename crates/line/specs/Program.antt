@@ -7,8 +7,8 @@ use lib.ListN.{take, replicate}
 use mathlib.Core.Path.{_≡_}
 use Rattle.foundation.specs.Choices.{ifSome}
 use Rattle.foundation.specs.Texts.{ascii}
-use Rattle.decoding.specs.Inputs.{Input}
-use Rattle.decoding.specs.Answered.{Answer}
+use Rattle.inputs.specs.Inputs.{Input}
+use Rattle.inputs.specs.Outcomes.{Answer}
 use Rattle.metadata.specs.Read.{read}
 use Rattle.line.specs.declared.input.Counts.{Counts}
 use Rattle.line.specs.Input.{numberAt, numbersAt, signedOf, d1Place, d2Place, endsPlace, given}

@@ -39,22 +39,24 @@ use Rattle.schema.proofs.RecordLaws.{head-put}
 use Rattle.schema.proofs.WrittenLaws.{head-room, head-small}
 use Rattle.declarations.specs.Payload.{declarationRows}
 use Rattle.declarations.proofs.BodyLaws.{no-name}
-use Rattle.decoding.specs.Refusals.{numberOf, detailOf}
-use Rattle.decoding.specs.Answered as definition
-use Rattle.decoding.specs.Inputs.{Input, kindOf, carriesDeclarations, stringLimit, supportedMajor, major, laterFault, faultOf}
+use Rattle.inputs.specs.Refusals.{numberOf, detailOf}
+use Rattle.inputs.specs.Inputs.{Input, kindOf, carriesDeclarations, stringLimit, supportedMajor, major, laterFault, faultOf}
+use Rattle.inputs.specs.Told.{input, faultTold}
+use Rattle.inputs.specs.Outcomes as definition
+use Rattle.inputs.specs.Outcomes.{told, RefusedAs}
+use Rattle.inputs.specs.declared.Fault.{Fault}
+use Rattle.inputs.specs.declared.Fault.the-variants as fault
+use Rattle.inputs.specs.declared.outcome.Outcome.{Outcome}
+use Rattle.decoding.specs.Answered as answers
 use Rattle.decoding.specs.Answered.{headAlone, nothingRead, sheetWritten, answered}
+use Rattle.decoding.specs.DecodeTold.{Kept, start, CoreTold, readingOf, readingBy}
+use Rattle.decoding.specs.declared.Core.{Core}
+use Rattle.decoding.specs.declared.Core.the-variants as core
 use Rattle.metadata.specs.Read.{reading, read}
-use Rattle.decoding.specs.Told.{input, faultTold}
-use Rattle.decoding.specs.DecodeTold.{told, RefusedAs, Kept, start, CoreTold, readingOf, readingBy}
 use Rattle.metadata.specs.ReadTold.{toldBy, toldIn}
 use Rattle.metadata.specs.declared.Answer.{Answer}
-use Rattle.decoding.specs.declared.inputs.Fault.{Fault}
-use Rattle.decoding.specs.declared.inputs.Fault.the-variants as fault
-use Rattle.decoding.specs.declared.outcome.Outcome.{Outcome}
-use Rattle.decoding.specs.declared.decode.Core.{Core}
-use Rattle.decoding.specs.declared.decode.Core.the-variants as core
-use Rattle.decoding.proofs.inputs.Fault.{the-type}
-use Rattle.decoding.proofs.OutcomeLaws.{refused-as}
+use Rattle.inputs.proofs.Fault.{the-type}
+use Rattle.inputs.proofs.OutcomeLaws.{refused-as}
 
 kind-bounds : (k : ℤ) → (1 ≤ kindOf k) × (kindOf k ≤ 5)
 kind-bounds (pos m) =
@@ -162,7 +164,7 @@ alone-rows kind p = p
 
 module _ (kind : ℕ) (S T : List ℕ) where
   alone-answer : answered S T kind nothingRead ≡ sheetWritten S T (alone kind) 0
-  unfolding definition.written
+  unfolding answers.written
   alone-answer = rw (alone-text kind, le-ltb (min (length T) 65534) 0 (omega arith))
 
   pub alone-over : length S < 20 → {r : Outcome} → r ≡ record { number = 12; detail = 0; sheet = 0; text = 0; types = 0 }

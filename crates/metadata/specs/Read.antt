@@ -7,9 +7,10 @@ use Rattle.foundation.specs.Results.{Res, refused, _>>=_}
 use Rattle.encoding.specs.Encoding.{decoded}
 use Rattle.names.specs.Names.{stringsFrom, d2String}
 use Rattle.schema.specs.Declarations.{Declarations}
+use Rattle.inputs.specs.Inputs.{Input, kindOf, carriesDeclarations, faultOf}
+use Rattle.inputs.specs.Outcomes.{Answer}
 use Rattle.declarations.specs.Payload.{payload}
-use Rattle.decoding.specs.Inputs.{Input, kindOf, carriesDeclarations, faultOf}
-use Rattle.decoding.specs.Answered.{nothingRead, Answer, answered}
+use Rattle.decoding.specs.Answered.{nothingRead, answered}
 
 -- The declarations, and how many types might still be entered.
 unfoldable pub reading : Input → Res (Declarations × ℕ)

@@ -3,7 +3,7 @@
 use mathlib.Core.List.{List}
 use Prim.Native.Nat.{ℕ}
 use lib.ListN.{getD}
-use Rattle.decoding.specs.Answered as definition
+use Rattle.inputs.specs.Outcomes as definition
 use Rattle.metadata.specs.declared.Answer.{Answer}
 
 -- an answer, and what both areas hold afterwards

@@ -1,7 +1,7 @@
 // The function that the static library exports: slices are a pointer and a length each.
 ghost use mathlib.Core.Path.{_≡_};
 ghost use mathlib.Core.List.{[], _∷_};
-ghost use Rattle.decoding.specs.Told.{input};
+ghost use Rattle.inputs.specs.Told.{input};
 ghost use Rattle.metadata.specs.Read.{read};
 ghost use Rattle.metadata.specs.ReadTold.{toldIn};
 use crate::read;

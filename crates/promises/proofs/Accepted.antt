@@ -33,10 +33,11 @@ use Rattle.foundation.specs.Results.{
 use Rattle.sheet.specs.Rows.{Row, texts, sheetFrom}
 use Rattle.schema.specs.Declarations.{Declarations}
 use Rattle.schema.specs.Reading.{allowance}
+use Rattle.inputs.specs.Refusals.{numberOf}
+use Rattle.inputs.specs.Inputs.{Input, kindOf}
+use Rattle.inputs.specs.Outcomes.{Answer, refusal}
 use Rattle.declarations.specs.Payload.{declarationRows}
-use Rattle.decoding.specs.Refusals.{numberOf}
-use Rattle.decoding.specs.Inputs.{Input, kindOf}
-use Rattle.decoding.specs.Answered.{Answer, textLimit, refusal, accepted, sheetWritten, written, answered}
+use Rattle.decoding.specs.Answered.{textLimit, accepted, sheetWritten, written, answered}
 use Rattle.metadata.specs.Read.{reading, read}
 
 -- no refusal has number 0

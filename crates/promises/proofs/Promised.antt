@@ -24,10 +24,10 @@ use Rattle.schema.specs.Rows.{constructorRows, functionRows, propertyRows}
 use Rattle.schema.specs.Counting.{countKind, constructorSize, functionSize, propertySize, declarationsSize}
 use Rattle.schema.proofs.Fine.{FineDeclarations}
 use Rattle.schema.proofs.TypeCount.{count-append, count-all, constructor-count, function-count, property-count}
+use Rattle.inputs.specs.Inputs.{Input, kindOf}
+use Rattle.inputs.specs.Outcomes.{Answer}
 use Rattle.descriptors.specs.Defaults.{constructorParts, functionParts, defaultRow, closedConstructor, closedFunction}
 use Rattle.declarations.specs.Payload.{declarationRows}
-use Rattle.decoding.specs.Inputs.{Input, kindOf}
-use Rattle.decoding.specs.Answered.{Answer}
 use Rattle.metadata.specs.Read.{read}
 use Rattle.promises.specs.Walk.{walk, sheetOf}
 use Rattle.promises.specs.Promises.{sheetBytes, textBytes, Promised}

@@ -27,8 +27,8 @@ use Rattle.schema.specs.Reading.{Read, allowance}
 use Rattle.schema.specs.Counting.{declarationsSize}
 use Rattle.schema.proofs.Fine.{NamesFine, FineDeclarations, class-fine, package-fine}
 use Rattle.schema.proofs.TypeCount.{class-enters, package-enters}
+use Rattle.inputs.specs.Inputs.{Input, kindOf, carriesDeclarations, laterFault, faultOf}
 use Rattle.declarations.specs.Payload.{bodyOf, payload}
-use Rattle.decoding.specs.Inputs.{Input, kindOf, carriesDeclarations, laterFault, faultOf}
 use Rattle.decoding.specs.Answered.{headAlone}
 use Rattle.metadata.specs.Read.{reading}
 

@@ -6,14 +6,14 @@ use mathlib.Core.Option.{some}
 use Prim.Native.Nat.{ℕ}
 use lib.ListN.{take}
 use Rattle.foundation.specs.Results.{ok}
-use Rattle.characters.specs.WellFormed.{WellFormed}
 use Rattle.sheet.specs.Rows.{Row}
 use Rattle.sheet.specs.Reading.{rowsOf}
 use Rattle.sheet.specs.Refs.{refsOf, CutInOrder}
+use Rattle.characters.specs.WellFormed.{WellFormed}
 use Rattle.schema.specs.Declarations.{Declarations}
 use Rattle.schema.specs.Counting.{countKind}
-use Rattle.decoding.specs.Inputs.{Input, kindOf}
-use Rattle.decoding.specs.Answered.{Answer}
+use Rattle.inputs.specs.Inputs.{Input, kindOf}
+use Rattle.inputs.specs.Outcomes.{Answer}
 use Rattle.metadata.specs.Read.{reading}
 use Rattle.promises.specs.Walk.{walk, sheetOf}
 

@@ -5,7 +5,7 @@ use Rattle.lent_scratch.proofs.lent_body.Statement.{statement}
 use Rattle.lent_scratch.proofs.lent_body.Tie as tie
 use Rattle.lent_scratch.proofs.lent_body.Reads as reads
 use Rattle.lent_scratch.proofs.lent_body.Lts as lts
-use Rattle.decoding.proofs.decode.decode_in.Reads as decode-in-reads
+use Rattle.decoding.proofs.decode_in.Reads as decode-in-reads
 use Rattle.metadata.proofs.read_any.Reads as read-any-reads
 
 -- src/lent.rt:42:9

@@ -1,16 +1,16 @@
 use mathlib.Core.Path.{_∙_, ap}
 use mir.Facts.{toZ-ofZ}
-use Rattle.decoding.specs.Inputs.{kindOf}
+use Rattle.inputs.specs.Inputs.{kindOf}
 use Rattle.metadata.proofs.ReadLaws.{kind-within, read-fault, kept-is, read-kind-is}
 use borrow.Author.Needs.{needs}
 use Rattle.lent_scratch.proofs.lent_outcome.Statement.{statement}
 use Rattle.lent_scratch.proofs.lent_outcome.Tie as tie
 use Rattle.lent_scratch.proofs.lent_outcome.Reads as reads
 use Rattle.lent_scratch.proofs.lent_outcome.Lts as lts
-use Rattle.decoding.proofs.inputs.fault_of.Reads as fault-of-reads
-use Rattle.decoding.proofs.inputs.kind_of.Reads as kind-of-reads
+use Rattle.inputs.proofs.fault_of.Reads as fault-of-reads
+use Rattle.inputs.proofs.kind_of.Reads as kind-of-reads
 use Rattle.lent_scratch.proofs.lent_kind.Reads as lent-kind-reads
-use Rattle.decoding.proofs.outcome.fault_refusal.Reads as fault-refusal-reads
+use Rattle.inputs.proofs.outcome.fault_refusal.Reads as fault-refusal-reads
 
 -- src/lent.rt:126:9
 fault-of-requires : tie.Need-fault-of-requires

@@ -1,8 +1,8 @@
 use mathlib.Core.Path.{_∙_, ap, sym}
 use lib.IntN.{ℤ}
 use mir.Facts.{toZ-ofZ}
+use Rattle.inputs.specs.Told.{input}
 use Rattle.metadata.specs.Read.{read}
-use Rattle.decoding.specs.Told.{input}
 use Rattle.metadata.proofs.ReadLaws.{answer-is}
 use borrow.Author.Needs.{needs}
 use Rattle.lent_scratch.proofs.read_lent.Statement.{statement}

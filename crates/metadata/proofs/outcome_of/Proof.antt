@@ -1,15 +1,15 @@
 use mathlib.Core.Path.{_∙_, ap}
 use mir.Facts.{toZ-ofZ}
-use Rattle.decoding.specs.Inputs.{kindOf}
+use Rattle.inputs.specs.Inputs.{kindOf}
 use Rattle.metadata.proofs.ReadLaws.{kind-within, read-fault, kept-is, read-kind-is}
 use borrow.Author.Needs.{needs}
 use Rattle.metadata.proofs.outcome_of.Statement.{statement}
 use Rattle.metadata.proofs.outcome_of.Tie as tie
 use Rattle.metadata.proofs.outcome_of.Reads as reads
 use Rattle.metadata.proofs.outcome_of.Lts as lts
-use Rattle.decoding.proofs.inputs.fault_of.Reads as fault-of-reads
-use Rattle.decoding.proofs.inputs.kind_of.Reads as kind-of-reads
-use Rattle.decoding.proofs.outcome.fault_refusal.Reads as fault-refusal-reads
+use Rattle.inputs.proofs.fault_of.Reads as fault-of-reads
+use Rattle.inputs.proofs.kind_of.Reads as kind-of-reads
+use Rattle.inputs.proofs.outcome.fault_refusal.Reads as fault-refusal-reads
 use Rattle.metadata.proofs.read_kind.Reads as read-kind-reads
 
 -- src/lib.rt:157:9

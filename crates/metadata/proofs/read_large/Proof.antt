@@ -6,8 +6,8 @@ use Rattle.metadata.proofs.read_large.Statement.{statement}
 use Rattle.metadata.proofs.read_large.Tie as tie
 use Rattle.metadata.proofs.read_large.Reads as reads
 use Rattle.metadata.proofs.read_large.Lts as lts
-use Rattle.decoding.proofs.decode.decode_in.Reads as decode-in-reads
-use Rattle.decoding.proofs.outcome.refused.Reads as refused-reads
+use Rattle.decoding.proofs.decode_in.Reads as decode-in-reads
+use Rattle.inputs.proofs.outcome.refused.Reads as refused-reads
 
 -- src/lib.rt:111:9
 slice-aggregate-decode-in : tie.Need-slice-aggregate-decode-in

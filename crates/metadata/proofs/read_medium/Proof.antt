@@ -6,8 +6,8 @@ use Rattle.metadata.proofs.read_medium.Statement.{statement}
 use Rattle.metadata.proofs.read_medium.Tie as tie
 use Rattle.metadata.proofs.read_medium.Reads as reads
 use Rattle.metadata.proofs.read_medium.Lts as lts
-use Rattle.decoding.proofs.decode.decode_in.Reads as decode-in-reads
-use Rattle.decoding.proofs.outcome.refused.Reads as refused-reads
+use Rattle.decoding.proofs.decode_in.Reads as decode-in-reads
+use Rattle.inputs.proofs.outcome.refused.Reads as refused-reads
 
 -- src/lib.rt:76:9
 slice-aggregate-decode-in : tie.Need-slice-aggregate-decode-in
