@@ -3,5 +3,3 @@ pub mod SignedLaws
 pub mod OutputLaws
 pub mod Examples
 pub mod TakenLaws
-pub mod KeptLaws
-pub mod AnswerLaws

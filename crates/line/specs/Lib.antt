@@ -3,4 +3,3 @@ pub mod Pieces
 pub mod Line
 pub mod Wrote
 pub mod Taken
-pub mod Program

@@ -2,4 +2,3 @@
 pub mod input; // input.rt: the input
 pub mod output; // output.rt: the line
 pub mod stream; // stream.rt: the input read from a file descriptor
-pub mod answer; // answer.rt: the line for an input

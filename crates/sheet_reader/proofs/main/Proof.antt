@@ -5,8 +5,8 @@ use Rattle.sheet_reader.proofs.main.Statement.{statement}
 use Rattle.sheet_reader.proofs.main.Tie as tie
 use Rattle.sheet_reader.proofs.main.Reads as reads
 use Rattle.sheet_reader.proofs.main.Lts as lts
+use Rattle.answers.proofs.answer_input.Reads as answer-input-reads
 use Rattle.io.proofs.write_all.Reads as write-all-reads
-use Rattle.line.proofs.answer.answer_input.Reads as answer-input-reads
 
 -- src/main.rt:8:74
 slice-aggregate-answer-input : tie.Need-slice-aggregate-answer-input

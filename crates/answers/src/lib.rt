@@ -1,15 +1,15 @@
 // The line for an input that was read: what is kept of it goes to the reader, with areas of 65,536 bytes.
 ghost use Prim.Native.Nat.{_<_, _≤_, _^_};
 ghost use Rattle.line.specs.Pieces.{CountsFit};
-ghost use Rattle.line.specs.Program.{WroteRead, WroteKept, WrotePrinted, WroteLine};
-use crate::input::Counts;
-use crate::input::ends_at;
-use crate::input::input_end;
-use crate::input::signed_at;
-use crate::input::units_at;
-use crate::output::put_line;
-use crate::stream::Taken;
-use crate::stream::take_input;
+ghost use Rattle.answers.specs.Program.{WroteRead, WroteKept, WrotePrinted, WroteLine};
+use line::input::Counts;
+use line::input::ends_at;
+use line::input::input_end;
+use line::input::signed_at;
+use line::input::units_at;
+use line::output::put_line;
+use line::stream::Taken;
+use line::stream::take_input;
 use metadata::read;
 
 // The reader's answer to d1, d2 and ends, with k and mv from what is kept.

@@ -26,22 +26,22 @@ use Rattle.sheet.specs.Rows.{Row, sheetFrom, texts}
 use Rattle.schema.specs.Declarations.{Declarations}
 use Rattle.schema.specs.Reading.{allowance}
 use Rattle.inputs.specs.Inputs.{Input, kindOf}
+use Rattle.inputs.specs.Outcomes as R
 use Rattle.inputs.specs.Outcomes.{refusal}
 use Rattle.inputs.specs.Told.{input}
 use Rattle.declarations.specs.Payload.{declarationRows}
-use Rattle.inputs.specs.Outcomes as R
 use Rattle.decoding.specs.Answered.{answered, written, sheetWritten, accepted, textLimit}
 use Rattle.metadata.specs.Read.{read, reading}
 use Rattle.metadata.specs.declared.Answer.{Answer}
 use Rattle.metadata.specs.ReadTold.{toldBy}
 use Rattle.line.specs.declared.input.Counts.{Counts}
 use Rattle.line.specs.declared.stream.Taken.{Taken}
 use Rattle.line.specs.Input.{d1Place, d2Place, endsPlace, numberAt, numbersAt, signedOf, countsOf, inputEnd, inputOf, given}
 use Rattle.line.specs.Line.{decimal, partOf, lineOf}
 use Rattle.line.specs.Wrote.{Wrote}
 use Rattle.line.specs.Taken.{SoFar, keptLimit, TookSome}
-use Rattle.line.specs.Program.{answerLine, printed, keptInput, inputWith, versionAt, zeros, WroteRead, WroteKept, WrotePrinted, WroteLine}
-use Rattle.line.proofs.KeptLaws.{length-numbers, read-kept}
+use Rattle.answers.specs.Program.{answerLine, printed, keptInput, inputWith, versionAt, zeros, WroteRead, WroteKept, WrotePrinted, WroteLine}
+use Rattle.answers.proofs.KeptLaws.{length-numbers, read-kept}
 
 -- the lengths that an answer tells lie in its areas, and in those that were lent
 pub record Inside (S T : List ℕ) (a : R.Answer) : Type 0 where
