@@ -3,7 +3,7 @@
 use mathlib.Core.List.{List}
 use Prim.Native.Nat.{ℕ}
 
--- Why an input is refused, in the order of document 01's list. Numbers and details are given in one place, `decoding`'s specs/Refusals.
+-- Why an input is refused, in the order of document 01's list. Numbers and details are given in one place, `inputs`' specs/Refusals.
 pub data Cause : Type 0 where
   d1TooLong d2TooLong stringEnds : Cause
   newerVersion emptyPayload : Cause
