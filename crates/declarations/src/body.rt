@@ -8,9 +8,8 @@ ghost use Rattle.schema.specs.Told.{lent};
 ghost use Rattle.schema.specs.MembersTold.{Affords};
 ghost use Rattle.declarations.specs.PayloadTold.{functionField, propertyField};
 ghost use Rattle.declarations.specs.BodyTold.{headCost, listCost, bodyCost, HeadTold, ConstructorsTold, MembersTold, BodyWalked};
-use descriptors::closed::constructors_in;
-use descriptors::closed::functions_in;
-use members::flags::flags_in;
+use closed_members::constructors_in;
+use closed_members::functions_in;
 use members::properties::properties_in;
 use names::steps::absent;
 use schema::Listed;
@@ -21,6 +20,7 @@ use schema::name::class_name_in;
 use schema::rows::put_head;
 use schema::rows::put_head_counts;
 use sheet::State;
+use signatures::flags::flags_in;
 
 // Field numbers of metadata.proto's Class, and of its Package.
 const CLASS_FLAGS: u32 = 1;

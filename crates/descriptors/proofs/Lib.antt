@@ -5,4 +5,3 @@ pub mod GivenLaws
 pub mod JoinLaws
 pub mod DefaultLaws
 pub mod FunctionLaws
-pub mod ClosedLaws

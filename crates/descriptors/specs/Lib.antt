@@ -2,4 +2,3 @@ pub mod Defaults
 pub mod DefaultsTold
 pub mod ErasedTold
 pub mod PartsTold
-pub mod ClosedTold

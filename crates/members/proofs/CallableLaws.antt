@@ -44,11 +44,12 @@ use Rattle.schema.specs.Told.{Lent, NamesOf, Scoped, WalkedSpends, WalkedTold}
 use Rattle.schema.specs.TypesTold.{pickedOf}
 use Rattle.schema.specs.MembersTold.{Affords, Within, ListedTold, parameterCost, memberCost, MemberTold, ListTold}
 use Rattle.type_references.specs.OptionalTold.{OptionalTold}
-use Rattle.members.specs.SignaturesTold.{SignedTold}
-use Rattle.members.specs.CallablesTold.{ReceiverTold, functionHeadCost, FunctionHead, functionTypes, FunctionTypesAre, FunctionTypesTold}
+use Rattle.signatures.specs.SignaturesTold.{SignedTold}
+use Rattle.signatures.specs.ReceiversTold.{ReceiverTold}
+use Rattle.members.specs.CallablesTold.{functionHeadCost, FunctionHead, functionTypes, FunctionTypesAre, FunctionTypesTold}
 use Rattle.schema.specs.declared.rows.SignatureNames.{SignatureNames}
-use Rattle.members.specs.declared.signatures.Signed.{Signed}
-use Rattle.members.specs.declared.signatures.Signed.the-variants as answer
+use Rattle.signatures.specs.declared.signatures.Signed.{Signed}
+use Rattle.signatures.specs.declared.signatures.Signed.the-variants as answer
 use Rattle.schema.specs.declared.Stop.{Stop}
 use Rattle.schema.specs.declared.Stop.the-variants as stop
 use Rattle.schema.specs.declared.Listed.{Listed}

@@ -46,7 +46,7 @@ use Rattle.schema.specs.Written.{Room, cellLimit, signatureBy, propertyCells}
 use Rattle.schema.specs.Told.{Lent, Scoped, Ready, refusal, WalkedSpends, WalkedTold}
 use Rattle.schema.specs.MembersTold.{Affords, Within, memberCost, MemberTold}
 use Rattle.type_references.specs.OptionalTold.{OptionalTold}
-use Rattle.members.specs.SignaturesTold.{AccessorTold, PropertySignedTold, AccessorsDue}
+use Rattle.signatures.specs.SignaturesTold.{AccessorTold, PropertySignedTold, AccessorsDue}
 use Rattle.members.specs.PropertiesTold.{recordCost, RecordTold, NamedPropertyTold}
 use Rattle.schema.specs.declared.Stop.{Stop}
 use Rattle.schema.specs.declared.Stop.the-variants as stop
@@ -55,11 +55,11 @@ use Rattle.schema.specs.declared.Walked.the-variants as walked
 use Rattle.schema.specs.declared.Picked.{Picked}
 use Rattle.schema.specs.declared.Picked.the-variants as picked
 use Rattle.schema.specs.declared.rows.SignatureNames.{SignatureNames}
-use Rattle.members.specs.declared.signatures.Signed.{Signed}
-use Rattle.members.specs.declared.signatures.Signed.the-variants as answer
-use Rattle.members.specs.declared.signatures.PropertyNames.{PropertyNames}
-use Rattle.members.specs.declared.signatures.PropertySigned.{PropertySigned}
-use Rattle.members.specs.declared.signatures.PropertySigned.the-variants as property
+use Rattle.signatures.specs.declared.signatures.Signed.{Signed}
+use Rattle.signatures.specs.declared.signatures.Signed.the-variants as answer
+use Rattle.signatures.specs.declared.signatures.PropertyNames.{PropertyNames}
+use Rattle.signatures.specs.declared.signatures.PropertySigned.{PropertySigned}
+use Rattle.signatures.specs.declared.signatures.PropertySigned.the-variants as property
 use Rattle.schema.proofs.WrittenLaws.{Small, property-small}
 use Rattle.schema.proofs.RecordLaws.{property-put}
 use Rattle.schema.proofs.CountLaws.{within-both, spends-within, affords-after, affords-ready}

@@ -24,23 +24,18 @@ use Rattle.schema.specs.Fields.{
 use Rattle.schema.specs.Declarations.{Ty, Signature, Function}
 use Rattle.schema.specs.Reading.{Read, pure, _>>=_, Scope}
 use Rattle.schema.specs.Types.{declaredType}
-use Rattle.schema.specs.Members.{flagsIn, signed, signatureIn, receiverIn}
+use Rattle.schema.specs.Members.{flagsIn, signed, signatureIn}
 use Rattle.schema.specs.Rows.{receiverRole, returnRole, typeRows}
 use Rattle.schema.specs.Written.{cellLimit, functionCells}
 use Rattle.schema.specs.Told.{Lent, Scoped, WalkedSpends, refusal}
 use Rattle.schema.specs.MembersTold.{Within}
-use Rattle.members.specs.SignaturesTold.{SignedTold}
+use Rattle.signatures.specs.SignaturesTold.{SignedTold}
+use Rattle.signatures.specs.ReceiversTold.{ReceiverTold}
 use Rattle.schema.specs.declared.rows.SignatureNames.{SignatureNames}
-use Rattle.members.specs.declared.signatures.Signed.{Signed}
-use Rattle.members.specs.declared.signatures.Signed.the-variants as answer
+use Rattle.signatures.specs.declared.signatures.Signed.{Signed}
+use Rattle.signatures.specs.declared.signatures.Signed.the-variants as answer
 use Rattle.schema.specs.declared.Walked.{Walked}
 use Rattle.schema.specs.declared.Walked.the-variants as walked
-
--- Is a receiver there, where its type is accepted?
-abbrev pub ReceiverTold : List ℕ → ℕ → ℕ → ℕ → Bool → Type 0
-ReceiverTold msg base inline indexed r =
-    (c : Scope) (m : Message) (l : ℕ) (o : Option Ty) (b : ℕ) → cut (_from_ base msg) ≡ ok m → declaredType c inline indexed m l ≡ ok (o, b)
-    → receiverIn o indexed m ≡ r
 
 -- what a function's record up to its parameter count takes
 abbrev pub functionHeadCost : ℕ

@@ -1,4 +1,3 @@
-pub mod SignaturesTold
 pub mod CallablesTold
 pub mod PropertiesTold
 pub mod ParametersTold

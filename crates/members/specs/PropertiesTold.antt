@@ -29,12 +29,12 @@ use Rattle.schema.specs.Rows.{propertyRows}
 use Rattle.schema.specs.Written.{signatureBy, propertyCells}
 use Rattle.schema.specs.Told.{Lent, Scoped, PickedTold}
 use Rattle.schema.specs.MembersTold.{Within, PickedWithin, memberCost}
-use Rattle.members.specs.SignaturesTold.{PropertySignedTold}
+use Rattle.signatures.specs.SignaturesTold.{PropertySignedTold}
 use Rattle.schema.specs.declared.Picked.{Picked}
 use Rattle.schema.specs.declared.rows.SignatureNames.{SignatureNames}
-use Rattle.members.specs.declared.signatures.Signed.the-variants as answer
-use Rattle.members.specs.declared.signatures.PropertyNames.{PropertyNames}
-use Rattle.members.specs.declared.signatures.PropertySigned.the-variants as property
+use Rattle.signatures.specs.declared.signatures.Signed.the-variants as answer
+use Rattle.signatures.specs.declared.signatures.PropertyNames.{PropertyNames}
+use Rattle.signatures.specs.declared.signatures.PropertySigned.the-variants as property
 
 -- A property's record takes no more than this.
 abbrev pub recordCost : ℕ

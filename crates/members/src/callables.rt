@@ -6,16 +6,11 @@ ghost use Rattle.schema.specs.Members.{constructorIn, functionIn};
 ghost use Rattle.schema.specs.Rows.{constructorRows, functionRows};
 ghost use Rattle.schema.specs.Told.{lent, Ready};
 ghost use Rattle.schema.specs.MembersTold.{Affords, memberCost, MemberTold};
-ghost use Rattle.members.specs.CallablesTold.{ReceiverTold, functionHeadCost, FunctionHead, FunctionTypesTold};
-ghost use Rattle.members.specs.declared.signatures.Signed.the-variants as answer;
+ghost use Rattle.members.specs.CallablesTold.{functionHeadCost, FunctionHead, FunctionTypesTold};
+ghost use Rattle.signatures.specs.declared.signatures.Signed.the-variants as answer;
 ghost use Rattle.schema.specs.declared.Listed.the-variants as listed;
 ghost use Rattle.schema.specs.declared.Picked.the-variants as picked;
-use crate::flags::OMITTED;
-use crate::flags::flags_in;
 use crate::parameters::parameters_in;
-use crate::signatures::Signed;
-use crate::signatures::or_name;
-use crate::signatures::signature_in;
 use names::name::Name;
 use names::name::is_there;
 use names::steps::absent;
@@ -31,11 +26,13 @@ use schema::rows::put_count;
 use schema::rows::put_function;
 use schema::types::picked;
 use sheet::State;
+use signatures::flags::OMITTED;
+use signatures::flags::flags_in;
+use signatures::receiver::has_receiver;
+use signatures::signatures::Signed;
+use signatures::signatures::or_name;
+use signatures::signatures::signature_in;
 use type_references::declared_type;
-use wire::message::Found;
-use wire::message::Piece;
-use wire::message::bytes;
-use wire::message::find;
 
 // Field numbers of metadata.proto's Constructor and Function, and of jvm_metadata.proto's extensions of both.
 const CONSTRUCTOR_FLAGS: u32 = 1;
@@ -61,21 +58,6 @@ const SIGNATURE: u32 = 100;
 const RETURN_ROLE: u8 = 1;
 
 const RECEIVER_ROLE: u8 = 2;
-
-// Is a receiver there? Its type is inline, or its index field occurs in any wire type.
-pub fn has_receiver(msg: &[u8], base: u32, inline: u32, indexed: u32) -> bool
-    ensures { λ r. ⌜ ReceiverTold (now (msg .entry)) base inline indexed r ⌝ }
-{
-    let body = bytes(msg, base, inline);
-    let Piece::Nothing = body else {
-        return true;
-    };
-    let occurrence = find(msg, base, indexed);
-    let Found::Nothing = occurrence else {
-        return true;
-    };
-    false
-}
 
 // The names of a signature. One that is refused has none, and its refusal is due later.
 fn names_of(signed: Signed) -> SignatureNames

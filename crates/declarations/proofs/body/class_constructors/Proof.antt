@@ -6,7 +6,7 @@ use Rattle.declarations.proofs.body.class_constructors.Statement.{state
 use Rattle.declarations.proofs.body.class_constructors.Tie as tie
 use Rattle.declarations.proofs.body.class_constructors.Reads as reads
 use Rattle.declarations.proofs.body.class_constructors.Lts as lts
-use Rattle.descriptors.proofs.closed.constructors_in.Reads as constructors-in-reads
+use Rattle.closed_members.proofs.constructors_in.Reads as constructors-in-reads
 
 -- src/body.rt:139:9
 returns : tie.Need-returns

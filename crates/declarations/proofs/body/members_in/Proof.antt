@@ -14,7 +14,7 @@ use Rattle.declarations.proofs.body.class_constructors.Reads as class-c
 use Rattle.declarations.proofs.body.function_field.Reads as function-field-reads
 use Rattle.declarations.proofs.body.property_field.Reads as property-field-reads
 use Rattle.declarations.proofs.body.stop_of.Reads as stop-of-reads
-use Rattle.descriptors.proofs.closed.functions_in.Reads as functions-in-reads
+use Rattle.closed_members.proofs.functions_in.Reads as functions-in-reads
 use Rattle.members.proofs.properties.properties_in.Reads as properties-in-reads
 
 -- src/body.rt:179:9

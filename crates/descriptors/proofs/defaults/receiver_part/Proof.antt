@@ -6,7 +6,7 @@ use Rattle.descriptors.proofs.defaults.receiver_part.Tie as tie
 use Rattle.descriptors.proofs.defaults.receiver_part.Reads as reads
 use Rattle.descriptors.proofs.defaults.receiver_part.Lts as lts
 use Rattle.descriptors.proofs.defaults.type_part.Reads as type-part-reads
-use Rattle.members.proofs.callables.has_receiver.Reads as has-receiver-reads
+use Rattle.signatures.proofs.receiver.has_receiver.Reads as has-receiver-reads
 
 -- src/defaults.rt:298:9
 sub-has-receiver : tie.Need-sub-has-receiver

@@ -5,7 +5,7 @@ use Rattle.descriptors.proofs.defaults.suspends.Statement.{statement}
 use Rattle.descriptors.proofs.defaults.suspends.Tie as tie
 use Rattle.descriptors.proofs.defaults.suspends.Reads as reads
 use Rattle.descriptors.proofs.defaults.suspends.Lts as lts
-use Rattle.members.proofs.flags.flags_in.Reads as flags-in-reads
+use Rattle.signatures.proofs.flags.flags_in.Reads as flags-in-reads
 
 -- src/defaults.rt:386:26
 sub-flags-in : tie.Need-sub-flags-in

@@ -9,11 +9,11 @@ use Rattle.members.proofs.callables.constructor_in.Reads as reads
 use Rattle.members.proofs.callables.constructor_in.Lts as lts
 use Rattle.members.proofs.callables.names_of.Reads as names-of-reads
 use Rattle.members.proofs.callables.refused_list.Reads as refused-list-reads
-use Rattle.members.proofs.flags.flags_in.Reads as flags-in-reads
+use Rattle.signatures.proofs.flags.flags_in.Reads as flags-in-reads
 use Rattle.members.proofs.parameters.parameters_in.Reads as parameters-in-reads
 use Rattle.schema.proofs.rows.put_constructor.Reads as put-constructor-reads
 use Rattle.schema.proofs.rows.put_count.Reads as put-count-reads
-use Rattle.members.proofs.signatures.signature_in.Reads as signature-in-reads
+use Rattle.signatures.proofs.signatures.signature_in.Reads as signature-in-reads
 
 -- src/callables.rt:123:9
 flags-in-requires : tie.Need-flags-in-requires

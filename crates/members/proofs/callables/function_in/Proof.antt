@@ -16,7 +16,7 @@ use Rattle.members.proofs.callables.refused_list.Reads as refused-list-
 use Rattle.schema.proofs.name.name_in.Reads as name-in-reads
 use Rattle.members.proofs.parameters.parameters_in.Reads as parameters-in-reads
 use Rattle.schema.proofs.rows.put_count.Reads as put-count-reads
-use Rattle.members.proofs.signatures.signature_in.Reads as signature-in-reads
+use Rattle.signatures.proofs.signatures.signature_in.Reads as signature-in-reads
 use Rattle.schema.proofs.types.picked.Reads as picked-reads
 
 -- src/callables.rt:301:9

@@ -9,7 +9,7 @@ use Rattle.members.proofs.properties.named_property.Reads as reads
 use Rattle.members.proofs.properties.named_property.Lts as lts
 use Rattle.type_references.proofs.declared_type.Reads as declared-type-reads
 use Rattle.members.proofs.properties.put_record.Reads as put-record-reads
-use Rattle.members.proofs.signatures.check_accessors.Reads as check-accessors-reads
+use Rattle.signatures.proofs.signatures.check_accessors.Reads as check-accessors-reads
 
 -- src/properties.rt:124:9
 put-record-requires : tie.Need-put-record-requires

@@ -10,7 +10,7 @@ use Rattle.members.proofs.properties.property_in.Lts as lts
 use Rattle.names.proofs.name.is_there.Reads as is-there-reads
 use Rattle.schema.proofs.name.name_in.Reads as name-in-reads
 use Rattle.members.proofs.properties.named_property.Reads as named-property-reads
-use Rattle.members.proofs.signatures.property_signatures.Reads as property-signatures-reads
+use Rattle.signatures.proofs.signatures.property_signatures.Reads as property-signatures-reads
 
 -- src/properties.rt:203:9
 name-in-requires : tie.Need-name-in-requires

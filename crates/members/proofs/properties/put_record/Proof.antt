@@ -4,11 +4,11 @@ use Rattle.members.proofs.properties.put_record.Statement.{statement}
 use Rattle.members.proofs.properties.put_record.Tie as tie
 use Rattle.members.proofs.properties.put_record.Reads as reads
 use Rattle.members.proofs.properties.put_record.Lts as lts
-use Rattle.members.proofs.callables.has_receiver.Reads as has-receiver-reads
-use Rattle.members.proofs.flags.flags_in.Reads as flags-in-reads
+use Rattle.signatures.proofs.receiver.has_receiver.Reads as has-receiver-reads
+use Rattle.signatures.proofs.flags.flags_in.Reads as flags-in-reads
 use Rattle.members.proofs.properties.is_default.Reads as is-default-reads
 use Rattle.schema.proofs.rows.put_property.Reads as put-property-reads
-use Rattle.members.proofs.signatures.Signed.names.Reads as names-reads
+use Rattle.signatures.proofs.signatures.Signed.names.Reads as names-reads
 
 -- src/properties.rt:77:9
 flags-in-requires : tie.Need-flags-in-requires

@@ -1,0 +1,79 @@
+use Rattle.schema.proofs.ListLaws.{list-uncut, list-cut}
+use Rattle.closed_members.proofs.ClosedLaws.{checked-rest}
+use borrow.Author.Needs.{needs}
+use Rattle.closed_members.proofs.functions_in.Statement.{statement}
+use Rattle.closed_members.proofs.functions_in.Tie as tie
+use Rattle.closed_members.proofs.functions_in.Reads as reads
+use Rattle.closed_members.proofs.functions_in.Lts as lts
+use Rattle.closed_members.proofs.functions_at.Reads as functions-at-reads
+use Rattle.wire.proofs.message.Checked.error.Reads as error-reads
+use Rattle.wire.proofs.message.check_messages.Reads as check-messages-reads
+
+-- src/lib.rt:456:34
+sub-check-messages : tie.Need-sub-check-messages
+sub-check-messages c = search needs
+
+-- src/lib.rt:456:34
+part-check-messages-start : tie.Need-part-check-messages-start
+part-check-messages-start c = search needs
+
+-- src/lib.rt:456:34
+part-check-messages-end : tie.Need-part-check-messages-end
+part-check-messages-end c = search needs
+
+-- src/lib.rt:456:50
+cast-check-messages : tie.Need-cast-check-messages
+cast-check-messages c = search needs
+
+-- src/lib.rt:456:9
+check-messages-requires : tie.Need-check-messages-requires
+check-messages-requires c κs = search needs
+
+enum-told : tie.Need-enum-told
+enum-told c = search needs
+
+-- src/lib.rt:460:24
+enum-told-2 : tie.Need-enum-told-2
+enum-told-2 c = search needs
+
+-- src/lib.rt:460:24
+error-requires : tie.Need-error-requires
+error-requires c κs = search needs
+
+-- src/lib.rt:458:9
+returns : tie.Need-returns
+returns c = list-uncut (c .before .before .before .check-messages .result) (checked-rest (c .before .before .before .before .before .before .before .before .before .before .before .before .before .before .before .args .payload .now) (c .before .before .before .before .before .before .before .before .before .before .before .before .before .before .before .args .at) (c .before .before .before .before .before .before .before .before .before .before .before .before .before .before .before .args .number) (c .before .before .before .check-messages .result) (c .before .before .before .check-messages .ensures)) (c .before .enum-told2 .given .1) (c .error .ensures _ (c .before .enum-told2 .given .1))
+
+-- src/lib.rt:464:5
+functions-at-requires : tie.Need-functions-at-requires
+functions-at-requires c κs = search needs
+
+-- src/lib.rt:437:1
+same-length : tie.Need-same-length
+same-length c = search needs
+
+-- src/lib.rt:437:1
+same-length-2 : tie.Need-same-length-2
+same-length-2 c = search needs
+
+-- src/lib.rt:437:1
+returns-2 : tie.Need-returns-2
+returns-2 c = list-cut (c .before .before .before .before .before .before .before .before .before .check-messages .result) (checked-rest (c .before .before .before .before .before .before .before .before .before .before .before .before .before .before .before .before .before .before .before .before .before .args .payload .now) (c .before .before .before .before .before .before .before .before .before .before .before .before .before .before .before .before .before .before .before .before .before .args .at) (c .before .before .before .before .before .before .before .before .before .before .before .before .before .before .before .before .before .before .before .before .before .args .number) (c .before .before .before .before .before .before .before .before .before .check-messages .result) (c .before .before .before .before .before .before .before .before .before .check-messages .ensures)) (c .before .before .before .before .before .before .before .enum-told .given .1) (c .before .before .before .before .functions-at .ensures)
+
+pub functions-in-spec : {M : Type 1} → statement M
+functions-in-spec =
+    tie.close
+    (tie.spec
+    sub-check-messages
+    part-check-messages-start
+    part-check-messages-end
+    cast-check-messages
+    check-messages-requires
+    enum-told
+    enum-told-2
+    error-requires
+    returns
+    functions-at-requires
+    same-length
+    same-length-2
+    returns-2)

@@ -1,0 +1,2 @@
+pub mod SignaturesTold
+pub mod ReceiversTold
