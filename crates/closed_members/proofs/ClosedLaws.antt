@@ -14,10 +14,10 @@ use Rattle.foundation.proofs.DigitLaws.{length-digits}
 use Rattle.foundation.proofs.OverlayLaws.{sets-front}
 use Rattle.wire.specs.Wire.{Message, cut}
 use Rattle.wire.specs.Messages.{messages}
-use Rattle.wire.specs.Asked.{CheckedTold, NextTold}
-use Rattle.wire.specs.declared.message.Checked.{Checked}
-use Rattle.wire.specs.declared.message.Piece.{Piece}
-use Rattle.wire.specs.declared.message.Piece.the-variants as piece
+use Rattle.messages.specs.Asked.{CheckedTold, NextTold}
+use Rattle.messages.specs.declared.Checked.{Checked}
+use Rattle.wire.specs.declared.Piece.{Piece}
+use Rattle.wire.specs.declared.Piece.the-variants as piece
 use Rattle.characters.specs.Characters.{partFrom}
 use Rattle.characters.proofs.PartLaws.{rest-is}
 use Rattle.sheet.specs.Rows.{ref, Row, row, bodyText, texts}

@@ -18,6 +18,9 @@ use descriptors::defaults::function_default;
 use erasure::Part;
 use members::callables::constructor_in;
 use members::callables::function_in;
+use messages::Checked;
+use messages::check_messages;
+use messages::next_body;
 use schema::Listed;
 use schema::Picked;
 use schema::Stop;
@@ -26,10 +29,7 @@ use schema::rows::put_default;
 use schema::rows::put_default_absent;
 use sheet::State;
 use sheet::put_all;
-use wire::message::Checked;
-use wire::message::Piece;
-use wire::message::check_messages;
-use wire::message::next_body;
+use wire::Piece;
 
 // Kind 7 around a descriptor that was written aside.
 fn put_aside(aside: &[u8], state: State, sheet: &mut [u8], text: &mut [u8]) -> State

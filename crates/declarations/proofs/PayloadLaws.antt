@@ -16,14 +16,14 @@ use Rattle.foundation.specs.Texts.{Text}
 use Rattle.wire.specs.Wire.{Message, cut, readDelimited}
 use Rattle.wire.specs.Told.{refusal, restOf}
 use Rattle.wire.specs.Told as wire
-use Rattle.wire.specs.Asked.{CheckedTold}
+use Rattle.messages.specs.Asked.{CheckedTold}
 use Rattle.wire.specs.declared.WireError.{WireError}
-use Rattle.wire.specs.Reader as reader
-use Rattle.wire.specs.declared.reader.Opened as parted
-use Rattle.wire.specs.declared.reader.Opened.the-variants as parts
-use Rattle.wire.specs.declared.message.Checked.{Checked}
-use Rattle.wire.specs.declared.message.Checked.the-variants as checked
-use Rattle.wire.proofs.BodyLaws.{part-is}
+use Rattle.messages.specs.Reader as reader
+use Rattle.messages.specs.declared.reader.Opened as parted
+use Rattle.messages.specs.declared.reader.Opened.the-variants as parts
+use Rattle.messages.specs.declared.Checked.{Checked}
+use Rattle.messages.specs.declared.Checked.the-variants as checked
+use Rattle.messages.proofs.BodyLaws.{part-is}
 use Rattle.names.specs.Names.{Names, StringTableTypes·record}
 use Rattle.names.specs.Index.{IndexTold}
 use Rattle.names.specs.declared.records.RecordIndex.{RecordIndex}

@@ -14,7 +14,7 @@ use Rattle.foundation.proofs.ChoiceLaws.{if-ind}
 use Rattle.foundation.proofs.ResultLaws.{Gives, gives-bind, gives-weaken, gives-map, gives-ok}
 use Rattle.wire.specs.Wire.{Value, varint, fixed, body, Field, field, Message, readVarint, readValue, readField, cut}
 use Rattle.wire.specs.Messages.{values, bytesOf, bodiesOf, cutOption, message}
-use Rattle.wire.specs.Asked.{bodies}
+use Rattle.messages.specs.Asked.{bodies}
 use Rattle.wire.proofs.Readers.{Within, within-shorter, after-shorter, varint-after, value-after}
 use Rattle.wire.proofs.Progress.{every-gives}
 use Rattle.wire.proofs.MessageLaws.{values-few}

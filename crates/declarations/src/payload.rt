@@ -7,14 +7,14 @@ ghost use Rattle.foundation.specs.Results.{_from_, got};
 ghost use Rattle.wire.specs.Wire.{readDelimited};
 ghost use Rattle.wire.specs.Told.{bodyOf, restOf};
 ghost use Rattle.declarations.specs.PayloadTold.{BodyTold, OpenedTold};
+use messages::Checked;
+use messages::check_from;
 use names::records::RecordIndex;
 use names::records::index_records;
 use schema::Tables;
 use schema::table::TypeIndex;
 use schema::table::index_types;
 use wire::WireError;
-use wire::message::Checked;
-use wire::message::check_from;
 
 // The field of the type table, in a class and in a package.
 const TYPE_TABLE: u32 = 30;
@@ -97,9 +97,9 @@ pub fn open_payload(
 ) -> Opened
     ensures { λ r. ⌜ OpenedTold (now (bytes .entry)) (now (starts .exit)) (now (stops .exit)) (now (firsts .exit)) (now («entry_starts» .exit)) (now («entry_ends» .exit)) r ⌝ }
 {
-    let table = wire::reader::open_payload(bytes);
+    let table = messages::reader::open_payload(bytes);
     match table {
-        wire::reader::Opened::Parts { start, end, rest } => open_table(
+        messages::reader::Opened::Parts { start, end, rest } => open_table(
             bytes,
             start,
             end,
@@ -110,6 +110,6 @@ pub fn open_payload(
             entry_starts,
             entry_ends,
         ),
-        wire::reader::Opened::Refused { error } => Opened::Refused { error },
+        messages::reader::Opened::Refused { error } => Opened::Refused { error },
     }
 }

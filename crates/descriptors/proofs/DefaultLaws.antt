@@ -13,9 +13,9 @@ use Rattle.foundation.specs.Results.{ok, Part, _from_}
 use Rattle.wire.specs.Wire.{Message, cut}
 use Rattle.wire.specs.Messages.{cutAll, messages}
 use Rattle.wire.specs.Told.{restOf, bodyOf}
-use Rattle.wire.specs.Asked.{bodies, NextIs, NextTold, PieceInside, PieceAfter}
-use Rattle.wire.specs.declared.message.Piece.{Piece}
-use Rattle.wire.specs.declared.message.Piece.the-variants as piece
+use Rattle.messages.specs.Asked.{bodies, NextIs, NextTold, PieceInside, PieceAfter}
+use Rattle.wire.specs.declared.Piece.{Piece}
+use Rattle.wire.specs.declared.Piece.the-variants as piece
 use Rattle.wire.proofs.WalkLaws.{whole, ok-same}
 use Rattle.characters.specs.Characters.{partFrom}
 use Rattle.characters.proofs.PartLaws.{part-part, part-short}

@@ -19,6 +19,7 @@ use erasure::OBJECT;
 use erasure::Part;
 use erasure::Position;
 use erasure::put_part;
+use messages::next_body;
 use names::name::is_there;
 use schema::Found;
 use schema::Tables;
@@ -29,8 +30,7 @@ use sheet::put_all;
 use signatures::flags::OMITTED;
 use signatures::flags::flags_in;
 use signatures::receiver::has_receiver;
-use wire::message::Piece;
-use wire::message::next_body;
+use wire::Piece;
 
 // Field numbers of metadata.proto's Constructor, Function and ValueParameter.
 const CONSTRUCTOR_PARAMETER: u32 = 2;

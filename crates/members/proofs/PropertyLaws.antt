@@ -15,8 +15,8 @@ use Rattle.wire.specs.Wire.{Message, cut}
 use Rattle.wire.specs.Messages.{message}
 use Rattle.wire.specs.Told as wire
 use Rattle.wire.specs.declared.WireError.{WireError}
-use Rattle.wire.specs.declared.message.Checked.{Checked}
-use Rattle.wire.specs.declared.message.Checked.the-variants as checked
+use Rattle.messages.specs.declared.Checked.{Checked}
+use Rattle.messages.specs.declared.Checked.the-variants as checked
 use Rattle.names.specs.Name.{nameText}
 use Rattle.names.specs.declared.name.Name.{Name}
 use Rattle.sheet.specs.Rows.{Cell, num, ref, cellText, cellBytes, row, bodyBytes, bodyText, sheetFrom, texts}

@@ -12,6 +12,9 @@ ghost use Rattle.schema.specs.Told.{lent, Ready};
 ghost use Rattle.schema.specs.MembersTold.{Affords, parameterCost, MemberTold, ListTold};
 ghost use Rattle.schema.specs.ListsTold.{ListAtTold};
 ghost use Rattle.members.specs.ParametersTold.{ParameterTypesTold};
+use messages::Checked;
+use messages::check_messages;
+use messages::next_body;
 use names::name::is_there;
 use schema::Listed;
 use schema::Picked;
@@ -25,10 +28,7 @@ use sheet::State;
 use signatures::flags::OMITTED_SMALL;
 use signatures::flags::flags_in;
 use type_references::declared_type;
-use wire::message::Checked;
-use wire::message::Piece;
-use wire::message::check_messages;
-use wire::message::next_body;
+use wire::Piece;
 
 // Field numbers of metadata.proto's ValueParameter.
 const FLAGS: u32 = 1;

@@ -11,6 +11,9 @@ ghost use Rattle.schema.specs.Written.{Room};
 ghost use Rattle.schema.specs.MembersTold.{Affords, memberCost, MemberTold, ListTold};
 ghost use Rattle.schema.specs.ListsTold.{ListAtTold};
 ghost use Rattle.members.specs.PropertiesTold.{RecordTold, NamedPropertyTold};
+use messages::Checked;
+use messages::check_messages;
+use messages::next_body;
 use names::name::Name;
 use names::name::is_there;
 use schema::Listed;
@@ -30,10 +33,7 @@ use signatures::signatures::PropertySigned;
 use signatures::signatures::check_accessors;
 use signatures::signatures::property_signatures;
 use type_references::declared_type;
-use wire::message::Checked;
-use wire::message::Piece;
-use wire::message::check_messages;
-use wire::message::next_body;
+use wire::Piece;
 
 // Field numbers of metadata.proto's Property.
 const NAME: u32 = 2;

@@ -14,15 +14,15 @@ use Rattle.foundation.specs.Results.{Res, ok, refused, _>>=_, Part, _from_}
 use Rattle.wire.specs.Wire.{Message, cut}
 use Rattle.wire.specs.Messages.{values, index, bodiesOf, cutAll, messages, varints}
 use Rattle.wire.specs.Told.{refusal, restOf, bodyOf}
-use Rattle.wire.specs.Asked.{CheckedTold, bodies, indexTold, NextTold}
+use Rattle.messages.specs.Asked.{CheckedTold, bodies, indexTold, NextTold}
 use Rattle.wire.specs.declared.WireError.{WireError}
-use Rattle.wire.specs.declared.message.Checked.{Checked}
-use Rattle.wire.specs.declared.message.Checked.the-variants as checked
-use Rattle.wire.specs.declared.message.Indexed.{Indexed}
-use Rattle.wire.specs.declared.message.Piece.{Piece}
-use Rattle.wire.specs.declared.message.Piece.the-variants as piece
+use Rattle.messages.specs.declared.Checked.{Checked}
+use Rattle.messages.specs.declared.Checked.the-variants as checked
+use Rattle.messages.specs.declared.Indexed.{Indexed}
+use Rattle.wire.specs.declared.Piece.{Piece}
+use Rattle.wire.specs.declared.Piece.the-variants as piece
 use Rattle.wire.proofs.WalkLaws.{cut-end, ok-same}
-use Rattle.wire.proofs.BodyLaws.{checked-part}
+use Rattle.messages.proofs.BodyLaws.{checked-part}
 use Rattle.characters.specs.Characters.{partFrom}
 use Rattle.names.specs.Records.{Record, recordOf, served, Record·range}
 use Rattle.names.specs.Names.{StringTableTypes·record, StringTableTypes·local-name, recordsOf}

@@ -13,13 +13,13 @@ use lib.Dec.{eqb, leb}
 use lib.ListN.{length, drop, length-drop}
 use Rattle.foundation.specs.Choices.{if_then_else_, ifSome, isSome, mapOption, IfSome}
 use Rattle.foundation.specs.Texts.{Text, ascii}
-use Rattle.wire.specs.Asked.{pieceTold, PieceInside, indexTold}
-use Rattle.wire.specs.declared.message.Piece.{Piece}
-use Rattle.wire.specs.declared.message.Piece.the-variants as piece
-use Rattle.wire.specs.declared.message.Indexed.{Indexed}
-use Rattle.wire.specs.declared.message.Indexed.the-variants as indexed
-use Rattle.wire.specs.declared.repeated.Two.{Two}
-use Rattle.wire.specs.declared.repeated.Two.the-variants.{Neither, One, Both}
+use Rattle.messages.specs.Asked.{pieceTold, PieceInside, indexTold}
+use Rattle.wire.specs.declared.Piece.{Piece}
+use Rattle.wire.specs.declared.Piece.the-variants as piece
+use Rattle.messages.specs.declared.Indexed.{Indexed}
+use Rattle.messages.specs.declared.Indexed.the-variants as indexed
+use Rattle.messages.specs.declared.repeated.Two.{Two}
+use Rattle.messages.specs.declared.repeated.Two.the-variants.{Neither, One, Both}
 use Rattle.characters.specs.Characters.{isScalar, fromUtf8, partFrom, placeOf}
 use Rattle.characters.specs.Told.{placeTold}
 use Rattle.characters.proofs.PartLaws.{part-part, part-short, rest-is}
@@ -41,7 +41,7 @@ use Rattle.names.specs.declared.name.Listed.the-variants as listed
 use Rattle.names.specs.declared.steps.Extent.the-variants as extent
 use Rattle.names.specs.declared.steps.Base.{Base}
 use Rattle.names.specs.declared.steps.Base.the-variants as base
-use Rattle.wire.proofs.repeated.Two.{the-type}
+use Rattle.messages.proofs.repeated.Two.{the-type}
 use Rattle.names.proofs.NameLaws.{source-bytes}
 
 -- Tests of numbers.

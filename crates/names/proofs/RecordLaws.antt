@@ -14,20 +14,20 @@ use Rattle.foundation.specs.Results.{Res, ok, refused, _from_}
 use Rattle.wire.specs.Wire.{Value, field, readField, Message, cut}
 use Rattle.wire.specs.Messages.{values, firstOf, value, joined, varints}
 use Rattle.wire.specs.Told.{refusal, restOf, valueOf, Inside, FieldTold}
-use Rattle.wire.specs.Asked.{foundTold, FoundInside, FoundTold, pieceIn, indexTold, indexIn}
-use Rattle.wire.specs.Repeated as wire
+use Rattle.messages.specs.Asked.{foundTold, FoundInside, FoundTold, pieceIn, indexTold, indexIn}
+use Rattle.messages.specs.Repeated as wire
 use Rattle.wire.specs.declared.WireError.{WireError}
 use Rattle.wire.specs.declared.WireValue.{WireValue}
 use Rattle.wire.specs.declared.FieldStep.{FieldStep}
 use Rattle.wire.specs.declared.FieldStep.the-variants as step
-use Rattle.wire.specs.declared.message.Found.{Found}
-use Rattle.wire.specs.declared.message.Found.the-variants as found
-use Rattle.wire.specs.declared.message.Indexed.{Indexed}
-use Rattle.wire.specs.declared.message.Indexed.the-variants as indexed
-use Rattle.wire.specs.declared.repeated.Two.{Two}
-use Rattle.wire.specs.declared.repeated.Two.the-variants.{Neither, One, Both}
+use Rattle.messages.specs.declared.Found.{Found}
+use Rattle.messages.specs.declared.Found.the-variants as found
+use Rattle.messages.specs.declared.Indexed.{Indexed}
+use Rattle.messages.specs.declared.Indexed.the-variants as indexed
+use Rattle.messages.specs.declared.repeated.Two.{Two}
+use Rattle.messages.specs.declared.repeated.Two.the-variants.{Neither, One, Both}
 use Rattle.wire.proofs.WalkLaws.{field-is, Leads, leads-start, leads-next, leads-never, leads-end, values-found, values-passed}
-use Rattle.wire.proofs.FindLaws.{number-is, index-is, piece-is}
+use Rattle.messages.proofs.FindLaws.{number-is, index-is, piece-is}
 use Rattle.names.specs.Records.{served, twoOf, recordOf, Record·range, Record·predefined-index, Record·operation, Record·substring-index, Record·replace-char, Record·string}
 use Rattle.names.specs.RecordTold.{firstSeen, withField, FirstsTold, operationIn, bothOf, RecordTold}
 use Rattle.names.specs.declared.records.Firsts.{Firsts}

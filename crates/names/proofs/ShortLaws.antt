@@ -14,7 +14,7 @@ use Rattle.foundation.specs.Results.{ok, Part, _from_, got, mapGot}
 use Rattle.foundation.specs.Texts.{Text}
 use Rattle.wire.specs.Wire.{groupsFrom, readVarint, varint, field, readField, repeated, Message, cut}
 use Rattle.wire.specs.Messages.{values, firstOf, asBody, varintOf, index, bytesOf, joined, varints}
-use Rattle.wire.specs.Asked.{pieceTold, indexTold}
+use Rattle.messages.specs.Asked.{pieceTold, indexTold}
 use Rattle.wire.proofs.FieldLaws.{value-varint, field-value}
 use Rattle.wire.proofs.WalkLaws.{ok-same}
 use Rattle.characters.specs.Characters.{partFrom}

@@ -11,7 +11,7 @@ use Rattle.foundation.specs.Texts.{Text}
 use Rattle.wire.specs.Wire.{Message, cut}
 use Rattle.wire.specs.Messages.{messages}
 use Rattle.wire.specs.Told.{refusal}
-use Rattle.wire.specs.Asked.{bodies}
+use Rattle.messages.specs.Asked.{bodies}
 use Rattle.characters.specs.Characters.{partFrom}
 use Rattle.names.specs.Records.{Record, recordOf, decides, textOf, predefinedText}
 use Rattle.names.specs.Names.{StringTableTypes·record, recordsOf, recordAt, Names, string}

@@ -9,10 +9,10 @@ use lib.Dec.{eqb}
 use lib.ListN.{length}
 use Rattle.foundation.specs.Choices.{if_then_else_, ifSome, mapOption}
 use Rattle.foundation.specs.Texts.{Text}
-use Rattle.wire.specs.Asked.{pieceTold, PieceInside, indexTold}
-use Rattle.wire.specs.declared.message.Piece.{Piece}
-use Rattle.wire.specs.declared.message.Piece.the-variants as piece
-use Rattle.wire.specs.declared.message.Indexed.{Indexed}
+use Rattle.messages.specs.Asked.{pieceTold, PieceInside, indexTold}
+use Rattle.wire.specs.declared.Piece.{Piece}
+use Rattle.wire.specs.declared.Piece.the-variants as piece
+use Rattle.messages.specs.declared.Indexed.{Indexed}
 use Rattle.characters.specs.Characters.{fromUtf8, partFrom}
 use Rattle.characters.specs.Splits.{substringOf}
 use Rattle.names.specs.Records.{textOf, predefinedText, replaceOf, operated, stepped}

@@ -4,7 +4,7 @@ ghost use mathlib.Core.Bool.{_&&_, _||_};
 ghost use mathlib.Core.Path.{_≡_};
 ghost use mathlib.Core.List.{List};
 ghost use Prim.Native.Nat.{ℕ, _≤_, _<_};
-ghost use Rattle.wire.specs.Asked.{pieceTold, indexTold};
+ghost use Rattle.messages.specs.Asked.{pieceTold, indexTold};
 ghost use Rattle.foundation.specs.Choices.{isSome};
 ghost use Rattle.characters.specs.Characters.{isScalar};
 ghost use Rattle.characters.specs.Splits.{substringOf};
@@ -19,9 +19,9 @@ use super::name::predefined;
 use super::records::Record;
 use characters::Place;
 use characters::find_place;
-use wire::message::Indexed;
-use wire::message::Piece;
-use wire::repeated::Two;
+use messages::Indexed;
+use messages::repeated::Two;
+use wire::Piece;
 
 // A part of a slice, `&s[start..end]`.
 pub enum Extent {

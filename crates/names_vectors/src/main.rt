@@ -5,11 +5,11 @@ ghost use lib.ListN.{length};
 use characters::Character;
 use libc::STDIN_FILENO;
 use libc::STDOUT_FILENO;
+use messages::Checked;
 use names::name::Change;
 use names::name::Name;
 use names::name::PREDEFINED;
 use names::records::RecordIndex;
-use wire::message::Checked;
 
 fn print(text: &[u8]) {
     io::write_all(STDOUT_FILENO, text);
@@ -170,7 +170,7 @@ fn print_name(payload: &[u8], units: &[u16], name: Name) {
 }
 
 fn look_up(table: &[u8], units: &[u16], d2ends: &[u32], index: u32, kind: u8) {
-    let checked = wire::message::check(table, 0);
+    let checked = messages::check(table, 0);
     let Checked::Whole = checked else {
         print(b"refused");
         return;

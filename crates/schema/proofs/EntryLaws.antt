@@ -10,11 +10,11 @@ use Rattle.foundation.specs.Choices.{ifSome}
 use Rattle.foundation.specs.Results.{Res, ok}
 use Rattle.foundation.specs.Texts.{Text}
 use Rattle.wire.specs.Wire.{Message}
-use Rattle.wire.specs.Asked.{indexTold}
-use Rattle.wire.specs.declared.message.Piece.{Piece}
-use Rattle.wire.specs.declared.message.Piece.the-variants as piece
-use Rattle.wire.specs.declared.message.Indexed.{Indexed}
-use Rattle.wire.specs.declared.message.Indexed.the-variants as indexed
+use Rattle.messages.specs.Asked.{indexTold}
+use Rattle.wire.specs.declared.Piece.{Piece}
+use Rattle.wire.specs.declared.Piece.the-variants as piece
+use Rattle.messages.specs.declared.Indexed.{Indexed}
+use Rattle.messages.specs.declared.Indexed.the-variants as indexed
 use Rattle.names.specs.Names.{Names, stringsFrom, d2String}
 use Rattle.schema.specs.Reading.{pure, lift}
 use Rattle.schema.specs.Told.{EntryAt, EntriesOf, NamesOf}

@@ -13,11 +13,11 @@ use Rattle.foundation.specs.Results.{Res, ok, refused, Part, _from_}
 use Rattle.wire.specs.Wire.{Message, cut}
 use Rattle.wire.specs.Messages.{index, cutOption, message, messages, cutAll}
 use Rattle.wire.specs.Told.{restOf, bodyOf}
-use Rattle.wire.specs.Asked.{pieceTold, PieceInside, BytesTold, indexTold, bodies, NextIs, NextTold, PieceAfter}
-use Rattle.wire.specs.declared.message.Piece.{Piece}
-use Rattle.wire.specs.declared.message.Piece.the-variants as piece
-use Rattle.wire.specs.declared.message.Indexed.{Indexed}
-use Rattle.wire.specs.declared.message.Indexed.the-variants as indexed
+use Rattle.messages.specs.Asked.{pieceTold, PieceInside, BytesTold, indexTold, bodies, NextIs, NextTold, PieceAfter}
+use Rattle.wire.specs.declared.Piece.{Piece}
+use Rattle.wire.specs.declared.Piece.the-variants as piece
+use Rattle.messages.specs.declared.Indexed.{Indexed}
+use Rattle.messages.specs.declared.Indexed.the-variants as indexed
 use Rattle.wire.proofs.WalkLaws.{whole, ok-same}
 use Rattle.characters.specs.Characters.{partFrom}
 use Rattle.characters.proofs.PartLaws.{part-part, part-short}

@@ -12,17 +12,17 @@ use Rattle.foundation.specs.Choices.{ifSome}
 use Rattle.foundation.specs.Results.{ok, Part, _from_}
 use Rattle.wire.specs.Wire.{Value, field, readField, Message, cut}
 use Rattle.wire.specs.Messages.{values, firstOf, asVarint, as32, varintOf, index, flag, bodiesOf, cutAll, messages}
-use Rattle.wire.specs.Told.{restOf, valueOf, FieldTold}
-use Rattle.wire.specs.Asked.{numberOf, numberTold, pieceOf, pieceTold, indexTold, bodies}
+use Rattle.wire.specs.Told.{restOf, valueOf, FieldTold, numberOf, pieceOf}
+use Rattle.messages.specs.Asked.{numberTold, pieceTold, indexTold, bodies}
 use Rattle.wire.specs.declared.WireError.{WireError}
 use Rattle.wire.specs.declared.WireValue.{WireValue}
 use Rattle.wire.specs.declared.FieldStep.{FieldStep}
 use Rattle.wire.specs.declared.FieldStep.the-variants as step
-use Rattle.wire.specs.declared.message.Piece.the-variants as piece
-use Rattle.wire.specs.declared.message.Indexed.{Indexed}
-use Rattle.wire.specs.declared.message.Indexed.the-variants as indexed
+use Rattle.wire.specs.declared.Piece.the-variants as piece
+use Rattle.messages.specs.declared.Indexed.{Indexed}
+use Rattle.messages.specs.declared.Indexed.the-variants as indexed
 use Rattle.wire.proofs.WalkLaws.{Leads, leads-start, leads-next, leads-never, leads-end, values-found, values-passed}
-use Rattle.wire.proofs.FindLaws.{as-number, as-piece}
+use Rattle.messages.proofs.FindLaws.{as-number, as-piece}
 use Rattle.schema.specs.Fields.{Type·argument, Type·nullable, Type·class-name}
 use Rattle.schema.specs.HeadTold.{NameKnown, FlagKnown, ArgumentsKnown, Known, HeadTold}
 use Rattle.schema.specs.declared.head.Seen.{Seen}

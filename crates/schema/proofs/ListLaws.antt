@@ -13,12 +13,12 @@ use Rattle.foundation.specs.Results.{Res, ok, refused, Part, _from_}
 use Rattle.wire.specs.Wire.{Message, cut}
 use Rattle.wire.specs.Messages.{cutAll, messages}
 use Rattle.wire.specs.Told.{restOf, bodyOf}
-use Rattle.wire.specs.Asked.{CheckedTold, bodies, NextIs, NextTold, PieceInside, PieceBegins}
+use Rattle.messages.specs.Asked.{CheckedTold, bodies, NextIs, NextTold, PieceInside, PieceBegins}
 use Rattle.wire.specs.declared.WireError.{WireError}
-use Rattle.wire.specs.declared.message.Checked.{Checked}
-use Rattle.wire.specs.declared.message.Checked.the-variants as checked
-use Rattle.wire.specs.declared.message.Piece.{Piece}
-use Rattle.wire.specs.declared.message.Piece.the-variants as piece
+use Rattle.messages.specs.declared.Checked.{Checked}
+use Rattle.messages.specs.declared.Checked.the-variants as checked
+use Rattle.wire.specs.declared.Piece.{Piece}
+use Rattle.wire.specs.declared.Piece.the-variants as piece
 use Rattle.wire.proofs.WalkLaws.{whole, ok-same}
 use Rattle.sheet.specs.Rows.{Row, sheetFrom, texts}
 use Rattle.sheet.specs.Put.{PutRows}

@@ -14,17 +14,17 @@ use Rattle.foundation.specs.Results.{ok, Part, _from_}
 use Rattle.wire.specs.Wire.{Message, cut}
 use Rattle.wire.specs.Messages.{index, as32, cutAll, messages}
 use Rattle.wire.specs.Told.{refusal, restOf, bodyOf}
-use Rattle.wire.specs.Asked.{CheckedTold, indexTold, bodies, NextTold, EmbeddedIs, EmbeddedInside, EmbeddedTold}
+use Rattle.messages.specs.Asked.{CheckedTold, indexTold, bodies, NextTold, EmbeddedIs, EmbeddedInside, EmbeddedTold}
 use Rattle.wire.specs.declared.WireError.{WireError}
-use Rattle.wire.specs.declared.message.Checked.{Checked}
-use Rattle.wire.specs.declared.message.Checked.the-variants as checked
-use Rattle.wire.specs.declared.message.Indexed.{Indexed}
-use Rattle.wire.specs.declared.message.Indexed.the-variants as indexed
-use Rattle.wire.specs.declared.message.Piece.{Piece}
-use Rattle.wire.specs.declared.message.Piece.the-variants as piece
-use Rattle.wire.specs.declared.message.Embedded.{Embedded}
-use Rattle.wire.specs.declared.message.Embedded.the-variants as embedded
-use Rattle.wire.proofs.BodyLaws.{checked-part, part-is}
+use Rattle.messages.specs.declared.Checked.{Checked}
+use Rattle.messages.specs.declared.Checked.the-variants as checked
+use Rattle.messages.specs.declared.Indexed.{Indexed}
+use Rattle.messages.specs.declared.Indexed.the-variants as indexed
+use Rattle.wire.specs.declared.Piece.{Piece}
+use Rattle.wire.specs.declared.Piece.the-variants as piece
+use Rattle.messages.specs.declared.Embedded.{Embedded}
+use Rattle.messages.specs.declared.Embedded.the-variants as embedded
+use Rattle.messages.proofs.BodyLaws.{checked-part, part-is}
 use Rattle.characters.specs.Characters.{partFrom}
 use Rattle.characters.proofs.PartLaws.{part-part}
 use Rattle.names.proofs.NoteLaws.{elem-snoc, after, after-none, after-one, after-refused}

@@ -14,14 +14,14 @@ use Rattle.foundation.specs.Results as Results
 use Rattle.foundation.specs.Results.{Res, ok, _from_}
 use Rattle.wire.specs.Wire.{Message, cut}
 use Rattle.wire.specs.Messages.{index, as32}
-use Rattle.wire.specs.Asked.{EmbeddedIs, EmbeddedInside, EmbeddedTold, indexTold}
+use Rattle.messages.specs.Asked.{EmbeddedIs, EmbeddedInside, EmbeddedTold, indexTold}
 use Rattle.wire.specs.declared.WireError.{WireError}
-use Rattle.wire.specs.declared.message.Piece.{Piece}
-use Rattle.wire.specs.declared.message.Piece.the-variants as piece
-use Rattle.wire.specs.declared.message.Indexed.{Indexed}
-use Rattle.wire.specs.declared.message.Indexed.the-variants as indexed
-use Rattle.wire.specs.declared.message.Embedded.{Embedded}
-use Rattle.wire.specs.declared.message.Embedded.the-variants as embedded
+use Rattle.wire.specs.declared.Piece.{Piece}
+use Rattle.wire.specs.declared.Piece.the-variants as piece
+use Rattle.messages.specs.declared.Indexed.{Indexed}
+use Rattle.messages.specs.declared.Indexed.the-variants as indexed
+use Rattle.messages.specs.declared.Embedded.{Embedded}
+use Rattle.messages.specs.declared.Embedded.the-variants as embedded
 use Rattle.sheet.specs.Rows.{Row}
 use Rattle.sheet.specs.declared.State.{State}
 use Rattle.schema.specs.Declarations.{Ty}

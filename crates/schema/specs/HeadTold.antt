@@ -7,9 +7,9 @@ use Prim.Native.Nat.{ℕ}
 use Rattle.foundation.specs.Results.{ok, _from_}
 use Rattle.wire.specs.Wire.{Message, cut}
 use Rattle.wire.specs.Messages.{index, flag}
-use Rattle.wire.specs.Asked.{indexTold, bodies}
-use Rattle.wire.specs.declared.message.Indexed.{Indexed}
-use Rattle.wire.specs.declared.message.Indexed.the-variants as indexed
+use Rattle.messages.specs.Asked.{indexTold, bodies}
+use Rattle.messages.specs.declared.Indexed.{Indexed}
+use Rattle.messages.specs.declared.Indexed.the-variants as indexed
 use Rattle.schema.specs.Fields.{Type·argument, Type·nullable, Type·class-name}
 use Rattle.schema.specs.declared.head.Seen.{Seen}
 use Rattle.schema.specs.declared.head.TypeHead.{TypeHead}

@@ -9,7 +9,7 @@ use Rattle.foundation.specs.Results.{ok}
 use Rattle.wire.specs.Wire.{Message}
 use Rattle.wire.specs.Messages.{index, messages, message, as32}
 use Rattle.wire.specs.Told.{refusal}
-use Rattle.wire.specs.Asked.{bodies}
+use Rattle.messages.specs.Asked.{bodies}
 use Rattle.schema.specs.Fields.{TypeTable·type, TypeTable·first-nullable}
 use Rattle.schema.specs.Reading.{TypeTable}
 use Rattle.schema.specs.Types.{typeTableIn}

@@ -7,17 +7,18 @@ ghost use Rattle.foundation.specs.Results.{ok, _from_};
 ghost use Rattle.wire.specs.Wire.{field, Message, cut};
 ghost use Rattle.wire.specs.Messages.{varintOf, index, flag};
 ghost use Rattle.wire.specs.Told.{valueOf};
-ghost use Rattle.wire.specs.Asked.{numberOf, numberTold, pieceOf, indexTold};
-ghost use Rattle.wire.specs.declared.message.Piece.the-variants as piece;
+ghost use Rattle.messages.specs.Asked.{numberTold, indexTold};
+ghost use Rattle.wire.specs.Told.{numberOf, pieceOf};
+ghost use Rattle.wire.specs.declared.Piece.the-variants as piece;
 ghost use Rattle.schema.specs.Fields.{Type·argument, Type·nullable, Type·class-name};
 ghost use Rattle.schema.specs.HeadTold.{Known, HeadTold};
+use messages::Found;
+use messages::Indexed;
 use wire::FieldStep;
+use wire::Number;
+use wire::Piece;
 use wire::WireValue;
 use wire::field_at;
-use wire::message::Found;
-use wire::message::Indexed;
-use wire::message::Number;
-use wire::message::Piece;
 
 // The index of its class name, whether it says that it is nullable, and whether it has an argument.
 pub struct TypeHead {

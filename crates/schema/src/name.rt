@@ -5,16 +5,16 @@ ghost use Prim.Native.Nat.{ℕ};
 ghost use Rattle.foundation.specs.Results.{ok, _from_};
 ghost use Rattle.wire.specs.Wire.{cut, Message};
 ghost use Rattle.wire.specs.Messages.{index};
-ghost use Rattle.wire.specs.Asked.{indexTold};
+ghost use Rattle.messages.specs.Asked.{indexTold};
 ghost use Rattle.names.specs.Name.{nameText};
 ghost use Rattle.schema.specs.Reading.{Scope, nameIn, classNameIn};
 ghost use Rattle.schema.specs.Told.{NamesOf};
+use messages::Indexed;
+use messages::index;
 use names::lookup::string;
 use names::name::Name;
 use names::qualified::qualified_name;
 use names::steps::absent;
-use wire::message::Indexed;
-use wire::message::index;
 
 // The string at the index in a field.
 pub fn name_in(

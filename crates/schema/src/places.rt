@@ -6,11 +6,11 @@ ghost use Rattle.schema.specs.FoundTold.{EntryFound, PlaceFound, Declare
 use crate::Found;
 use crate::Tables;
 use crate::types::entry_at;
-use wire::message::Indexed;
-use wire::message::Piece;
-use wire::message::bytes;
-use wire::message::index;
-use wire::message::next_body;
+use messages::Indexed;
+use messages::bytes;
+use messages::index;
+use messages::next_body;
+use wire::Piece;
 
 // Field numbers of metadata.proto's Type and Type.Argument.
 const ARGUMENT: u32 = 2;

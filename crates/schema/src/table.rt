@@ -10,15 +10,15 @@ ghost use Rattle.wire.specs.Told.{restOf};
 ghost use Rattle.characters.specs.Characters.{partFrom};
 ghost use Rattle.schema.specs.Fields.{TypeTable·first-nullable};
 ghost use Rattle.schema.specs.TableTold.{EntriesTold, TableTold, TypeIndexTold};
+use messages::Checked;
+use messages::Embedded;
+use messages::Indexed;
+use messages::check_from;
+use messages::index;
+use messages::message;
+use messages::next_body;
+use wire::Piece;
 use wire::WireError;
-use wire::message::Checked;
-use wire::message::Embedded;
-use wire::message::Indexed;
-use wire::message::Piece;
-use wire::message::check_from;
-use wire::message::index;
-use wire::message::message;
-use wire::message::next_body;
 
 // Field numbers of metadata.proto's TypeTable.
 const TYPE: u32 = 1;

@@ -6,7 +6,7 @@ ghost use Prim.Native.Nat.{_-_};
 ghost use Rattle.schema.specs.TypesTold.{pickedOf, EntryTold};
 use crate::Picked;
 use crate::Walked;
-use wire::message::Piece;
+use wire::Piece;
 
 pub fn less(n: usize) -> usize
     ensures { λ r. ⌜ r ≡ n - 1 ⌝ }

@@ -4,9 +4,9 @@ use mathlib.Core.Path.{_≡_}
 use mathlib.Core.Option.{Option}
 use Prim.Native.Nat.{ℕ}
 use Rattle.foundation.specs.Choices.{ifSome}
-use Rattle.wire.specs.Asked.{numberTold}
-use Rattle.wire.specs.declared.message.Number.{Number}
-use Rattle.wire.specs.declared.message.Number.the-variants as number
+use Rattle.messages.specs.Asked.{numberTold}
+use Rattle.wire.specs.declared.Number.{Number}
+use Rattle.wire.specs.declared.Number.the-variants as number
 
 module _ {o : Option ℕ} {x : Number} (e : o ≡ numberTold x) (omitted : ℕ) where
   pub flags-there : {n : ℕ} → x ≡ number.Value n → ifSome o omitted (λ flags. flags) ≡ n

@@ -12,12 +12,12 @@ use Rattle.foundation.specs.Results.{Res, ok, refused, Part}
 use Rattle.foundation.proofs.ResultLaws.{Gives, gives-bind, gives-ok}
 use Rattle.wire.specs.Wire.{Message, cut, Value}
 use Rattle.wire.specs.Messages.{value, varintOf, index, bytesOf, cutOption, message}
-use Rattle.wire.specs.Asked.{foundTold, FoundTold, pieceTold, BytesTold}
+use Rattle.messages.specs.Asked.{foundTold, FoundTold, pieceTold, BytesTold}
 use Rattle.wire.specs.declared.WireValue.{WireValue}
-use Rattle.wire.specs.declared.message.Found.{Found}
-use Rattle.wire.specs.declared.message.Found.the-variants as found
-use Rattle.wire.specs.declared.message.Piece.{Piece}
-use Rattle.wire.specs.declared.message.Piece.the-variants as piece
+use Rattle.messages.specs.declared.Found.{Found}
+use Rattle.messages.specs.declared.Found.the-variants as found
+use Rattle.wire.specs.declared.Piece.{Piece}
+use Rattle.wire.specs.declared.Piece.the-variants as piece
 use Rattle.wire.proofs.Later.{gives-any}
 use Rattle.wire.proofs.WalkLaws.{ok-same}
 use Rattle.schema.specs.Declarations.{Ty}

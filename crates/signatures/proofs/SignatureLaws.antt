@@ -11,10 +11,10 @@ use Rattle.foundation.specs.Choices.{ifSome, isSome, mapOption, orElse, bothOf}
 use Rattle.foundation.specs.Results.{ok, _from_}
 use Rattle.foundation.specs.Texts.{Text}
 use Rattle.wire.specs.Wire.{Message, cut}
-use Rattle.wire.specs.Asked.{EmbeddedIs, EmbeddedTold}
+use Rattle.messages.specs.Asked.{EmbeddedIs, EmbeddedTold}
 use Rattle.wire.specs.declared.WireError.{WireError}
-use Rattle.wire.specs.declared.message.Embedded.{Embedded}
-use Rattle.wire.specs.declared.message.Embedded.the-variants as embedded
+use Rattle.messages.specs.declared.Embedded.{Embedded}
+use Rattle.messages.specs.declared.Embedded.the-variants as embedded
 use Rattle.names.specs.Name.{nameText}
 use Rattle.schema.specs.Fields.{Property·property-signature, JvmMethodSignature·desc, JvmPropertySignature·field}
 use Rattle.schema.specs.Reading.{pure, _>>=_, Scope, nameIn}

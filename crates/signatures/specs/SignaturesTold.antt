@@ -11,8 +11,8 @@ use Rattle.foundation.specs.Texts.{Text}
 use Rattle.wire.specs.Wire.{Message}
 use Rattle.wire.specs.Messages.{message}
 use Rattle.wire.specs.Told as wire
-use Rattle.wire.specs.declared.message.Checked.{Checked}
-use Rattle.wire.specs.declared.message.Checked.the-variants as checked
+use Rattle.messages.specs.declared.Checked.{Checked}
+use Rattle.messages.specs.declared.Checked.the-variants as checked
 use Rattle.names.specs.Name.{nameText}
 use Rattle.schema.specs.Fields.{
   Property·property-signature,

@@ -4,8 +4,8 @@ ghost use Rattle.foundation.specs.Choices.{ifSome};
 ghost use Rattle.foundation.specs.Results.{ok, _from_};
 ghost use Rattle.wire.specs.Wire.{cut, Message};
 ghost use Rattle.wire.specs.Messages.{varintOf};
-use wire::message::Number;
-use wire::message::varint;
+use messages::varint;
+use wire::Number;
 
 // What omitted flags of declarations are, and of parameters and accessors.
 pub const OMITTED: u64 = 6;

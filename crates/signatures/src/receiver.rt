@@ -1,9 +1,9 @@
 // Whether a receiver is there. The definition: schema's specs/Members.antt, `receiverIn`; what the reader tells: specs/ReceiversTold.antt.
 ghost use Rattle.signatures.specs.ReceiversTold.{ReceiverTold};
-use wire::message::Found;
-use wire::message::Piece;
-use wire::message::bytes;
-use wire::message::find;
+use messages::Found;
+use messages::bytes;
+use messages::find;
+use wire::Piece;
 
 // Is a receiver there? Its type is inline, or its index field occurs in any wire type.
 pub fn has_receiver(msg: &[u8], base: u32, inline: u32, indexed: u32) -> bool

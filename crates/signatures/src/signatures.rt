@@ -14,15 +14,15 @@ ghost use Rattle.schema.specs.Members.{fieldIn};
 ghost use Rattle.schema.specs.Told.{NamesOf};
 ghost use Rattle.schema.specs.Written.{signatureBy};
 ghost use Rattle.signatures.specs.SignaturesTold.{NamesTold, SignedTold, ThreeTold, PropertySignedTold, AccessorsDue};
+use messages::Checked;
+use messages::Embedded;
+use messages::message;
 use names::name::Name;
 use names::name::is_there;
 use names::steps::absent;
 use schema::name::name_in;
 use schema::rows::SignatureNames;
 use wire::WireError;
-use wire::message::Checked;
-use wire::message::Embedded;
-use wire::message::message;
 
 // Field numbers of jvm_metadata.proto: JvmMethodSignature and JvmFieldSignature, JvmPropertySignature, and a property's signature.
 const NAME: u32 = 1;

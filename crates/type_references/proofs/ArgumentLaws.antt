@@ -15,14 +15,14 @@ use Rattle.foundation.specs.Results.{Res, ok, refused, Part, _from_}
 use Rattle.wire.specs.Wire.{Message, cut}
 use Rattle.wire.specs.Messages.{as32, index, bytesOf, cutOption, message, messages}
 use Rattle.wire.specs.Told.{bodyOf}
-use Rattle.wire.specs.Asked.{BytesTold, EmbeddedIs, EmbeddedInside, EmbeddedTold, pieceTold, indexTold, NextTold, PieceInside, PieceAfter}
+use Rattle.messages.specs.Asked.{BytesTold, EmbeddedIs, EmbeddedInside, EmbeddedTold, pieceTold, indexTold, NextTold, PieceInside, PieceAfter}
 use Rattle.wire.specs.declared.WireError.{WireError}
-use Rattle.wire.specs.declared.message.Piece.{Piece}
-use Rattle.wire.specs.declared.message.Piece.the-variants as piece
-use Rattle.wire.specs.declared.message.Indexed.{Indexed}
-use Rattle.wire.specs.declared.message.Indexed.the-variants as indexed
-use Rattle.wire.specs.declared.message.Embedded.{Embedded}
-use Rattle.wire.specs.declared.message.Embedded.the-variants as embedded
+use Rattle.wire.specs.declared.Piece.{Piece}
+use Rattle.wire.specs.declared.Piece.the-variants as piece
+use Rattle.messages.specs.declared.Indexed.{Indexed}
+use Rattle.messages.specs.declared.Indexed.the-variants as indexed
+use Rattle.messages.specs.declared.Embedded.{Embedded}
+use Rattle.messages.specs.declared.Embedded.the-variants as embedded
 use Rattle.wire.proofs.WalkLaws.{whole}
 use Rattle.characters.specs.Characters.{partFrom}
 use Rattle.characters.proofs.PartLaws.{part-part, part-short}

@@ -7,9 +7,9 @@ use Prim.Native.Nat.{ℕ, _+_, _-_, _*_, _≤_, _<_}
 use native.Mathlib.Omega.{arith}
 use lib.ListN.{length, take, drop}
 use lib.Seq.{take-length}
-use Rattle.wire.specs.Asked.{NextTold}
-use Rattle.wire.specs.declared.message.Piece.{Piece}
-use Rattle.wire.specs.declared.message.Piece.the-variants as piece
+use Rattle.messages.specs.Asked.{NextTold}
+use Rattle.wire.specs.declared.Piece.{Piece}
+use Rattle.wire.specs.declared.Piece.the-variants as piece
 use Rattle.sheet.specs.declared.State.{State}
 use Rattle.schema.specs.Fields.{Type·argument}
 use Rattle.schema.specs.Reading.{kept, allowance}

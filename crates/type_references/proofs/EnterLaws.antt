@@ -13,10 +13,10 @@ use Rattle.foundation.specs.Results.{Res, ok, refused, _from_}
 use Rattle.foundation.specs.Texts.{Text}
 use Rattle.wire.specs.Wire.{Message, cut}
 use Rattle.wire.specs.Messages.{index, flag, messages}
-use Rattle.wire.specs.Asked.{CheckedTold, indexTold, bodies}
+use Rattle.messages.specs.Asked.{CheckedTold, indexTold, bodies}
 use Rattle.wire.specs.declared.WireError.{WireError}
-use Rattle.wire.specs.declared.message.Checked.{Checked}
-use Rattle.wire.specs.declared.message.Checked.the-variants as checked
+use Rattle.messages.specs.declared.Checked.{Checked}
+use Rattle.messages.specs.declared.Checked.the-variants as checked
 use Rattle.wire.proofs.WalkLaws.{ok-same}
 use Rattle.names.specs.Name.{nameText}
 use Rattle.names.specs.declared.name.Name.{Name}

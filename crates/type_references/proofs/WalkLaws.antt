@@ -13,12 +13,12 @@ use Rattle.foundation.specs.Results.{Res, ok, refused, Cause, _from_}
 use Rattle.wire.specs.Wire.{Message, cut}
 use Rattle.wire.specs.Messages.{message, cutAll, messages}
 use Rattle.wire.specs.Told.{bodyOf}
-use Rattle.wire.specs.Asked.{bodies, NextIs, NextTold, PieceInside, PieceBegins}
+use Rattle.messages.specs.Asked.{bodies, NextIs, NextTold, PieceInside, PieceBegins}
 use Rattle.wire.specs.declared.WireError.{WireError}
-use Rattle.wire.specs.declared.message.Piece.{Piece}
-use Rattle.wire.specs.declared.message.Piece.the-variants as piece
+use Rattle.wire.specs.declared.Piece.{Piece}
+use Rattle.wire.specs.declared.Piece.the-variants as piece
 use Rattle.wire.proofs.WalkLaws.{whole, ok-same}
-use Rattle.wire.proofs.BodyLaws.{part-is}
+use Rattle.messages.proofs.BodyLaws.{part-is}
 use Rattle.names.proofs.LookupLaws.{part-longer}
 use Rattle.characters.proofs.PartLaws.{rest-is}
 use Rattle.sheet.specs.Rows.{Row}

@@ -2,17 +2,17 @@
 ghost use Prim.Native.Nat.{_+_, _≤_};
 ghost use lib.ListN.{length};
 ghost use Rattle.type_references.specs.ParseTold.{TypeFieldTold, ArgumentTold, KeptTold, CountTold};
+use messages::Checked;
+use messages::Indexed;
+use messages::bytes;
+use messages::check_from;
+use messages::find_two;
+use messages::index;
+use messages::next_body;
 use schema::Tables;
 use schema::types::entry_at;
+use wire::Piece;
 use wire::WireError;
-use wire::message::Checked;
-use wire::message::Indexed;
-use wire::message::Piece;
-use wire::message::bytes;
-use wire::message::check_from;
-use wire::message::find_two;
-use wire::message::index;
-use wire::message::next_body;
 
 // Field numbers of metadata.proto's Type and Type.Argument.
 pub const ARGUMENT: u32 = 2;

@@ -6,7 +6,7 @@ ghost use Prim.Native.Nat.{_+_, _-_, _≤_};
 ghost use lib.ListN.{length};
 ghost use Rattle.foundation.specs.Results.{ok, _from_};
 ghost use Rattle.wire.specs.Wire.{cut, Message};
-ghost use Rattle.wire.specs.Asked.{bodies};
+ghost use Rattle.messages.specs.Asked.{bodies};
 ghost use Rattle.names.specs.Name.{nameText};
 ghost use Rattle.sheet.specs.Rows.{num, bit, row};
 ghost use Rattle.sheet.specs.Put.{PutRows};
@@ -16,6 +16,8 @@ ghost use Rattle.schema.specs.Told.{lent, Ready};
 ghost use Rattle.type_references.specs.ParseTold.{CountedTold, EnterTold};
 use crate::arguments::ARGUMENT;
 use crate::arguments::count_kept;
+use messages::Checked;
+use messages::check_messages;
 use names::name::Name;
 use schema::Stop;
 use schema::Tables;
@@ -30,8 +32,6 @@ use sheet::put;
 use sheet::put_bit;
 use sheet::put_number;
 use wire::WireError;
-use wire::message::Checked;
-use wire::message::check_messages;
 
 // A type's record.
 fn put_type(

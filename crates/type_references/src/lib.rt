@@ -12,6 +12,7 @@ use arguments::ARGUMENT;
 use arguments::Argument;
 use arguments::type_field;
 use enter::enter_type;
+use messages::next_body;
 use parse::arguments_at;
 use schema::Stop;
 use schema::Tables;
@@ -19,8 +20,7 @@ use schema::Walked;
 use schema::types::entry_at;
 use schema::types::less;
 use sheet::State;
-use wire::message::Piece;
-use wire::message::next_body;
+use wire::Piece;
 
 pub mod waiting; // waiting.rt: what waits in a lent area
 pub mod arguments; // arguments.rt: the arguments of a type

@@ -13,6 +13,7 @@ use crate::arguments::argument_at;
 use crate::enter::enter_type;
 use crate::waiting::push;
 use crate::waiting::waiting_at;
+use messages::next_body;
 use schema::Picked;
 use schema::Stop;
 use schema::Tables;
@@ -21,8 +22,7 @@ use schema::types::entry_at;
 use schema::types::less;
 use schema::types::picked;
 use sheet::State;
-use wire::message::Piece;
-use wire::message::next_body;
+use wire::Piece;
 
 const ARGUMENT_ROLE: u8 = 5;
 

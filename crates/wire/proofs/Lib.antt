@@ -1,9 +1,6 @@
 pub mod VarintLaws
 pub mod FieldLaws
 pub mod WalkLaws
-pub mod FindLaws
-pub mod BodyLaws
-pub mod RepeatedLaws
 pub mod Readers
 pub mod Progress
 pub mod MessageLaws
@@ -11,4 +8,3 @@ pub mod Places
 pub mod Later
 pub mod Bounds
 pub mod SkipLaws
-pub mod ReaderLaws

@@ -9,22 +9,15 @@ use Rattle.foundation.specs.Results.{Res, ok, refused, _>>=_, Part, mapGot}
 use Rattle.wire.specs.Wire.{Value, varint, body, field, readField, Message, cut}
 use Rattle.wire.specs.Messages.{values, bodiesOf}
 use Rattle.wire.specs.Told.{restOf, valueOf, FieldTold, ShortTold, ShortField, Skips, SkipTold}
-use Rattle.wire.specs.Asked.{CheckedTold, FoundTold, FoundFrom, FoundAt, bodies, NextTold}
 use Rattle.wire.specs.declared.ShortVarint.{ShortVarint}
 use Rattle.wire.specs.declared.WireValue.{WireValue}
 use Rattle.wire.specs.declared.WireValue.the-variants as wire
 use Rattle.wire.specs.declared.Varint.the-variants as read
 use Rattle.wire.specs.declared.FieldStep.the-variants as step
-use Rattle.wire.specs.declared.message.Checked.{Checked}
-use Rattle.wire.specs.declared.message.Checked.the-variants as checked
-use Rattle.wire.specs.declared.message.Found.{Found}
-use Rattle.wire.specs.declared.message.Found.the-variants as found
-use Rattle.wire.specs.declared.message.Piece.{Piece}
+use Rattle.wire.specs.declared.Piece.{Piece}
 use Rattle.wire.proofs.VarintLaws.{one-byte, two-bytes}
 use Rattle.wire.proofs.FieldLaws.{value-varint, value-body, field-value, delimited-there}
 use Rattle.wire.proofs.WalkLaws.{cut-field, field-inside, bind-ok, Leads, values-passed}
-use Rattle.wire.proofs.FindLaws.{Occur, find-start, find-on, find-whole}
-use Rattle.wire.proofs.BodyLaws.{Bodies, bodies-start, next-on}
 use Rattle.wire.proofs.MessageLaws.{values-append}
 
 -- a varint of one or two bytes
@@ -130,22 +123,6 @@ module _ (s : List ℕ) (k at : ℕ) {tag next first start : ℕ} (h : ShortFiel
       skip-field s k at (tag / 8) (wire.Body start (start + first)) (start + first) (λ base. short-body s at tag next first start h base e f)
       (omega (arith, h .later, h .ends, h .inside)) d
 
--- such a field, found
-module _ (s : List ℕ) (k at : ℕ) {tag next first start : ℕ} (h : ShortField s at tag next first start) (d : tag / 8 ≡ k) where
-  here : (v : WireValue) (end : ℕ) → ((base : ℕ) → FieldTold base s (readField (restOf base s at)) (step.Field (tag / 8) v end))
-      → FoundAt s k at (found.Value v)
-  here v end e = (
-    omega (arith, h .later, h .ends, h .inside),
-    end,
-    λ base. subst (λ (n : ℕ). FieldTold base s (readField (restOf base s at)) (step.Field n v end)) d (e base),
-  )
-
-  pub found-varint : tag % 8 ≡ 0 → FoundAt s k at (found.Value (wire.Varint first))
-  found-varint e = here (wire.Varint first) start λ base. short-varint s at tag next first start h base e
-
-  pub found-body : tag % 8 ≡ 2 → first ≤ length s - start → FoundAt s k at (found.Value (wire.Body start (start + first)))
-  found-body e f = here (wire.Body start (start + first)) (start + first) λ base. short-body s at tag next first start h base e f
-
 -- what holds from the place after them holds from the first
 module _ (base : ℕ) {s : List ℕ} {k at next : ℕ} (t : SkipTold s k at next) where
   -- of a relation that only the occurrences of field k decide
@@ -157,22 +134,3 @@ module _ (base : ℕ) {s : List ℕ} {k at next : ℕ} (t : SkipTold s k at next
       let r = bind-ok (cut (restOf base s next)) (λ m. x .fields ++ m) (sym (x .cuts) ∙ q .1) in
       let same : values k (q .0) ≡ values k (r .0) = ap (values k) (r .2) ∙ values-append k (x .fields) (r .0) ∙ rw (x .others) in
       (r .0, r .1, f m (q .0) (r .0) same (q .2))
-
-  pub skip-checked : (c : Checked) → CheckedTold (cut (restOf base s next)) c → CheckedTold (cut (restOf base s at)) c
-  skip-checked checked.Whole (m, w) = (t .is base .fields ++ m, t .is base .cuts ∙ rw w)
-  skip-checked (checked.Refused error) w = t .is base .cuts ∙ rw w
-
-  pub occur-skipped : (start : ℕ) → Occur k base s start at → Occur k base s start next
-  occur-skipped start = skip-leads (λ m rest. values k m ≡ values k rest) (λ m a b e q. q ∙ e) (restOf base s start)
-
-  pub found-skipped : {r : Found} → FoundFrom base s k next r → FoundFrom base s k at r
-  found-skipped = find-on k base s at next (occur-skipped at (find-start k base s at))
-
-  pub whole-skipped : at ≡ 0 → {r : Found} → FoundFrom base s k next r → FoundTold base s k r
-  whole-skipped z f = find-whole k base s at z (found-skipped f)
-
-  pub bodies-skipped : (start : ℕ) → Bodies k base s start at → Bodies k base s start next
-  bodies-skipped start = skip-leads (λ m rest. bodies k m ≡ bodies k rest) (λ m a b e q. q ∙ ap bodiesOf e) (restOf base s start)
-
-  pub next-skipped : {r : Piece} → NextTold base s k next r → NextTold base s k at r
-  next-skipped = next-on k base s at next (t .later) (bodies-skipped at (bodies-start k base s at))

@@ -12,13 +12,10 @@ use Rattle.foundation.proofs.ResultLaws.{gives-ok}
 use Rattle.wire.specs.Wire.{Value, field, readField, Message, cut}
 use Rattle.wire.specs.Messages.{values}
 use Rattle.wire.specs.Told.{refusal, restOf, valueOf, Inside, FieldTold}
-use Rattle.wire.specs.Asked.{CheckedTold}
 use Rattle.wire.specs.declared.WireError.{WireError}
 use Rattle.wire.specs.declared.WireValue.{WireValue}
 use Rattle.wire.specs.declared.FieldStep.{FieldStep}
 use Rattle.wire.specs.declared.FieldStep.the-variants as step
-use Rattle.wire.specs.declared.message.Checked.{Checked}
-use Rattle.wire.specs.declared.message.Checked.the-variants as checked
 use Rattle.wire.proofs.Readers.{After, ReadIn, field-after}
 use Rattle.wire.proofs.Progress.{none-empty, cut-none, cut-next}
 use Rattle.wire.proofs.FieldLaws.{after-inside}
@@ -73,13 +70,6 @@ module _ (base : ℕ) (s : List ℕ) where
         pub cut-never : {A : Type 0} {m : Message} → cut (restOf base s at) ≡ ok m → {error : WireError} → r ≡ step.Refused error → A
         cut-never w g = let q = cut-refused g refl in let z : _≡_ {A = ℕ} 0 1 = cc in absurd (omega arith)
 
--- what the code says of the rest holds of the whole
-module _ (base : ℕ) (s : List ℕ) (at : ℕ) {r : FieldStep} (e : FieldTold base s (readField (restOf base s at)) r) (h : at < length s) where
-  pub checked-field : {n : ℕ} {v : WireValue} (next : ℕ) → r ≡ step.Field n v next → (c : Checked)
-      → CheckedTold (cut (restOf base s next)) c → CheckedTold (cut (restOf base s at)) c
-  checked-field {n} {v} next g checked.Whole (m, w) = (field n (valueOf base s v) ∷ m, cut-field base s at e h g ∙ rw w)
-  checked-field next g (checked.Refused error) w = cut-field base s at e h g ∙ rw w
-
 -- Cutting p goes on with q: what is known of the two messages is R.
 abbrev pub Leads : (Message → Message → Type 0) → Part → Part → Type 0
 Leads R p q = (m : Message) → cut p ≡ ok m → (rest : Message) × (cut q ≡ ok rest) × R m rest
@@ -118,6 +108,3 @@ module _ (k : ℕ) {n : ℕ} (v : Value) (m : Message) where
   pub values-passed : (n ≡ k → ⊥) → values k (field n v ∷ m) ≡ values k m
   unfolding values
   values-passed h = rw (ne-eqb n k h)
-
-pub checked-whole : (base : ℕ) (s : List ℕ) (c : Checked) → CheckedTold (cut (restOf base s 0)) c → CheckedTold (cut (_from_ base s)) c
-checked-whole base s c h = subst (λ (p : Part). CheckedTold (cut p) c) (whole base s) h

@@ -15,6 +15,10 @@ use Rattle.wire.specs.declared.Varint.the-variants as read
 use Rattle.wire.specs.declared.ShortVarint.{ShortVarint}
 use Rattle.wire.specs.declared.WireValue.{WireValue}
 use Rattle.wire.specs.declared.WireValue.the-variants as value
+use Rattle.wire.specs.declared.Number.{Number}
+use Rattle.wire.specs.declared.Number.the-variants as number
+use Rattle.wire.specs.declared.Piece.{Piece}
+use Rattle.wire.specs.declared.Piece.the-variants as piece
 use Rattle.wire.specs.declared.ValueStep.{ValueStep}
 use Rattle.wire.specs.declared.ValueStep.the-variants as valueStep
 use Rattle.wire.specs.declared.Delimited.{Delimited}
@@ -70,6 +74,16 @@ abbrev pub Inside : List ℕ → WireValue → Type 0
 Inside s (value.Varint n) = Unit {0}
 Inside s (value.Fixed width n) = Unit {0}
 Inside s (value.Body start end) = (start ≤ end) × (end ≤ length s) × (0 < start)
+
+abbrev pub numberOf : WireValue → Number
+numberOf (value.Varint n) = number.Value n
+numberOf (value.Fixed width n) = number.Nothing
+numberOf (value.Body start end) = number.Nothing
+
+abbrev pub pieceOf : WireValue → Piece
+pieceOf (value.Varint n) = piece.Nothing
+pieceOf (value.Fixed width n) = piece.Nothing
+pieceOf (value.Body start end) = piece.Body start end
 
 abbrev pub ValueTold : ℕ → List ℕ → Res (Got Value) → ValueStep → Type 0
 ValueTold base s r (valueStep.Value v next) = (r ≡ got (valueOf base s v) (restOf base s next)) × Inside s v

@@ -7,11 +7,7 @@ ghost use lib.ListN.{length, take, drop};
 ghost use Rattle.foundation.specs.Results.{Res, Part, Got, got, mapGot};
 ghost use Rattle.foundation.specs.Digits.{number};
 ghost use Rattle.wire.specs.Wire.{groupsFrom, readVarint, readFixed, readDelimited, readValue, readField, varint, body};
-ghost use Rattle.wire.specs.Told.{restOf, varintTold, joinedTo, DelimitedTold, ValueTold, FieldTold, ShortTold, ShortField, SkipTold};
-
-pub mod message; // message.rt: messages, cut and asked for their fields
-pub mod repeated; // repeated.rt: repeated numbers, single and packed
-pub mod reader; // reader.rt: a reader over a message
+ghost use Rattle.wire.specs.Told.{restOf, numberOf, pieceOf, varintTold, joinedTo, DelimitedTold, ValueTold, FieldTold, ShortTold, ShortField, SkipTold};
 
 // Why a part is refused, with the offset among the decoded bytes that is told.
 pub enum WireError {
@@ -131,6 +127,45 @@ pub enum WireValue {
     Fixed { width: usize, number: u64 },
     // The bytes of a length-delimited value: `&s[start..end]`.
     Body { start: usize, end: usize },
+}
+
+pub enum Number {
+    Value { value: u64 },
+    Nothing,
+}
+
+// The bytes `&s[start..end]`.
+pub enum Piece {
+    Body { start: usize, end: usize },
+    Nothing,
+}
+
+impl WireValue {
+    pub fn varint(self) -> Number
+        ensures { λ r. ⌜ r ≡ numberOf self ⌝ }
+    {
+        match self {
+            WireValue::Varint { value } => Number::Value { value },
+            WireValue::Fixed {
+                width: _,
+                number: _,
+            } => Number::Nothing,
+            WireValue::Body { start: _, end: _ } => Number::Nothing,
+        }
+    }
+
+    pub fn bytes(self) -> Piece
+        ensures { λ r. ⌜ r ≡ pieceOf self ⌝ }
+    {
+        match self {
+            WireValue::Varint { value: _ } => Piece::Nothing,
+            WireValue::Fixed {
+                width: _,
+                number: _,
+            } => Piece::Nothing,
+            WireValue::Body { start, end } => Piece::Body { start, end },
+        }
+    }
 }
 
 enum ValueStep {
@@ -307,14 +342,14 @@ fn tagged_at(s: &[u8], base: u32, at: usize, tag: u64, next: usize) -> FieldStep
 }
 
 // What is read of a varint of one or two bytes.
-struct ShortVarint {
-    value: u64,
+pub struct ShortVarint {
+    pub value: u64,
     // Its bytes, none if another form stands there or the slice ends.
-    size: usize,
+    pub size: usize,
 }
 
 // The varint at a place, if it has one or two bytes: by far the most have.
-fn short_varint(s: &[u8], at: usize) -> ShortVarint
+pub fn short_varint(s: &[u8], at: usize) -> ShortVarint
     ensures { λ r. ⌜ ShortTold (now (s .entry)) at r ⌝ }
 {
     if s.len() <= at {

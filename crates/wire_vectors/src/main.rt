@@ -1,14 +1,14 @@
 // Runs the encoding guide's published examples and damaged messages through `wire` and writes what it reads: each field's number, kind and
 // value or places, or the refusal with its offset.
 use libc::STDOUT_FILENO;
+use messages::Checked;
+use messages::Found;
+use messages::repeated::FirstTwo;
+use messages::repeated::Two;
 use wire::FieldStep;
 use wire::Varint;
 use wire::WireError;
 use wire::WireValue;
-use wire::message::Checked;
-use wire::message::Found;
-use wire::repeated::FirstTwo;
-use wire::repeated::Two;
 
 fn print(text: &[u8]) {
     io::write_all(STDOUT_FILENO, text);
@@ -105,7 +105,7 @@ fn show_cuts(name: &[u8], s: &[u8]) {
     while n < s.len() {
         print_number(b"  ", n as u64);
         print(b" bytes: ");
-        print_checked(wire::message::check(&s[..n], 0));
+        print_checked(messages::check(&s[..n], 0));
         n = n + 1;
     }
 }
@@ -113,7 +113,7 @@ fn show_cuts(name: &[u8], s: &[u8]) {
 fn show_first(name: &[u8], s: &[u8], number: u32) {
     print(name);
     print(b"\n  first");
-    let found = wire::message::find(s, 0, number);
+    let found = messages::find(s, 0, number);
     let Found::Value { value } = found else {
         print(b" nothing\n");
         return;
@@ -137,7 +137,7 @@ fn print_two(two: Two) {
 fn show_two(name: &[u8], s: &[u8], number: u32) {
     print(name);
     print(b"\n  ");
-    let numbers = wire::repeated::first_two(s, 0, number);
+    let numbers = messages::repeated::first_two(s, 0, number);
     let FirstTwo::Numbers { two } = numbers else {
         print_refusal(numbers.error());
         return;

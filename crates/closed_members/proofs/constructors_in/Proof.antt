@@ -6,8 +6,8 @@ use Rattle.closed_members.proofs.constructors_in.Tie as tie
 use Rattle.closed_members.proofs.constructors_in.Reads as reads
 use Rattle.closed_members.proofs.constructors_in.Lts as lts
 use Rattle.closed_members.proofs.constructors_at.Reads as constructors-at-reads
-use Rattle.wire.proofs.message.Checked.error.Reads as error-reads
-use Rattle.wire.proofs.message.check_messages.Reads as check-messages-reads
+use Rattle.messages.proofs.Checked.error.Reads as error-reads
+use Rattle.messages.proofs.check_messages.Reads as check-messages-reads
 
 -- src/lib.rt:354:34
 sub-check-messages : tie.Need-sub-check-messages

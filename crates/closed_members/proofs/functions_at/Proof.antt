@@ -13,7 +13,7 @@ use Rattle.closed_members.proofs.functions_at.Tie as tie
 use Rattle.closed_members.proofs.functions_at.Reads as reads
 use Rattle.closed_members.proofs.functions_at.Lts as lts
 use Rattle.closed_members.proofs.closed_function.Reads as closed-function-reads
-use Rattle.wire.proofs.message.next_body.Reads as next-body-reads
+use Rattle.messages.proofs.next_body.Reads as next-body-reads
 
 abbrev Inv-loop : tie.InvT-loop
 Inv-loop payload at number d2 ends starts stops firsts entry-starts entry-ends tables sheet₀ text₀ from₀ count₀ next₀ sheet text from count next = Looping functionIn closedFunction (2 ^ 25) (lent payload d2 ends starts stops firsts entry-starts entry-ends tables) (drop at payload) at number next₀ sheet₀ text₀ from count next sheet text × (length sheet ≡ length sheet₀) × (length text ≡ length text₀)

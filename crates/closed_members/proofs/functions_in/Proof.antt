@@ -6,8 +6,8 @@ use Rattle.closed_members.proofs.functions_in.Tie as tie
 use Rattle.closed_members.proofs.functions_in.Reads as reads
 use Rattle.closed_members.proofs.functions_in.Lts as lts
 use Rattle.closed_members.proofs.functions_at.Reads as functions-at-reads
-use Rattle.wire.proofs.message.Checked.error.Reads as error-reads
-use Rattle.wire.proofs.message.check_messages.Reads as check-messages-reads
+use Rattle.messages.proofs.Checked.error.Reads as error-reads
+use Rattle.messages.proofs.check_messages.Reads as check-messages-reads
 
 -- src/lib.rt:456:34
 sub-check-messages : tie.Need-sub-check-messages

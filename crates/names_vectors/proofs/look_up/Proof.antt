@@ -8,7 +8,7 @@ use Rattle.names.proofs.qualified.qualified_name.Reads as qualified-name-reads
 use Rattle.names.proofs.records.index_records.Reads as index-records-reads
 use Rattle.names_vectors.proofs.print.Reads as print-reads
 use Rattle.names_vectors.proofs.print_name.Reads as print-name-reads
-use Rattle.wire.proofs.message.check.Reads as check-reads
+use Rattle.messages.proofs.check.Reads as check-reads
 
 -- src/main.rt:173:9
 check-requires : tie.Need-check-requires

@@ -10,7 +10,7 @@ use Rattle.type_references.proofs.own_type.Lts as lts
 use Rattle.schema.proofs.types.less.Reads as less-reads
 use Rattle.type_references.proofs.enter.enter_type.Reads as enter-type-reads
 use Rattle.type_references.proofs.own_arguments.Reads as own-arguments-reads
-use Rattle.wire.proofs.message.next_body.Reads as next-body-reads
+use Rattle.messages.proofs.next_body.Reads as next-body-reads
 
 -- src/lib.rt:227:9
 enter-type-requires : tie.Need-enter-type-requires

@@ -5,8 +5,8 @@ use Rattle.declarations.proofs.payload.open_body.Tie as tie
 use Rattle.declarations.proofs.payload.open_body.Reads as reads
 use Rattle.declarations.proofs.payload.open_body.Lts as lts
 use Rattle.schema.proofs.table.index_types.Reads as index-types-reads
-use Rattle.wire.proofs.message.Checked.error.Reads as error-reads
-use Rattle.wire.proofs.message.check_from.Reads as check-from-reads
+use Rattle.messages.proofs.Checked.error.Reads as error-reads
+use Rattle.messages.proofs.check_from.Reads as check-from-reads
 
 -- src/payload.rt:41:9
 check-from-requires : tie.Need-check-from-requires

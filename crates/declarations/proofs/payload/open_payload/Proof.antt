@@ -5,7 +5,7 @@ use Rattle.declarations.proofs.payload.open_payload.Tie as tie
 use Rattle.declarations.proofs.payload.open_payload.Reads as reads
 use Rattle.declarations.proofs.payload.open_payload.Lts as lts
 use Rattle.declarations.proofs.payload.open_table.Reads as open-table-reads
-use Rattle.wire.proofs.reader.open_payload.Reads as open-payload-reads
+use Rattle.messages.proofs.reader.open_payload.Reads as open-payload-reads
 
 -- src/payload.rt:100:9
 open-payload-requires : tie.Need-open-payload-requires

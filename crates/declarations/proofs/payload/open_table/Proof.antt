@@ -8,8 +8,8 @@ use Rattle.declarations.proofs.payload.open_table.Reads as reads
 use Rattle.declarations.proofs.payload.open_table.Lts as lts
 use Rattle.declarations.proofs.payload.open_body.Reads as open-body-reads
 use Rattle.names.proofs.records.index_records.Reads as index-records-reads
-use Rattle.wire.proofs.message.Checked.error.Reads as error-reads
-use Rattle.wire.proofs.message.check_from.Reads as check-from-reads
+use Rattle.messages.proofs.Checked.error.Reads as error-reads
+use Rattle.messages.proofs.check_from.Reads as check-from-reads
 
 -- src/payload.rt:75:30
 slice-aggregate-check-from : tie.Need-slice-aggregate-check-from

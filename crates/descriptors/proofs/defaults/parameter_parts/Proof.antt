@@ -10,7 +10,7 @@ use Rattle.descriptors.proofs.defaults.parameter_parts.Tie as tie
 use Rattle.descriptors.proofs.defaults.parameter_parts.Reads as reads
 use Rattle.descriptors.proofs.defaults.parameter_parts.Lts as lts
 use Rattle.descriptors.proofs.defaults.parameter_part.Reads as parameter-part-reads
-use Rattle.wire.proofs.message.next_body.Reads as next-body-reads
+use Rattle.messages.proofs.next_body.Reads as next-body-reads
 
 abbrev Inv-loop : tie.InvT-loop
 Inv-loop start end number payload d2 ends starts stops firsts entry-starts entry-ends tables area₀ at from₀ size₀ area from size = Parting (lent payload d2 ends starts stops firsts entry-starts entry-ends tables) start end number at area₀ from size area × (length area ≡ length area₀)

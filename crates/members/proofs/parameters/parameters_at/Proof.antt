@@ -14,7 +14,7 @@ use Rattle.members.proofs.parameters.parameters_at.Tie as tie
 use Rattle.members.proofs.parameters.parameters_at.Reads as reads
 use Rattle.members.proofs.parameters.parameters_at.Lts as lts
 use Rattle.members.proofs.parameters.parameter_in.Reads as parameter-in-reads
-use Rattle.wire.proofs.message.next_body.Reads as next-body-reads
+use Rattle.messages.proofs.next_body.Reads as next-body-reads
 
 abbrev Inv-loop : tie.InvT-loop
 Inv-loop msg base number payload d2 ends starts stops firsts entry-starts entry-ends tables sheet₀ text₀ at₀ count₀ next₀ sheet text at count next = Looping parameterIn parameterRows parameterCost (lent payload d2 ends starts stops firsts entry-starts entry-ends tables) msg base number next₀ sheet₀ text₀ at count next sheet text × (length sheet ≡ length sheet₀) × (length text ≡ length text₀)

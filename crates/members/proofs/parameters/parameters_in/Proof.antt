@@ -5,8 +5,8 @@ use Rattle.members.proofs.parameters.parameters_in.Tie as tie
 use Rattle.members.proofs.parameters.parameters_in.Reads as reads
 use Rattle.members.proofs.parameters.parameters_in.Lts as lts
 use Rattle.members.proofs.parameters.parameters_at.Reads as parameters-at-reads
-use Rattle.wire.proofs.message.Checked.error.Reads as error-reads
-use Rattle.wire.proofs.message.check_messages.Reads as check-messages-reads
+use Rattle.messages.proofs.Checked.error.Reads as error-reads
+use Rattle.messages.proofs.check_messages.Reads as check-messages-reads
 
 -- src/parameters.rt:253:9
 check-messages-requires : tie.Need-check-messages-requires

@@ -5,8 +5,8 @@ use Rattle.names.proofs.records.index_records.Tie as tie
 use Rattle.names.proofs.records.index_records.Reads as reads
 use Rattle.names.proofs.records.index_records.Lts as lts
 use Rattle.names.proofs.records.note_records.Reads as note-records-reads
-use Rattle.wire.proofs.message.Checked.error.Reads as error-reads
-use Rattle.wire.proofs.repeated.check_varints.Reads as check-varints-reads
+use Rattle.messages.proofs.Checked.error.Reads as error-reads
+use Rattle.messages.proofs.repeated.check_varints.Reads as check-varints-reads
 
 -- src/records.rt:293:9
 returns : tie.Need-returns

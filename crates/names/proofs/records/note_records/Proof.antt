@@ -11,10 +11,10 @@ use Rattle.names.proofs.records.note_records.Lts as lts
 use Rattle.names.proofs.records.least.Reads as least-reads
 use Rattle.names.proofs.records.put_entry.Reads as put-entry-reads
 use Rattle.names.proofs.records.served.Reads as served-reads
-use Rattle.wire.proofs.message.Checked.error.Reads as error-reads
-use Rattle.wire.proofs.message.check_from.Reads as check-from-reads
-use Rattle.wire.proofs.message.index.Reads as index-reads
-use Rattle.wire.proofs.message.next_body.Reads as next-body-reads
+use Rattle.messages.proofs.Checked.error.Reads as error-reads
+use Rattle.messages.proofs.check_from.Reads as check-from-reads
+use Rattle.messages.proofs.index.Reads as index-reads
+use Rattle.messages.proofs.next_body.Reads as next-body-reads
 
 abbrev Inv-loop : tie.InvT-loop
 Inv-loop bytes at starts₀ ends₀ firsts₀ room total₀ count₀ i₀ starts ends firsts total count i = (length starts ≡ length starts₀) × (length ends ≡ length ends₀) × (length firsts ≡ length firsts₀) × (count ≤ i) × (total ≤ 4294967295 * count) × (count ≤ room) × Noting bytes at starts ends firsts total count i

@@ -8,8 +8,8 @@ use Rattle.names.proofs.records.firsts_in.Reads as firsts-in-reads
 use Rattle.names.proofs.records.operation_in.Reads as operation-in-reads
 use Rattle.names.proofs.records.served.Reads as served-reads
 use Rattle.names.proofs.records.two_in.Reads as two-in-reads
-use Rattle.wire.proofs.message.Found.bytes.Reads as bytes-reads
-use Rattle.wire.proofs.message.Found.index.Reads as index-reads
+use Rattle.messages.proofs.Found.bytes.Reads as bytes-reads
+use Rattle.messages.proofs.Found.index.Reads as index-reads
 
 -- src/records.rt:189:9
 firsts-in-requires : tie.Need-firsts-in-requires

@@ -1,15 +1,15 @@
 use mathlib.Core.Path.{_∙_, ap, subst}
-use Rattle.wire.specs.Asked.{FoundTold}
+use Rattle.messages.specs.Asked.{FoundTold}
 use Rattle.wire.specs.Messages.{varints}
-use Rattle.wire.specs.Repeated.{twoTold}
-use Rattle.wire.specs.declared.message.Found.{Found}
+use Rattle.messages.specs.Repeated.{twoTold}
+use Rattle.messages.specs.declared.Found.{Found}
 use Rattle.names.proofs.RecordLaws.{two-none, two-is, two-refused}
 use borrow.Author.Needs.{needs}
 use Rattle.names.proofs.records.two_in.Statement.{statement}
 use Rattle.names.proofs.records.two_in.Tie as tie
 use Rattle.names.proofs.records.two_in.Reads as reads
 use Rattle.names.proofs.records.two_in.Lts as lts
-use Rattle.wire.proofs.repeated.first_two.Reads as first-two-reads
+use Rattle.messages.proofs.repeated.first_two.Reads as first-two-reads
 
 enum-told : tie.Need-enum-told
 enum-told c = search needs

@@ -8,7 +8,7 @@ use Rattle.schema.proofs.head.index_of.Statement.{statement}
 use Rattle.schema.proofs.head.index_of.Tie as tie
 use Rattle.schema.proofs.head.index_of.Reads as reads
 use Rattle.schema.proofs.head.index_of.Lts as lts
-use Rattle.wire.proofs.message.Found.index.Reads as index-reads
+use Rattle.messages.proofs.Found.index.Reads as index-reads
 
 -- src/head.rt
 index-requires : tie.Need-index-requires

@@ -1,6 +1,6 @@
 use mathlib.Core.Path.{ap, sym, _∙_}
-use Rattle.wire.specs.Asked.{numberTold}
-use Rattle.wire.proofs.FindLaws.{flag-nothing, flag-is}
+use Rattle.messages.specs.Asked.{numberTold}
+use Rattle.messages.proofs.FindLaws.{flag-nothing, flag-is}
 use borrow.Author.Needs.{needs}
 use Rattle.schema.proofs.head.is_set.Statement.{statement}
 use Rattle.schema.proofs.head.is_set.Tie as tie

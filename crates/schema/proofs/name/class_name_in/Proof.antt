@@ -4,7 +4,7 @@ use Rattle.schema.proofs.name.class_name_in.Tie as tie
 use Rattle.schema.proofs.name.class_name_in.Reads as reads
 use Rattle.schema.proofs.name.class_name_in.Lts as lts
 use Rattle.schema.proofs.name.class_name_at.Reads as class-name-at-reads
-use Rattle.wire.proofs.message.index.Reads as index-reads
+use Rattle.messages.proofs.index.Reads as index-reads
 
 -- src/name.rt:74:9
 index-requires : tie.Need-index-requires

@@ -11,7 +11,7 @@ use Rattle.schema.proofs.name.name_in.Reads as reads
 use Rattle.schema.proofs.name.name_in.Lts as lts
 use Rattle.names.proofs.lookup.string.Reads as string-reads
 use Rattle.names.proofs.steps.absent.Reads as absent-reads
-use Rattle.wire.proofs.message.index.Reads as index-reads
+use Rattle.messages.proofs.index.Reads as index-reads
 
 -- src/name.rt:38:9
 index-requires : tie.Need-index-requires

@@ -8,7 +8,7 @@ use Rattle.schema.proofs.places.first_argument.Tie as tie
 use Rattle.schema.proofs.places.first_argument.Reads as reads
 use Rattle.schema.proofs.places.first_argument.Lts as lts
 use Rattle.schema.proofs.places.type_place.Reads as type-place-reads
-use Rattle.wire.proofs.message.next_body.Reads as next-body-reads
+use Rattle.messages.proofs.next_body.Reads as next-body-reads
 
 abbrev Inv-loop : tie.InvT-loop
 Inv-loop payload start end left entry-starts entry-ends tables base at₀ at = Seeking payload entry-starts entry-ends tables start end left at

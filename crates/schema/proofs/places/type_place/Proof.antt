@@ -6,8 +6,8 @@ use Rattle.schema.proofs.places.type_place.Tie as tie
 use Rattle.schema.proofs.places.type_place.Reads as reads
 use Rattle.schema.proofs.places.type_place.Lts as lts
 use Rattle.schema.proofs.places.entry_place.Reads as entry-place-reads
-use Rattle.wire.proofs.message.bytes.Reads as bytes-reads
-use Rattle.wire.proofs.message.index.Reads as index-reads
+use Rattle.messages.proofs.bytes.Reads as bytes-reads
+use Rattle.messages.proofs.index.Reads as index-reads
 
 -- src/places.rt:67:16
 cast-base : tie.Need-cast-base

@@ -7,7 +7,7 @@ use Rattle.schema.proofs.table.first_nullable.Statement.{statement}
 use Rattle.schema.proofs.table.first_nullable.Tie as tie
 use Rattle.schema.proofs.table.first_nullable.Reads as reads
 use Rattle.schema.proofs.table.first_nullable.Lts as lts
-use Rattle.wire.proofs.message.index.Reads as index-reads
+use Rattle.messages.proofs.index.Reads as index-reads
 
 -- src/table.rt:85:9
 index-requires : tie.Need-index-requires

@@ -6,7 +6,7 @@ use Rattle.schema.proofs.table.index_types.Tie as tie
 use Rattle.schema.proofs.table.index_types.Reads as reads
 use Rattle.schema.proofs.table.index_types.Lts as lts
 use Rattle.schema.proofs.table.note_table.Reads as note-table-reads
-use Rattle.wire.proofs.message.message.Reads as message-reads
+use Rattle.messages.proofs.message.Reads as message-reads
 
 -- src/table.rt:125:9
 returns : tie.Need-returns

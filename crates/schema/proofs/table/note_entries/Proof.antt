@@ -9,9 +9,9 @@ use Rattle.schema.proofs.table.note_entries.Tie as tie
 use Rattle.schema.proofs.table.note_entries.Reads as reads
 use Rattle.schema.proofs.table.note_entries.Lts as lts
 use Rattle.schema.proofs.table.put_entry.Reads as put-entry-reads
-use Rattle.wire.proofs.message.Checked.error.Reads as error-reads
-use Rattle.wire.proofs.message.check_from.Reads as check-from-reads
-use Rattle.wire.proofs.message.next_body.Reads as next-body-reads
+use Rattle.messages.proofs.Checked.error.Reads as error-reads
+use Rattle.messages.proofs.check_from.Reads as check-from-reads
+use Rattle.messages.proofs.next_body.Reads as next-body-reads
 
 abbrev Inv-loop : tie.InvT-loop
 Inv-loop bytes at starts₀ ends₀ count₀ i₀ starts ends count i = (length starts ≡ length starts₀) × (length ends ≡ length ends₀) × (count ≤ i) × Noting bytes at starts ends count i

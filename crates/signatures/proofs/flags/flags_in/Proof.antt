@@ -4,7 +4,7 @@ use Rattle.signatures.proofs.flags.flags_in.Statement.{statement}
 use Rattle.signatures.proofs.flags.flags_in.Tie as tie
 use Rattle.signatures.proofs.flags.flags_in.Reads as reads
 use Rattle.signatures.proofs.flags.flags_in.Lts as lts
-use Rattle.wire.proofs.message.varint.Reads as varint-reads
+use Rattle.messages.proofs.varint.Reads as varint-reads
 
 -- src/flags.rt:19:9
 varint-requires : tie.Need-varint-requires

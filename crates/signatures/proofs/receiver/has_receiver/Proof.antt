@@ -4,8 +4,8 @@ use Rattle.signatures.proofs.receiver.has_receiver.Statement.{statement
 use Rattle.signatures.proofs.receiver.has_receiver.Tie as tie
 use Rattle.signatures.proofs.receiver.has_receiver.Reads as reads
 use Rattle.signatures.proofs.receiver.has_receiver.Lts as lts
-use Rattle.wire.proofs.message.bytes.Reads as bytes-reads
-use Rattle.wire.proofs.message.find.Reads as find-reads
+use Rattle.messages.proofs.bytes.Reads as bytes-reads
+use Rattle.messages.proofs.find.Reads as find-reads
 
 -- src/receiver.rt:12:9
 bytes-requires : tie.Need-bytes-requires

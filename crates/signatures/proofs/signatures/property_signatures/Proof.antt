@@ -11,7 +11,7 @@ use Rattle.signatures.proofs.signatures.property_signatures.Reads as re
 use Rattle.signatures.proofs.signatures.property_signatures.Lts as lts
 use Rattle.signatures.proofs.signatures.three_in.Reads as three-in-reads
 use Rattle.signatures.proofs.signatures.unsigned_property.Reads as unsigned-property-reads
-use Rattle.wire.proofs.message.message.Reads as message-reads
+use Rattle.messages.proofs.message.Reads as message-reads
 
 -- src/signatures.rt:261:9
 message-requires : tie.Need-message-requires

@@ -8,7 +8,7 @@ use Rattle.signatures.proofs.signatures.signature_in.Reads as reads
 use Rattle.signatures.proofs.signatures.signature_in.Lts as lts
 use Rattle.signatures.proofs.signatures.names_in.Reads as names-in-reads
 use Rattle.signatures.proofs.signatures.unsigned.Reads as unsigned-reads
-use Rattle.wire.proofs.message.message.Reads as message-reads
+use Rattle.messages.proofs.message.Reads as message-reads
 
 -- src/signatures.rt:95:9
 message-requires : tie.Need-message-requires

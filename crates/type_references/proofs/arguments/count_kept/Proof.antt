@@ -8,7 +8,7 @@ use Rattle.type_references.proofs.arguments.count_kept.Tie as tie
 use Rattle.type_references.proofs.arguments.count_kept.Reads as reads
 use Rattle.type_references.proofs.arguments.count_kept.Lts as lts
 use Rattle.type_references.proofs.arguments.is_kept.Reads as is-kept-reads
-use Rattle.wire.proofs.message.next_body.Reads as next-body-reads
+use Rattle.messages.proofs.next_body.Reads as next-body-reads
 
 abbrev Inv-loop : tie.InvT-loop
 Inv-loop msg base left payload entry-starts entry-ends tables at₀ count₀ at count = Counting payload entry-starts entry-ends tables msg base left at count

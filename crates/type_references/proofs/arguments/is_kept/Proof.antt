@@ -6,8 +6,8 @@ use Rattle.type_references.proofs.arguments.is_kept.Tie as tie
 use Rattle.type_references.proofs.arguments.is_kept.Reads as reads
 use Rattle.type_references.proofs.arguments.is_kept.Lts as lts
 use Rattle.schema.proofs.types.entry_at.Reads as entry-at-reads
-use Rattle.wire.proofs.message.bytes.Reads as bytes-reads
-use Rattle.wire.proofs.message.index.Reads as index-reads
+use Rattle.messages.proofs.bytes.Reads as bytes-reads
+use Rattle.messages.proofs.index.Reads as index-reads
 
 -- src/arguments.rt:66:9
 bytes-requires : tie.Need-bytes-requires

@@ -1,19 +1,19 @@
 use mathlib.Core.Path.{refl, sym, _∙_}
 use native.Mathlib.Omega.{arith}
 use lib.ListN.{length-take}
-use Rattle.wire.proofs.FindLaws.{piece-is, index-is}
-use Rattle.wire.proofs.BodyLaws.{message-none, message-in, message-cut, message-refused}
+use Rattle.messages.proofs.FindLaws.{piece-is, index-is}
+use Rattle.messages.proofs.BodyLaws.{message-none, message-in, message-cut, message-refused}
 use Rattle.type_references.proofs.ArgumentLaws.{field-inline, field-refused, field-absent, field-by-index}
 use borrow.Author.Needs.{needs}
 use Rattle.type_references.proofs.arguments.type_field.Statement.{statement}
 use Rattle.type_references.proofs.arguments.type_field.Tie as tie
 use Rattle.type_references.proofs.arguments.type_field.Reads as reads
 use Rattle.type_references.proofs.arguments.type_field.Lts as lts
-use Rattle.wire.proofs.message.Checked.error.Reads as error-reads
-use Rattle.wire.proofs.message.Found.bytes.Reads as bytes-reads
-use Rattle.wire.proofs.message.Found.index.Reads as index-reads
-use Rattle.wire.proofs.message.check_from.Reads as check-from-reads
-use Rattle.wire.proofs.message.find_two.Reads as find-two-reads
+use Rattle.messages.proofs.Checked.error.Reads as error-reads
+use Rattle.messages.proofs.Found.bytes.Reads as bytes-reads
+use Rattle.messages.proofs.Found.index.Reads as index-reads
+use Rattle.messages.proofs.check_from.Reads as check-from-reads
+use Rattle.messages.proofs.find_two.Reads as find-two-reads
 
 -- src/arguments.rt:65:9
 find-two-requires : tie.Need-find-two-requires

@@ -6,8 +6,8 @@ use Rattle.type_references.proofs.enter.count_arguments.Tie as tie
 use Rattle.type_references.proofs.enter.count_arguments.Reads as reads
 use Rattle.type_references.proofs.enter.count_arguments.Lts as lts
 use Rattle.type_references.proofs.arguments.count_kept.Reads as count-kept-reads
-use Rattle.wire.proofs.message.Checked.error.Reads as error-reads
-use Rattle.wire.proofs.message.check_messages.Reads as check-messages-reads
+use Rattle.messages.proofs.Checked.error.Reads as error-reads
+use Rattle.messages.proofs.check_messages.Reads as check-messages-reads
 
 -- src/enter.rt:99:9
 returns : tie.Need-returns

@@ -1,5 +1,5 @@
 use mathlib.Core.Path.{_≡_, refl, sym, subst, _∙_}
-use Prim.Native.Nat.{_+_, _*_, _-_, _^_, _≤_}
+use Prim.Native.Nat.{_+_, _*_, _-_, _^_, _≤_, ℕ, _<_}
 use native.Mathlib.Omega.{arith}
 use lib.ListN.{length}
 use lib.Seq.{length-take-le}
@@ -11,7 +11,6 @@ use Rattle.schema.proofs.ParseLaws.{part-inside}
 use Rattle.type_references.proofs.WalkLaws.{Looping, turns, loop-start, loop-ready, loop-room, pop-room, pop-some, frame-kept, loop-end, loop-pop, pop-falls, body-in, loop-passed, passed-falls, loop-uncut, inline-in, loop-unentered, push-room, loop-entered, entered-falls, loop-kept, loop-dropped, loop-refused}
 use Rattle.type_references.proofs.CycleLaws.{falls-arguments, falls-look-up, falls-entry, entry-room, parse-unentered, entered-room, parse-entered}
 use borrow.Author.Needs.{needs}
-use Prim.Native.Nat.{ℕ, _<_}
 use borrow.Fn.Kinds.{In}
 use borrow.Fn.PlainCycle.{Measures, is, falls, and}
 use Rattle.type_references.proofs.parse.arguments_at.Reads as arguments-at
@@ -30,7 +29,7 @@ use Rattle.type_references.proofs.arguments.argument_at.Reads as argume
 use Rattle.type_references.proofs.enter.enter_type.Reads as enter-type-reads
 use Rattle.type_references.proofs.waiting.push.Reads as push-reads
 use Rattle.type_references.proofs.waiting.waiting_at.Reads as waiting-at-reads
-use Rattle.wire.proofs.message.next_body.Reads as next-body-reads
+use Rattle.messages.proofs.next_body.Reads as next-body-reads
 use Rattle.type_references.proofs.parse.+arguments_at+parse_at+resolve_at.{statement}
 use Rattle.type_references.proofs.parse.+arguments_at+parse_at+resolve_at.Tie.{close}
 

@@ -1,7 +1,7 @@
 -- `wire::WireValue::varint` meets its contract.
 -- Assumes nothing.
 use mathlib.Core.Path.{ap, sym}
-use Rattle.wire.specs.Asked.{numberOf}
+use Rattle.wire.specs.Told.{numberOf}
 use borrow.Author.Needs.{needs}
 use Rattle.wire.proofs.WireValue.varint.Statement.{statement}
 use Rattle.wire.proofs.WireValue.varint.Tie as tie
