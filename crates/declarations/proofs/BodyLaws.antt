@@ -13,8 +13,7 @@ use Rattle.foundation.specs.Choices.{concat}
 use Rattle.foundation.specs.Results.{ok, _from_}
 use Rattle.foundation.specs.Texts.{Text}
 use Rattle.wire.specs.Wire.{Message, cut}
-use Rattle.names.specs.Name.{sourceText, nameText}
-use Rattle.names.specs.Steps.{absentName}
+use Rattle.names.specs.Name.{sourceText, nameText, absentName}
 use Rattle.names.specs.declared.name.Name.{Name}
 use Rattle.sheet.specs.Rows.{sheetFrom, texts, bodyBytes}
 use Rattle.sheet.specs.Put.{PutHead, PutRows, past}

@@ -28,7 +28,7 @@ use Rattle.names.specs.Names.{Names, StringTableTypes·record}
 use Rattle.names.specs.Index.{IndexTold}
 use Rattle.names.specs.declared.records.RecordIndex.{RecordIndex}
 use Rattle.names.specs.declared.records.RecordIndex.the-variants as records
-use Rattle.names.proofs.LookupLaws.{index-longer}
+use Rattle.lookup.proofs.LookupLaws.{index-longer}
 use Rattle.schema.specs.Fields.{Class·flags, Class·fq-name, Class·function, Class·property, Class·type-table, TypeTable·type}
 use Rattle.schema.specs.Declarations.{Declarations}
 use Rattle.schema.specs.Reading.{pure, _>>=_, TypeTable, scope, allowance, classNameIn}

@@ -11,7 +11,7 @@ ghost use Rattle.declarations.specs.BodyTold.{headCost, listCost, bodyCo
 use closed_members::constructors_in;
 use closed_members::functions_in;
 use members::properties::properties_in;
-use names::steps::absent;
+use names::name::absent;
 use schema::Listed;
 use schema::Stop;
 use schema::Tables;

@@ -22,9 +22,8 @@ use Rattle.foundation.specs.Results.{Res, Cause, d1TooLong, d2TooLong, stringEn
 use Rattle.foundation.proofs.ChoiceLaws.{if-ind, and-left, and-right}
 use Rattle.foundation.specs.Texts.{Text}
 use Rattle.encoding.specs.Encoding.{unitLimit}
-use Rattle.names.specs.Name.{nameText}
+use Rattle.names.specs.Name.{nameText, absentName}
 use Rattle.names.specs.Names.{endsFit}
-use Rattle.names.specs.Steps.{absentName}
 use Rattle.names.specs.declared.name.Name.{Name}
 use Rattle.sheet.specs.Rows.{Row, row, sheetFrom, texts, bodyBytes, bodyText}
 use Rattle.sheet.specs.Put.{PutHead, PutRows, past}

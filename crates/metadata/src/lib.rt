@@ -18,7 +18,7 @@ use inputs::kind_of;
 use inputs::outcome::Outcome;
 use inputs::outcome::fault_refusal;
 use inputs::outcome::refused;
-use names::steps::absent;
+use names::name::absent;
 use schema::rows::put_head;
 use schema::rows::put_head_counts;
 

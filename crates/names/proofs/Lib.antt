@@ -5,12 +5,7 @@ pub mod ListLaws
 pub mod NameLaws
 pub mod StreamLaws
 pub mod AsciiLaws
-pub mod IndexLaws
 pub mod RecordLaws
 pub mod NoteLaws
-pub mod PartLaws
-pub mod LookupLaws
-pub mod ShortLaws
-pub mod UnwrapLaws
 pub mod PresentLaws
 pub mod WidthLaws

@@ -4,5 +4,3 @@ pub mod Name
 pub mod Stream
 pub mod Index
 pub mod RecordTold
-pub mod Steps
-pub mod Qualified

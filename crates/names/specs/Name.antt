@@ -1,5 +1,6 @@
 -- What the code's Name means: a part of the payload, of the predefined list or of d2, and what is done to its characters.
 -- Assumes nothing.
+use mathlib.Core.Bool.{false}
 use mathlib.Core.List.{List, map}
 use mathlib.Core.Option.{Option, none, some}
 use Prim.Native.Nat.{ℕ}
@@ -30,3 +31,10 @@ steppedBy n t =
 -- the name's text, absent if it has no source
 unfoldable pub nameText : List ℕ → List ℕ → Name → Option Text
 nameText payload d2 n = mapOption (steppedBy n) (sourceText payload d2 n)
+
+-- a part of a source, with no step
+abbrev pub plain : ℕ → ℕ → ℕ → Name
+plain source start end = record { source = source; start = start; end = end; from = 0; to = 0; operation = 0; qualified = false }
+
+abbrev pub absentName : Name
+absentName = plain 0 0 0

@@ -5,7 +5,7 @@ ghost use Prim.Native.Nat.{ℕ};
 ghost use Rattle.foundation.specs.Choices.{isSome};
 ghost use Rattle.characters.specs.Characters.{partFrom};
 ghost use Rattle.characters.specs.Plain.{instead, withDots, withSlashes};
-ghost use Rattle.names.specs.Name.{nameText};
+ghost use Rattle.names.specs.Name.{nameText, absentName};
 ghost use Rattle.names.specs.Records.{predefinedText};
 ghost use Rattle.names.specs.Stream.{listedText, baseOf, changeOf, changed};
 
@@ -21,6 +21,21 @@ pub struct Name {
     pub operation: u8,
     // A class name: / and $ become dots.
     pub qualified: bool,
+}
+
+// Nothing, if the name is absent.
+pub fn absent() -> Name
+    ensures { λ r. ⌜ r ≡ absentName ⌝ }
+{
+    Name {
+        source: 0,
+        start: 0,
+        end: 0,
+        from: 0,
+        to: 0,
+        operation: 0,
+        qualified: false,
+    }
 }
 
 // Does a name have a source? One that has none is absent.

@@ -184,7 +184,7 @@ fn look_up(table: &[u8], units: &[u16], d2ends: &[u32], index: u32, kind: u8) {
         return;
     };
     if kind == b'q' {
-        let name = names::qualified::qualified_name(
+        let name = lookup::qualified::qualified_name(
             table,
             &starts,
             &ends,
@@ -197,7 +197,7 @@ fn look_up(table: &[u8], units: &[u16], d2ends: &[u32], index: u32, kind: u8) {
         print_name(table, units, name);
         return;
     }
-    let name = names::lookup::string(table, &starts, &ends, &firsts, count, d2ends, index);
+    let name = lookup::string(table, &starts, &ends, &firsts, count, d2ends, index);
     print_name(table, units, name);
 }
 

@@ -28,7 +28,7 @@ use Rattle.messages.proofs.BodyLaws.{checked-part, part-is}
 use Rattle.characters.specs.Characters.{partFrom}
 use Rattle.characters.proofs.PartLaws.{part-part}
 use Rattle.names.proofs.NoteLaws.{elem-snoc, after, after-none, after-one, after-refused}
-use Rattle.names.proofs.LookupLaws.{part-longer}
+use Rattle.lookup.proofs.LookupLaws.{part-longer}
 use Rattle.schema.specs.Fields.{TypeTable·type, TypeTable·first-nullable}
 use Rattle.schema.specs.Types.{noTable, typeTableIn}
 use Rattle.schema.specs.Told.{EntryAt, EntriesOf}

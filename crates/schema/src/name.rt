@@ -9,12 +9,12 @@ ghost use Rattle.messages.specs.Asked.{indexTold};
 ghost use Rattle.names.specs.Name.{nameText};
 ghost use Rattle.schema.specs.Reading.{Scope, nameIn, classNameIn};
 ghost use Rattle.schema.specs.Told.{NamesOf};
+use lookup::qualified::qualified_name;
+use lookup::string;
 use messages::Indexed;
 use messages::index;
-use names::lookup::string;
 use names::name::Name;
-use names::qualified::qualified_name;
-use names::steps::absent;
+use names::name::absent;
 
 // The string at the index in a field.
 pub fn name_in(

@@ -19,7 +19,7 @@ use Rattle.wire.specs.declared.Piece.{Piece}
 use Rattle.wire.specs.declared.Piece.the-variants as piece
 use Rattle.wire.proofs.WalkLaws.{whole, ok-same}
 use Rattle.messages.proofs.BodyLaws.{part-is}
-use Rattle.names.proofs.LookupLaws.{part-longer}
+use Rattle.lookup.proofs.LookupLaws.{part-longer}
 use Rattle.characters.proofs.PartLaws.{rest-is}
 use Rattle.sheet.specs.Rows.{Row}
 use Rattle.sheet.specs.Put.{PutRows}

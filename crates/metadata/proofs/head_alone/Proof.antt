@@ -8,7 +8,7 @@ use Rattle.metadata.proofs.head_alone.Reads as reads
 use Rattle.metadata.proofs.head_alone.Lts as lts
 use Rattle.decoding.proofs.start.Reads as start-reads
 use Rattle.inputs.proofs.outcome.refused.Reads as refused-reads
-use Rattle.names.proofs.steps.absent.Reads as absent-reads
+use Rattle.names.proofs.name.absent.Reads as absent-reads
 use Rattle.schema.proofs.rows.put_head.Reads as put-head-reads
 use Rattle.schema.proofs.rows.put_head_counts.Reads as put-head-counts-reads
 

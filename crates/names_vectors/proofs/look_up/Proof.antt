@@ -3,8 +3,8 @@ use Rattle.names_vectors.proofs.look_up.Statement.{statement}
 use Rattle.names_vectors.proofs.look_up.Tie as tie
 use Rattle.names_vectors.proofs.look_up.Reads as reads
 use Rattle.names_vectors.proofs.look_up.Lts as lts
-use Rattle.names.proofs.lookup.string.Reads as string-reads
-use Rattle.names.proofs.qualified.qualified_name.Reads as qualified-name-reads
+use Rattle.lookup.proofs.string.Reads as string-reads
+use Rattle.lookup.proofs.qualified.qualified_name.Reads as qualified-name-reads
 use Rattle.names.proofs.records.index_records.Reads as index-records-reads
 use Rattle.names_vectors.proofs.print.Reads as print-reads
 use Rattle.names_vectors.proofs.print_name.Reads as print-name-reads

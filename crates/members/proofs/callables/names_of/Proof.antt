@@ -4,7 +4,7 @@ use Rattle.members.proofs.callables.names_of.Statement.{statement}
 use Rattle.members.proofs.callables.names_of.Tie as tie
 use Rattle.members.proofs.callables.names_of.Reads as reads
 use Rattle.members.proofs.callables.names_of.Lts as lts
-use Rattle.names.proofs.steps.absent.Reads as absent-reads
+use Rattle.names.proofs.name.absent.Reads as absent-reads
 
 -- src/callables.rt:85:25
 enum-known-signed : tie.Need-enum-known-signed

@@ -9,8 +9,8 @@ use Rattle.schema.proofs.name.class_name_at.Statement.{statement}
 use Rattle.schema.proofs.name.class_name_at.Tie as tie
 use Rattle.schema.proofs.name.class_name_at.Reads as reads
 use Rattle.schema.proofs.name.class_name_at.Lts as lts
-use Rattle.names.proofs.qualified.qualified_name.Reads as qualified-name-reads
-use Rattle.names.proofs.steps.absent.Reads as absent-reads
+use Rattle.lookup.proofs.qualified.qualified_name.Reads as qualified-name-reads
+use Rattle.names.proofs.name.absent.Reads as absent-reads
 
 -- src/name.rt:53:23
 enum-known-found : tie.Need-enum-known-found

@@ -9,8 +9,8 @@ use Rattle.schema.proofs.name.name_in.Statement.{statement}
 use Rattle.schema.proofs.name.name_in.Tie as tie
 use Rattle.schema.proofs.name.name_in.Reads as reads
 use Rattle.schema.proofs.name.name_in.Lts as lts
-use Rattle.names.proofs.lookup.string.Reads as string-reads
-use Rattle.names.proofs.steps.absent.Reads as absent-reads
+use Rattle.lookup.proofs.string.Reads as string-reads
+use Rattle.names.proofs.name.absent.Reads as absent-reads
 use Rattle.messages.proofs.index.Reads as index-reads
 
 -- src/name.rt:38:9

@@ -1,0 +1,459 @@
+-- Class names: a leading L and a trailing ; are dropped from a text by dropping them from what it is made of.
+-- Assumes nothing.
+use mathlib.Core.Path.{_≡_, refl, ap, sym, _∙_, subst}
+use mathlib.Core.Bool.{Bool, true, false, _&&_, _||_}
+use mathlib.Core.List.{List, [], _∷_, _++_, map}
+use mathlib.Core.Option.{Option, none, some}
+use Prim.Native.Nat.{ℕ, suc, _+_, _-_, _≤_, _<_}
+use native.Mathlib.Nat.{le-refl}
+use native.Mathlib.Omega.{arith}
+use borrow.Author.Tests.{eq-eqb, ne-eqb, eqb-true, eqb-false}
+use lib.Dec.{eqb}
+use lib.ListN.{length, take, drop, getD, getElem?, length-drop, drop-of-length-le}
+use lib.Seq.{take-suc, getD-drop}
+use Rattle.foundation.specs.Choices.{if_then_else_, ifSome, mapOption}
+use Rattle.foundation.specs.Results.{Res, ok, _>>=_}
+use Rattle.foundation.specs.Texts.{Text}
+use Rattle.characters.specs.Characters.{fromUtf8After, fromUtf8, fromUtf16, isHigh, isLow, lone, pair, partFrom}
+use Rattle.characters.specs.Told.{utf8At}
+use Rattle.characters.specs.Plain.{instead}
+use Rattle.characters.specs.declared.Character.{Character}
+use Rattle.characters.specs.declared.Character.the-variants.{Read, End}
+use Rattle.characters.proofs.TestLaws.{below}
+use Rattle.foundation.proofs.EveryLaws.{map-twice}
+use Rattle.characters.proofs.CharacterLaws.{utf8-none, utf8-end, utf8-inside, utf8-next}
+use Rattle.characters.proofs.SplitLaws.{Boundary, boundary-start, boundary-next, boundary-text}
+use Rattle.characters.proofs.SeamLaws.{units-seam}
+use Rattle.characters.proofs.UnitLaws.{units-ended, units-cons}
+use Rattle.characters.proofs.PartLaws.{part-part, part-short, rest-is}
+use Rattle.names.specs.Records.{substituted, dotted, operated}
+use Rattle.names.specs.Names.{Names, string, qualifiedName, withoutLast, unwrapped, stringsFrom, d2String}
+use Rattle.names.specs.Name.{predefinedList, sourceText, nameText, plain, absentName}
+use Rattle.names.specs.Stream.{baseOf}
+use Rattle.lookup.specs.Steps.{extentOf, BytesName}
+use Rattle.lookup.specs.Qualified.{LastTold, UnwrapTold, qualifiedPart, classText, ClippedTold, WrappedTold}
+use Rattle.names.specs.declared.name.Name.{Name}
+use Rattle.lookup.specs.declared.qualified.Last.{Last}
+use Rattle.lookup.specs.declared.qualified.Last.the-variants as last
+use Rattle.lookup.specs.declared.steps.Extent.{Extent}
+use Rattle.lookup.specs.declared.steps.Extent.the-variants as extent
+use Rattle.names.proofs.NameLaws.{part-rest, source-bytes}
+use Rattle.lookup.proofs.PartLaws.{same-substituted}
+
+-- A text by its last character.
+without-snoc : (c : ℕ) (t : Text) (a : ℕ) → withoutLast c (t ++ (a ∷ [])) ≡ (if eqb a c then some t else none)
+unfolding withoutLast
+without-snoc c [] a = refl
+without-snoc c (x ∷ []) a = go (eqb a c)
+  where
+    go : (b : Bool) → mapOption (λ u. x ∷ u) (if b then some [] else none) ≡ (if b then some (x ∷ []) else none)
+    go true = refl
+    go false = refl
+without-snoc c (x ∷ y ∷ t) a = ap (mapOption λ u. x ∷ u) (without-snoc c (y ∷ t) a) ∙ go (eqb a c)
+  where
+    go : (b : Bool) → mapOption (λ u. x ∷ u) (if b then some (y ∷ t) else none) ≡ (if b then some (x ∷ y ∷ t) else none)
+    go true = refl
+    go false = refl
+
+module _ (f : ℕ) where
+  pub unwrap-first : (t : Text) → (f ≡ 0x4c → ⊥) → unwrapped (f ∷ t) ≡ f ∷ t
+  unwrap-first t h = rw (ne-eqb f 0x4c h)
+
+  pub unwrap-alone : unwrapped (f ∷ []) ≡ f ∷ []
+  unfolding withoutLast
+  unwrap-alone = go (eqb f 0x4c)
+    where
+      go : (b : Bool) → (if b then f ∷ [] else f ∷ []) ≡ f ∷ []
+      go true = refl
+      go false = refl
+
+  module _ (m : Text) (l : ℕ) where
+    pub unwrap-last : (l ≡ 0x3b → ⊥) → unwrapped (f ∷ (m ++ (l ∷ []))) ≡ f ∷ (m ++ (l ∷ []))
+    unwrap-last h = rw (without-snoc 0x3b m l, ne-eqb l 0x3b h) (go (eqb f 0x4c))
+      where
+        whole : Text
+        whole = f ∷ (m ++ (l ∷ []))
+
+        go : (b : Bool) → (if b then f ∷ (m ++ (l ∷ [])) else f ∷ (m ++ (l ∷ []))) ≡ f ∷ (m ++ (l ∷ []))
+        go true = refl
+        go false = refl
+
+    pub unwrap-both : f ≡ 0x4c → l ≡ 0x3b → unwrapped (f ∷ (m ++ (l ∷ []))) ≡ m
+    unwrap-both g h = rw (eq-eqb f 0x4c g, without-snoc 0x3b m l, eq-eqb l 0x3b h)
+
+-- Dots for / and $ leave L and ; where they are.
+abbrev dot : ℕ → ℕ
+dot c = instead 0x2f 0x2e (instead 0x24 0x2e c)
+
+dotted-map : (t : Text) → dotted t ≡ map dot t
+dotted-map [] = refl
+dotted-map (c ∷ t) = ap (λ (u : Text). dot c ∷ u) (dotted-map t)
+
+instead-ind : (P : ℕ → Type 0) (from to c : ℕ) → (c ≡ from → P to) → ((c ≡ from → ⊥) → P c) → P (instead from to c)
+instead-ind P from to c p q = go (eqb c from) refl
+  where
+    go : (b : Bool) → eqb c from ≡ b → P (if b then to else c)
+    go true e = p (eqb-true c from e)
+    go false e = q (eqb-false c from e)
+
+dot-keeps : (k c : ℕ) → (0x2e ≡ k → ⊥) → (0x2f ≡ k → ⊥) → (0x24 ≡ k → ⊥) → eqb (dot c) k ≡ eqb c k
+dot-keeps k c h i j =
+    instead-ind (λ d. eqb (instead 0x2f 0x2e d) k ≡ eqb c k) 0x24 0x2e c (λ e. other e j) λ n.
+    instead-ind (λ d. eqb d k ≡ eqb c k) 0x2f 0x2e c (λ e. other e i) λ m. refl
+  where
+    other : {e : ℕ} → c ≡ e → (e ≡ k → ⊥) → eqb 0x2e k ≡ eqb c k
+    other p q = ne-eqb 0x2e k h ∙ sym (ne-eqb c k λ z. q (sym p ∙ z))
+
+dot-last : (t : Text) → withoutLast 0x3b (map dot t) ≡ mapOption (map dot) (withoutLast 0x3b t)
+unfolding withoutLast
+dot-last [] = refl
+dot-last (a ∷ []) =
+    ap (λ (b : Bool). if b then some [] else none) (dot-keeps 0x3b a (λ z. omega arith) (λ z. omega arith) λ z. omega arith) ∙ go (eqb a 0x3b)
+  where
+    go : (b : Bool) → (if b then some [] else none) ≡ mapOption (map dot) (if b then some [] else none)
+    go true = refl
+    go false = refl
+dot-last (a ∷ b ∷ t) = ap (mapOption λ u. dot a ∷ u) (dot-last (b ∷ t)) ∙ go (withoutLast 0x3b (b ∷ t))
+  where
+    go : (o : Option Text) → mapOption (λ u. dot a ∷ u) (mapOption (map dot) o) ≡ mapOption (map dot) (mapOption (λ u. a ∷ u) o)
+    go none = refl
+    go (some u) = refl
+
+unwrap-map : (t : Text) → unwrapped (map dot t) ≡ map dot (unwrapped t)
+unwrap-map [] = refl
+unwrap-map (c ∷ t) =
+    rw (dot-keeps 0x4c c (λ z. omega arith) (λ z. omega arith) λ z. omega arith, dot-last t) (go (eqb c 0x4c) (withoutLast 0x3b t))
+  where
+    go : (b : Bool) (o : Option Text)
+        → (if b then ifSome (mapOption (map dot) o) (dot c ∷ map dot t) (λ u. u) else dot c ∷ map dot t)
+        ≡ map dot (if b then ifSome o (c ∷ t) (λ u. u) else c ∷ t)
+    go true none = refl
+    go true (some u) = refl
+    go false o = refl
+
+unwrap-dotted : (t : Text) → unwrapped (dotted t) ≡ dotted (unwrapped t)
+unwrap-dotted t = ap unwrapped (dotted-map t) ∙ unwrap-map t ∙ sym (dotted-map (unwrapped t))
+
+-- An operation that puts nothing in front.
+unwrap-operated : (op : ℕ) → (op ≡ 2 → ⊥) → (t : Text) → unwrapped (operated op t) ≡ operated op (unwrapped t)
+unfolding operated
+unwrap-operated op h t = rw (ne-eqb op 2 h) (go (eqb op 1))
+  where
+    go : (b : Bool) → unwrapped (if b then dotted t else t) ≡ (if b then dotted (unwrapped t) else unwrapped t)
+    go true = unwrap-dotted t
+    go false = refl
+
+unwrap-prefixed : (op : ℕ) → op ≡ 2 → (t : Text) → unwrapped (operated op t) ≡ operated op t
+unfolding operated
+unwrap-prefixed op h t = rw h
+
+-- The last character of some bytes.
+module _ (s : List ℕ) where
+  -- a place where a character begins, before the end of bytes that there are
+  pub record Begins (at : ℕ) : Type 0 where
+    pub inside : 0 < length s → at < length s
+    pub boundary : Boundary s at
+
+  pub begins-start : Begins 0
+  begins-start = record { inside = λ h. h; boundary = boundary-start s }
+
+  module _ (at : ℕ) (i : Begins at) where
+    pub begins-end : length s ≤ at → s ≡ []
+    begins-end h = go s (λ l. omega (arith, i .inside l))
+      where
+        go : (l : List ℕ) → (0 < length l → ⊥) → l ≡ []
+        go [] f = refl
+        go (b ∷ l) f = absurd (f (omega arith))
+
+    pub begins-never : at < length s → utf8At at (drop at s) ≡ End → s ≡ []
+    begins-never h e =
+        let z : length (drop at s) ≡ 0 = ap length (utf8-none s at e) in
+        absurd (omega (arith, length-drop at s))
+
+    module _ {code next : ℕ} (e : utf8At at (drop at s) ≡ Read code next) where
+      pub begins-next : next < length s → Begins next
+      begins-next h = record { inside = λ l. h; boundary = boundary-next s (i .boundary) e }
+
+      pub last-is : length s ≤ next → LastTold s (last.Character at code)
+      unfolding fromUtf8After
+      last-is h =
+          let z : drop next s ≡ [] = drop-of-length-le s h in (
+            boundary-text s (i .boundary) ∙ ap (λ (t : Text). fromUtf8 (take at s) ++ t) (utf8-next s at e ∙ ap (λ (bs : List ℕ). code ∷ fromUtf8 bs) z),
+            omega (arith, utf8-inside s at e),
+          )
+
+-- Bytes without L and ;.
+substituted-append : (from to : ℕ) (t u : Text) → substituted from to (t ++ u) ≡ substituted from to t ++ substituted from to u
+substituted-append from to [] u = refl
+substituted-append from to (c ∷ t) u = ap (λ (v : Text). instead from to c ∷ v) (substituted-append from to t u)
+
+module _ (s : List ℕ) (from to : ℕ) where
+  pub unwrap-empty : utf8At 0 (drop 0 s) ≡ End → UnwrapTold s from to extent.Nothing
+  unwrap-empty e = ap (λ (t : Text). unwrapped (substituted from to t)) (utf8-end s 0 e) ∙ ap (substituted from to) (sym (utf8-end s 0 e))
+
+  module _ {code next : ℕ} (e : utf8At 0 (drop 0 s) ≡ Read code next) {c : ℕ} (p : c ≡ instead from to code) where
+    pub next-inside : next ≤ length s
+    next-inside = utf8-inside s 0 e .1
+
+    text : fromUtf8 s ≡ code ∷ fromUtf8 (drop next s)
+    text = utf8-next s 0 e
+
+    -- the whole, if its text stays
+    stays : {t : Text} → fromUtf8 s ≡ t → unwrapped (substituted from to t) ≡ substituted from to t → UnwrapTold s from to extent.Nothing
+    stays q f = rw q f
+
+    pub unwrap-other : (c ≡ 0x4c → ⊥) → UnwrapTold s from to extent.Nothing
+    unwrap-other h = stays text (unwrap-first (instead from to code) (substituted from to (fromUtf8 (drop next s))) λ z. h (p ∙ z))
+
+    module _ (r : Last) (t : LastTold (partFrom next (length s) s) r) where
+      rest : LastTold (drop next s) r
+      rest = subst (λ (bs : List ℕ). LastTold bs r) (rest-is s next) t
+
+      pub unwrap-single : r ≡ last.Nothing → UnwrapTold s from to extent.Nothing
+      unfolding fromUtf8After
+      unwrap-single g =
+          let z : drop next s ≡ [] = subst (LastTold (drop next s)) g rest in
+          stays (text ∙ ap (λ (bs : List ℕ). code ∷ fromUtf8 bs) z) (unwrap-alone (instead from to code))
+
+      module _ {place l : ℕ} (g : r ≡ last.Character place l) {d : ℕ} (q : d ≡ instead from to l) where
+        ends : LastTold (drop next s) (last.Character place l)
+        ends = subst (LastTold (drop next s)) g rest
+
+        abbrev middle : Text
+        middle = fromUtf8 (take place (drop next s))
+
+        whole : fromUtf8 s ≡ code ∷ (middle ++ (l ∷ []))
+        whole = text ∙ ap (λ (u : Text). code ∷ u) (ends .0)
+
+        changed : substituted from to (code ∷ (middle ++ (l ∷ []))) ≡ instead from to code ∷ (substituted from to middle ++ (instead from to l ∷ []))
+        changed = ap (λ (u : Text). instead from to code ∷ u) (substituted-append from to middle (l ∷ []))
+
+        pub place-inside : next + place ≤ length s
+        place-inside = omega (arith, ends .1, length-drop next s, next-inside)
+
+        pub unwrap-open : (d ≡ 0x3b → ⊥) → UnwrapTold s from to extent.Nothing
+        unwrap-open h =
+            stays whole
+            (ap unwrapped changed
+            ∙ unwrap-last (instead from to code) (substituted from to middle) (instead from to l) (λ z. h (q ∙ z))
+            ∙ sym changed)
+
+        pub unwrap-closed : c ≡ 0x4c → d ≡ 0x3b → UnwrapTold s from to (extent.Part next (next + place))
+        unwrap-closed h k =
+            let z : next + place - next ≡ place = omega arith in (
+              ap (λ (u : Text). unwrapped (substituted from to u)) whole
+                  ∙ ap unwrapped changed
+                  ∙ unwrap-both (instead from to code) (substituted from to middle) (instead from to l) (sym p ∙ h) (sym q ∙ k)
+                  ∙ ap (λ (n : ℕ). substituted from to (fromUtf8 (take n (drop next s)))) (sym z),
+              omega arith,
+              place-inside,
+            )
+
+-- The class name of a name made of bytes.
+module _ (payload : List ℕ) (n : Name) (b : BytesName n) where
+  -- the same part: the text stays under L and ;
+  text-of : (d2 : List ℕ) → nameText payload d2 n ≡ mapOption (λ t. operated (n .operation) (substituted (n .from) (n .to) t)) (sourceText payload d2 n)
+  unfolding nameText
+  text-of d2 = rw (b .1)
+
+  class-of : (d2 : List ℕ) (a e : ℕ)
+      → nameText payload d2 (qualifiedPart n a e)
+      ≡ mapOption (λ t. dotted (operated (n .operation) (substituted (n .from) (n .to) t))) (sourceText payload d2 (plain (n .source) a e))
+  unfolding nameText sourceText
+  class-of d2 a e = refl
+
+  abbrev here : Name
+  here = plain (n .source) (n .start) (n .end)
+
+  same-source : (d2 : List ℕ) → sourceText payload d2 n ≡ sourceText payload d2 here
+  unfolding sourceText
+  same-source d2 = refl
+
+  -- from a law of the text to one of the name
+  class-law : (d2 : List ℕ) (a e : ℕ) (o p : Option Text) → sourceText payload d2 n ≡ o → sourceText payload d2 (plain (n .source) a e) ≡ p
+      → mapOption (λ t. dotted (operated (n .operation) (substituted (n .from) (n .to) t))) p
+      ≡ mapOption (λ t. dotted (unwrapped (operated (n .operation) (substituted (n .from) (n .to) t)))) o
+      → nameText payload d2 (qualifiedPart n a e) ≡ classText (nameText payload d2 n)
+  class-law d2 a e o p q r f =
+      class-of d2 a e ∙ ap (mapOption λ t. dotted (operated (n .operation) (substituted (n .from) (n .to) t))) r
+      ∙ f
+      ∙ sym (map-twice (λ t. operated (n .operation) (substituted (n .from) (n .to) t)) (λ u. dotted (unwrapped u)) o)
+      ∙ ap (λ (x : Option Text). classText (mapOption (λ t. operated (n .operation) (substituted (n .from) (n .to) t)) x)) (sym q)
+      ∙ ap classText (sym (text-of d2))
+
+  pub class-prefixed : n .operation ≡ 2 → {r : Name} → r ≡ qualifiedPart n (n .start) (n .end) → (d2 : List ℕ) → nameText payload d2 r ≡ classText (nameText payload d2 n)
+  class-prefixed h e d2 = rw e (class-law d2 (n .start) (n .end) (sourceText payload d2 n) (sourceText payload d2 n) refl (sym (same-source d2)) (go (sourceText payload d2 n)))
+    where
+      go : (o : Option Text)
+          → mapOption (λ t. dotted (operated (n .operation) (substituted (n .from) (n .to) t))) o
+          ≡ mapOption (λ t. dotted (unwrapped (operated (n .operation) (substituted (n .from) (n .to) t)))) o
+      go none = refl
+      go (some t) = ap (λ (u : Text). some (dotted u)) (sym (unwrap-prefixed (n .operation) h (substituted (n .from) (n .to) t)))
+
+  -- with no text in front: nothing for a name that is absent, else by the text of its bytes
+  abbrev textAt : ℕ → ℕ → Text
+  textAt a e = fromUtf8 (partFrom a e (baseOf (n .source) payload predefinedList))
+
+  module _ (h : n .operation ≡ 2 → ⊥) (a e : ℕ)
+      (f : unwrapped (substituted (n .from) (n .to) (textAt (n .start) (n .end))) ≡ substituted (n .from) (n .to) (textAt a e)) where
+    class-there : (d2 : List ℕ) → 0 < n .source → nameText payload d2 (qualifiedPart n a e) ≡ classText (nameText payload d2 n)
+    class-there d2 g =
+        let source : (x y : ℕ) → sourceText payload d2 (plain (n .source) x y) ≡ some (textAt x y) = λ x y.
+        source-bytes payload d2 (plain (n .source) x y) g (omega (arith, b .0)) (λ z. omega (arith, b .0)) in
+        class-law d2 a e (some (textAt (n .start) (n .end))) (some (textAt a e)) (same-source d2 ∙ source (n .start) (n .end)) (source a e)
+        (ap (λ (u : Text). some (dotted u))
+        (sym (unwrap-operated (n .operation) h (substituted (n .from) (n .to) (textAt (n .start) (n .end))) ∙ ap (operated (n .operation)) f)))
+
+    class-absent : (d2 : List ℕ) → n .source ≡ 0 → nameText payload d2 (qualifiedPart n a e) ≡ classText (nameText payload d2 n)
+    unfolding sourceText
+    class-absent d2 z = class-law d2 a e none none (rw z) (rw z) refl
+
+    pub class-made : {r : Name} → r ≡ qualifiedPart n a e → (d2 : List ℕ) → nameText payload d2 r ≡ classText (nameText payload d2 n)
+    class-made q d2 = rw q (below 1 (n .source) (λ l. class-absent d2 (omega arith)) λ l. class-there d2 (omega arith))
+
+  module _ (h : n .operation ≡ 2 → ⊥) (s : List ℕ) (e : s ≡ partFrom (n .start) (n .end) (baseOf (n .source) payload predefinedList)) where
+    pub class-stays : UnwrapTold s (n .from) (n .to) extent.Nothing → {r : Name} → r ≡ qualifiedPart n (n .start) (n .end)
+        → (d2 : List ℕ) → nameText payload d2 r ≡ classText (nameText payload d2 n)
+    class-stays t = class-made h (n .start) (n .end) (subst (λ (bs : List ℕ). UnwrapTold bs (n .from) (n .to) extent.Nothing) e t)
+
+    module _ {i j : ℕ} (t : UnwrapTold s (n .from) (n .to) (extent.Part i j)) where
+      pub class-ends : (i ≤ j) × (j ≤ n .end - n .start)
+      class-ends = (t .1, omega (arith, t .2, ap length e, part-short (baseOf (n .source) payload predefinedList) (n .start) (n .end)))
+
+      pub class-cut : {r : Name} → r ≡ qualifiedPart n (n .start + i) (n .start + j) → (d2 : List ℕ) → nameText payload d2 r ≡ classText (nameText payload d2 n)
+      class-cut =
+          let l = baseOf (n .source) payload predefinedList in
+          let u = subst (λ (bs : List ℕ). UnwrapTold bs (n .from) (n .to) (extent.Part i j)) e t in
+          class-made h (n .start + i) (n .start + j)
+          (u .0 ∙ ap (λ (bs : List ℕ). substituted (n .from) (n .to) (fromUtf8 bs)) (part-part l (n .start) (n .end) i j (u .1) (u .2)))
+
+-- Units.
+lone-not : (u k : ℕ) → (u ≡ k → ⊥) → (0xfffd ≡ k → ⊥) → lone u ≡ k → ⊥
+lone-not u k h g = go (isHigh u || isLow u)
+  where
+    go : (b : Bool) → (if b then 0xfffd else u) ≡ k → ⊥
+    go true = g
+    go false = h
+
+first-not : (u : ℕ) (us : List ℕ) → (u ≡ 0x4c → ⊥) → (c : ℕ) × (t : Text) × (fromUtf16 (u ∷ us) ≡ c ∷ t) × (c ≡ 0x4c → ⊥)
+unfolding fromUtf16
+first-not u [] h = (lone u, [], refl, lone-not u 0x4c h λ z. omega arith)
+first-not u (v ∷ us) h = go (isHigh u && isLow v)
+  where
+    go : (b : Bool)
+        → (c : ℕ) × (t : Text) × ((if b then pair u v ∷ fromUtf16 us else lone u ∷ fromUtf16 (v ∷ us)) ≡ c ∷ t) × (c ≡ 0x4c → ⊥)
+    go true = (pair u v, fromUtf16 us, refl, λ z. omega arith)
+    go false = (lone u, fromUtf16 (v ∷ us), refl, lone-not u 0x4c h λ z. omega arith)
+
+last-not : (us : List ℕ) (u : ℕ) → (u ≡ 0x3b → ⊥) → (t : Text) × (l : ℕ) × (fromUtf16 (us ++ (u ∷ [])) ≡ t ++ (l ∷ [])) × (l ≡ 0x3b → ⊥)
+unfolding fromUtf16
+last-not [] u h = ([], lone u, refl, lone-not u 0x3b h λ z. omega arith)
+last-not (v ∷ []) u h = go (isHigh v && isLow u)
+  where
+    go : (b : Bool)
+        → (t : Text) × (l : ℕ) × ((if b then pair v u ∷ [] else lone v ∷ lone u ∷ []) ≡ t ++ (l ∷ [])) × (l ≡ 0x3b → ⊥)
+    go true = ([], pair v u, refl, λ z. omega arith)
+    go false = (lone v ∷ [], lone u, refl, lone-not u 0x3b h λ z. omega arith)
+last-not (v ∷ w ∷ us) u h = go (isHigh v && isLow w) (last-not us u h) (last-not (w ∷ us) u h)
+  where
+    go : (b : Bool)
+        → (t : Text) × (l : ℕ) × (fromUtf16 (us ++ (u ∷ [])) ≡ t ++ (l ∷ [])) × (l ≡ 0x3b → ⊥)
+        → (t : Text) × (l : ℕ) × (fromUtf16 (w ∷ us ++ (u ∷ [])) ≡ t ++ (l ∷ [])) × (l ≡ 0x3b → ⊥)
+        → (t : Text) × (l : ℕ) × ((if b then pair v w ∷ fromUtf16 (us ++ (u ∷ [])) else lone v ∷ fromUtf16 (w ∷ us ++ (u ∷ []))) ≡ t ++ (l ∷ [])) × (l ≡ 0x3b → ⊥)
+    go true p q = (pair v w ∷ p .0, p .1, ap (λ (t : Text). pair v w ∷ t) (p .2), p .3)
+    go false p q = (lone v ∷ q .0, q .1, ap (λ (t : Text). lone v ∷ t) (q .2), q .3)
+
+part-snoc : (l : List ℕ) (a e : ℕ) → a < e → e ≤ length l → partFrom a e l ≡ partFrom a (e - 1) l ++ (getD l (e - 1) 0 ∷ [])
+part-snoc l a e h i =
+    let k = e - 1 - a in
+    let z : e - a ≡ suc k = omega arith in
+    let y : a + k ≡ e - 1 = omega arith in
+    ap (λ (n : ℕ). take n (drop a l)) z
+    ∙ take-suc (drop a l) k 0 (rw length-drop (omega arith))
+    ∙ ap (λ (x : ℕ). take k (drop a l) ++ (x ∷ [])) (getD-drop a l k 0 ∙ ap (λ (n : ℕ). getD l n 0) y)
+
+-- L stands by itself
+from-first-unit : (us : List ℕ) → fromUtf16 (0x4c ∷ us) ≡ 0x4c ∷ fromUtf16 us
+unfolding fromUtf16
+from-first-unit [] = refl
+from-first-unit (v ∷ us) = refl
+
+module _ (l : List ℕ) (start end : ℕ) where
+  never : {A : Type 0} → false ≡ true → A
+  never e = let z : _≡_ {A = ℕ} 0 1 = cc in absurd (omega arith)
+
+  pub wrapped-empty : end ≤ start → WrappedTold l start end false
+  unfolding fromUtf16
+  wrapped-empty h = record { yes = λ e. never e; no = λ e. rw (units-ended l start end h) }
+
+  pub wrapped-single : start < end → end ≤ length l → end - 1 ≤ start → WrappedTold l start end false
+  unfolding fromUtf16
+  wrapped-single h i j = record {
+    yes = λ e. never e;
+    no = λ e. rw (units-cons l start end h (omega arith), units-ended l (start + 1) end (omega arith)) (unwrap-alone (lone (getD l start 0)));
+  }
+
+  module _ (i : end ≤ length l) (j : start < end - 1) where
+    abbrev inner : List ℕ
+    inner = partFrom (start + 1) (end - 1) l
+
+    parts : partFrom start end l ≡ getD l start 0 ∷ (inner ++ (getD l (end - 1) 0 ∷ []))
+    parts = units-cons l start end (omega arith) (omega arith) ∙ ap (λ (us : List ℕ). getD l start 0 ∷ us) (part-snoc l (start + 1) end (omega arith) i)
+
+    pub wrapped-other : (getD l start 0 ≡ 0x4c → ⊥) → WrappedTold l start end false
+    wrapped-other h =
+        let f = first-not (getD l start 0) (inner ++ (getD l (end - 1) 0 ∷ [])) h in
+        record { yes = λ e. never e; no = λ e. rw (parts, f .2) (unwrap-first (f .0) (f .1) (f .3)) }
+
+    module _ (h : getD l start 0 ≡ 0x4c) where
+      opened : fromUtf16 (partFrom start end l) ≡ 0x4c ∷ fromUtf16 (inner ++ (getD l (end - 1) 0 ∷ []))
+      opened = ap fromUtf16 (parts ∙ ap (λ (u : ℕ). u ∷ (inner ++ (getD l (end - 1) 0 ∷ []))) h) ∙ from-first-unit (inner ++ (getD l (end - 1) 0 ∷ []))
+
+      closed : getD l (end - 1) 0 ≡ 0x3b → unwrapped (fromUtf16 (partFrom start end l)) ≡ fromUtf16 inner
+      unfolding fromUtf16
+      closed k =
+          ap unwrapped
+          (opened
+          ∙ ap (λ (u : ℕ). 0x4c ∷ fromUtf16 (inner ++ (u ∷ []))) k
+          ∙ ap (λ (t : Text). 0x4c ∷ t) (units-seam inner 0x3b [] refl))
+          ∙ unwrap-both 0x4c (fromUtf16 inner) 0x3b refl refl
+
+      unclosed : (getD l (end - 1) 0 ≡ 0x3b → ⊥) → unwrapped (fromUtf16 (partFrom start end l)) ≡ fromUtf16 (partFrom start end l)
+      unclosed k =
+          let f = last-not inner (getD l (end - 1) 0) k in
+          let w : fromUtf16 (partFrom start end l) ≡ 0x4c ∷ (f .0 ++ (f .1 ∷ [])) = opened ∙ ap (λ (t : Text). 0x4c ∷ t) (f .2) in
+          rw w (unwrap-last 0x4c (f .0) (f .1) (f .3))
+
+      pub wrapped-is : WrappedTold l start end (eqb (getD l (end - 1) 0) 0x3b)
+      wrapped-is = record {
+        yes = λ e. (omega arith, closed (eqb-true (getD l (end - 1) 0) 0x3b e));
+        no = λ e. unclosed (eqb-false (getD l (end - 1) 0) 0x3b e);
+      }
+
+pub clipped-is : (l : List ℕ) (end : ℕ) → length l < end → ClippedTold l end (length l)
+clipped-is l end h = record { inside = le-refl (length l); same = λ start. sym (part-rest l start end (omega arith)) }
+
+-- The class name of a string of d2.
+module _ (payload units ends : List ℕ) (index : ℕ) {r : Extent} (e : getElem? (stringsFrom 0 ends units) index ≡ extentOf units r) where
+  pub class-none : r ≡ extent.Nothing → {n : Name} → n ≡ absentName
+      → (d2String (stringsFrom 0 ends units) index >>= λ t. ok (classText t)) ≡ ok (nameText payload units n)
+  unfolding d2String nameText sourceText
+  class-none g q = rw (q, e, g)
+
+  pub class-units : {start limit : ℕ} → r ≡ extent.Part start limit → {end : ℕ} → ClippedTold units limit end → (a b : ℕ)
+      → unwrapped (fromUtf16 (partFrom start end units)) ≡ fromUtf16 (partFrom a b units)
+      → (d2String (stringsFrom 0 ends units) index >>= λ t. ok (classText t)) ≡ ok (nameText payload units (qualifiedPart (plain 3 start end) a b))
+  unfolding d2String nameText sourceText operated
+  class-units {start} {limit} g {end} c a b f =
+      rw (e, g, c .same start)
+      (ap (λ (t : Text). ok (some (dotted t))) (f ∙ sym (same-substituted (fromUtf16 (partFrom a b units)))))
+
+-- A class name by its index.
+module _ (n : Names) (index : ℕ) where
+  pub qualified-by : {x y : Option Text} → string n index ≡ ok x → y ≡ classText x → qualifiedName n index ≡ ok y
+  unfolding qualifiedName
+  qualified-by e f = rw (e, f)
+
+  pub qualified-falls : {y : Res (Option Text)} → string n index ≡ n .d2 index → (n .d2 index >>= λ t. ok (classText t)) ≡ y → qualifiedName n index ≡ y
+  unfolding qualifiedName
+  qualified-falls e f = rw e f

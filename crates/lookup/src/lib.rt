@@ -1,0 +1,236 @@
+// Names by their index. The definitions: specs/Names.antt, specs/Index.antt.
+ghost use mathlib.Core.Path.{_≡_};
+ghost use mathlib.Core.Bool.{true};
+ghost use mathlib.Core.List.{List};
+ghost use Prim.Native.Nat.{ℕ, _^_, _≤_, _<_};
+ghost use lib.ListN.{length, getElem?};
+ghost use Rattle.names.specs.Records.{Record};
+ghost use Rattle.foundation.specs.Results.{ok};
+ghost use Rattle.names.specs.Name.{nameText};
+ghost use Rattle.names.specs.Names.{stringsFrom, endsFit, d2String, string};
+ghost use Rattle.names.specs.Index.{IndexOf};
+ghost use Rattle.lookup.specs.Found.{FindTold, PlaceTold, ListedTold, NamedTold, DecidedTold};
+ghost use Rattle.lookup.specs.Steps.{extentOf};
+
+pub mod steps; // steps.rt: the name that a record builds
+pub mod qualified; // qualified.rt: class names by their index
+
+use crate::steps::Extent;
+use crate::steps::decides;
+use crate::steps::record_name;
+use names::name::Listed;
+use names::name::Name;
+use names::name::absent;
+use names::name::predefined;
+use names::records::record_in;
+
+pub enum Found {
+    Record { at: usize },
+    Nothing,
+}
+
+// The record that serves an index, by the first index that each of `count` records serves and the first that none does.
+pub fn find_record(firsts: &[u64], count: usize, index: u32) -> Found
+    ensures { λ r. ⌜ FindTold (now (firsts .entry)) count index r ⌝ }
+{
+    if firsts.len() <= count {
+        return Found::Nothing;
+    }
+    let wanted = index as u64;
+    if wanted < firsts[0] {
+        return Found::Nothing;
+    }
+    if firsts[count] <= wanted {
+        return Found::Nothing;
+    }
+    // it serves no index below that of `low`, and that of `high` is past it
+    let mut low = 0;
+    let mut high = count;
+    while 1 < high - low {
+        let middle = low + (high - low) / 2;
+        if firsts[middle] <= wanted {
+            low = middle;
+        } else {
+            high = middle;
+        }
+    }
+    Found::Record { at: low }
+}
+
+fn wide(n: u32) -> usize
+    ensures { λ r. ⌜ r ≡ n ⌝ }
+{
+    n as usize
+}
+
+// A string of d2, by where its strings end.
+pub fn d2_extent(ends: &[u32], index: u32) -> Extent
+    ensures { λ r. ⌜ ((units : List ℕ) → endsFit 0 (now (ends .entry)) (length units) ≡ true → getElem? (stringsFrom 0 (now (ends .entry)) units) index ≡ extentOf units r) ⌝ }
+{
+    let i = wide(index);
+    if ends.len() <= i {
+        return Extent::Nothing;
+    }
+    let end = wide(ends[i]);
+    if i == 0 {
+        return Extent::Part { start: 0, end };
+    }
+    let start = wide(ends[i - 1]);
+    Extent::Part { start, end }
+}
+
+// A string of d2 as a name, with no step.
+fn d2_name(ends: &[u32], index: u32) -> Name
+    ensures { λ r. ⌜ ((payload units : List ℕ) → endsFit 0 (now (ends .entry)) (length units) ≡ true → d2String (stringsFrom 0 (now (ends .entry)) units) index ≡ ok (nameText payload units r)) ⌝ }
+{
+    let extent = d2_extent(&*ends, index);
+    let Extent::Part { start, end } = extent else {
+        return absent();
+    };
+    Name {
+        source: 3,
+        start,
+        end,
+        from: 0,
+        to: 0,
+        operation: 0,
+        qualified: false,
+    }
+}
+
+// Where the message of record `at` stands, by the index.
+fn place_of(bytes: &[u8], starts: &[u32], ends: &[u32], at: usize) -> Extent
+    ensures { λ r. ⌜ PlaceTold (now (bytes .entry)) (now (starts .entry)) (now (ends .entry)) at r ⌝ }
+{
+    if starts.len() <= at {
+        return Extent::Nothing;
+    }
+    if ends.len() <= at {
+        return Extent::Nothing;
+    }
+    let start = wide(starts[at]);
+    let end = wide(ends[at]);
+    if end < start {
+        return Extent::Nothing;
+    }
+    if bytes.len() < end {
+        return Extent::Nothing;
+    }
+    Extent::Part { start, end }
+}
+
+pub enum Decided {
+    Yes { name: Name },
+    No,
+}
+
+// The name that the record from `start` to `end` builds, if it decides.
+fn read_record(bytes: &[u8], start: usize, end: usize) -> Decided
+    requires { ⌜ (start ≤ end) × (end ≤ length (now bytes)) × (start < 2 ^ 32) ⌝ }
+    ensures { λ r. ⌜ NamedTold (now (bytes .entry)) start end r ⌝ }
+{
+    let read = record_in(&bytes[start..end], start as u32);
+    let text = read.string;
+    let predefined = read.predefined;
+    if decides(text, predefined) {
+        let name = record_name(&*bytes, start, read);
+        return Decided::Yes { name };
+    }
+    Decided::No
+}
+
+// A predefined string as a name, with no step.
+fn listed_name(index: u32) -> Name
+    ensures { λ r. ⌜ ListedTold index r ⌝ }
+{
+    let listed = predefined(index);
+    let Listed::Part { start, end } = listed else {
+        return absent();
+    };
+    Name {
+        source: 2,
+        start,
+        end,
+        from: 0,
+        to: 0,
+        operation: 0,
+        qualified: false,
+    }
+}
+
+// The tags of a record's fields 1 to 3, which are varints.
+const RANGE: u32 = 8;
+
+const PREDEFINED_INDEX: u32 = 16;
+
+const OPERATION: u32 = 24;
+
+// The same as `read_record`. Most records have no field, or one of two bytes: its tag and its number.
+fn record_at(bytes: &[u8], start: usize, end: usize) -> Decided
+    requires { ⌜ (start ≤ end) × (end ≤ length (now bytes)) × (start < 2 ^ 32) ⌝ }
+    ensures { λ r. ⌜ NamedTold (now (bytes .entry)) start end r ⌝ }
+{
+    let size = end - start;
+    if size == 0 {
+        return Decided::No;
+    }
+    if size == 2 {
+        let tag = characters::wide(bytes[start]);
+        let number = characters::wide(bytes[start + 1]);
+        if number < 128 {
+            if tag == PREDEFINED_INDEX {
+                return Decided::Yes {
+                    name: listed_name(number),
+                };
+            }
+            if tag == RANGE {
+                return Decided::No;
+            }
+            if tag == OPERATION {
+                return Decided::No;
+            }
+        }
+    }
+    read_record(&*bytes, start, end)
+}
+
+// The name that the record of an index builds, if it decides: it has a string or a predefined index, even if its text can't be built.
+pub fn by_record(
+    bytes: &[u8],
+    starts: &[u32],
+    ends: &[u32],
+    firsts: &[u64],
+    count: usize,
+    index: u32,
+) -> Decided
+    ensures { λ r. ⌜ DecidedTold (now (bytes .entry)) (now (starts .entry)) (now (ends .entry)) (now (firsts .entry)) count index r ⌝ }
+{
+    let found = find_record(&*firsts, count, index);
+    let Found::Record { at } = found else {
+        return Decided::No;
+    };
+    let place = place_of(&*bytes, &*starts, &*ends, at);
+    let Extent::Part { start, end } = place else {
+        return Decided::No;
+    };
+    record_at(&*bytes, start, end)
+}
+
+// The string with an index, of the name table whose index stands in `starts`, `ends` and `firsts`; d2's strings end at `d2ends`.
+pub fn string(
+    bytes: &[u8],
+    starts: &[u32],
+    ends: &[u32],
+    firsts: &[u64],
+    count: usize,
+    d2ends: &[u32],
+    index: u32,
+) -> Name
+    ensures { λ r. ⌜ ((units : List ℕ) (records : List Record) → endsFit 0 (now (d2ends .entry)) (length units) ≡ true → IndexOf (now (bytes .entry)) (now (starts .entry)) (now (ends .entry)) (now (firsts .entry)) count records → string (record { records = records; d2 = d2String (stringsFrom 0 (now (d2ends .entry)) units) }) index ≡ ok (nameText (now (bytes .entry)) units r)) ⌝ }
+{
+    let answer = by_record(&*bytes, &*starts, &*ends, &*firsts, count, index);
+    let Decided::Yes { name } = answer else {
+        return d2_name(&*d2ends, index);
+    };
+    name
+}

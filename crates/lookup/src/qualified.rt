@@ -1,0 +1,177 @@
+// Class names: without a leading L and a trailing ; if both are there, / and $ turned into dots. The definition: specs/Names.antt,
+// `qualifiedName`; how the answers tell it: specs/Qualified.antt.
+ghost use mathlib.Core.Path.{_≡_};
+ghost use mathlib.Core.Bool.{true};
+ghost use mathlib.Core.List.{List};
+ghost use Prim.Native.Nat.{_≤_};
+ghost use lib.ListN.{length};
+ghost use Rattle.foundation.specs.Results.{ok};
+ghost use Rattle.names.specs.Records.{Record};
+ghost use Rattle.names.specs.Names.{stringsFrom, endsFit, d2String, qualifiedName};
+ghost use Rattle.names.specs.Name.{nameText};
+ghost use Rattle.names.specs.Index.{IndexOf};
+ghost use Rattle.lookup.specs.Steps.{BytesName};
+ghost use Rattle.lookup.specs.Qualified.{LastTold, UnwrapTold, qualifiedPart, QualifiedTold, ClippedTold, WrappedTold, QualifiedUnits};
+use crate::Decided;
+use crate::by_record;
+use crate::d2_extent;
+use crate::steps::Extent;
+use characters::Character;
+use characters::utf8_at;
+use names::name::Name;
+use names::name::PREDEFINED;
+use names::name::absent;
+use names::name::base_part;
+use names::name::instead;
+
+pub enum Last {
+    Character { place: usize, code: u32 },
+    Nothing,
+}
+
+// The last character of some bytes' text, and where it begins.
+fn last_of(s: &[u8]) -> Last
+    ensures { λ r. ⌜ LastTold (now (s .entry)) r ⌝ }
+{
+    let mut at = 0;
+    while at < s.len() {
+        let character = utf8_at(&*s, at);
+        let Character::Read { code, next } = character else {
+            return Last::Nothing;
+        };
+        if s.len() <= next {
+            return Last::Character { place: at, code };
+        }
+        at = next;
+    }
+    Last::Nothing
+}
+
+// The part between a leading L and a trailing ; of some bytes' text, every character `from` become `to`.
+fn unwrapped_part(s: &[u8], from: u32, to: u32) -> Extent
+    ensures { λ r. ⌜ UnwrapTold (now (s .entry)) from to r ⌝ }
+{
+    let character = utf8_at(&*s, 0);
+    let Character::Read { code, next } = character else {
+        return Extent::Nothing;
+    };
+    if instead(from, to, code) != 0x4c {
+        return Extent::Nothing;
+    }
+    let ending = last_of(&s[next..]);
+    let Last::Character { place, code: last } = ending else {
+        return Extent::Nothing;
+    };
+    if instead(from, to, last) != 0x3b {
+        return Extent::Nothing;
+    }
+    Extent::Part {
+        start: next,
+        end: next + place,
+    }
+}
+
+// A name as a class name, made of another part of its source.
+fn qualified_part(name: Name, start: usize, end: usize) -> Name
+    ensures { λ r. ⌜ r ≡ qualifiedPart name start end ⌝ }
+{
+    Name {
+        source: name.source,
+        start,
+        end,
+        from: name.from,
+        to: name.to,
+        operation: name.operation,
+        qualified: true,
+    }
+}
+
+// The class name of a record's name. What operation 2 puts in front begins with no L.
+fn qualified_bytes(payload: &[u8], name: Name) -> Name
+    requires { ⌜ BytesName name ⌝ }
+    ensures { λ r. ⌜ QualifiedTold (now (payload .entry)) name r ⌝ }
+{
+    let source = name.source;
+    let start = name.start;
+    let end = name.end;
+    if name.operation == 2 {
+        return qualified_part(name, start, end);
+    }
+    let s = base_part(&*payload, &PREDEFINED, source, start, end);
+    let part = unwrapped_part(s, name.from, name.to);
+    let Extent::Part { start: a, end: b } = part else {
+        return qualified_part(name, start, end);
+    };
+    qualified_part(name, start + a, start + b)
+}
+
+fn clipped(units: &[u16], end: usize) -> usize
+    ensures { λ r. ⌜ ClippedTold (now (units .entry)) end r ⌝ }
+{
+    if units.len() < end {
+        return units.len();
+    }
+    end
+}
+
+// Do the units begin with L and end with ;?
+fn is_wrapped(units: &[u16], start: usize, end: usize) -> bool
+    requires { ⌜ end ≤ length (now units) ⌝ }
+    ensures { λ r. ⌜ WrappedTold (now (units .entry)) start end r ⌝ }
+{
+    if end <= start {
+        return false;
+    }
+    let last = end - 1;
+    if last <= start {
+        return false;
+    }
+    if units[start] != 0x4c {
+        return false;
+    }
+    units[last] == 0x3b
+}
+
+// The class name of a string of d2.
+fn qualified_units(units: &[u16], ends: &[u32], index: u32) -> Name
+    ensures { λ r. ⌜ QualifiedUnits (now (units .entry)) (now (ends .entry)) index r ⌝ }
+{
+    let extent = d2_extent(&*ends, index);
+    let Extent::Part { start, end: limit } = extent else {
+        return absent();
+    };
+    let end = clipped(&*units, limit);
+    let name = Name {
+        source: 3,
+        start,
+        end,
+        from: 0,
+        to: 0,
+        operation: 0,
+        qualified: true,
+    };
+    if is_wrapped(&*units, start, end) {
+        return qualified_part(name, start + 1, end - 1);
+    }
+    name
+}
+
+// The class name with an index; as `string`, with the units of d2.
+pub fn qualified_name(
+    bytes: &[u8],
+    starts: &[u32],
+    ends: &[u32],
+    firsts: &[u64],
+    count: usize,
+    units: &[u16],
+    d2ends: &[u32],
+    index: u32,
+) -> Name
+    ensures { λ r. ⌜ ((records : List Record) → endsFit 0 (now (d2ends .entry)) (length (now (units .entry))) ≡ true → IndexOf (now (bytes .entry)) (now (starts .entry)) (now (ends .entry)) (now (firsts .entry)) count records → qualifiedName (record { records = records; d2 = d2String (stringsFrom 0 (now (d2ends .entry)) (now (units .entry))) }) index ≡ ok (nameText (now (bytes .entry)) (now (units .entry)) r)) ⌝ }
+{
+    let answer = by_record(&*bytes, &*starts, &*ends, &*firsts, count, index);
+    let Decided::Yes { name } = answer else {
+        return qualified_units(&*units, &*d2ends, index);
+    };
+    qualified_bytes(&*bytes, name)
+}
