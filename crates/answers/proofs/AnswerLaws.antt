@@ -23,7 +23,7 @@ use Rattle.foundation.proofs.OverlayLaws.{sets-front}
 use Rattle.foundation.specs.Results.{Cause, Res, ok, refused, sheetTooLong, textTooLong}
 use Rattle.foundation.specs.Texts.{ascii}
 use Rattle.sheet.specs.Rows.{Row, sheetFrom, texts}
-use Rattle.schema.specs.Declarations.{Declarations}
+use Rattle.rows.specs.Declarations.{Declarations}
 use Rattle.schema.specs.Reading.{allowance}
 use Rattle.inputs.specs.Inputs.{Input, kindOf}
 use Rattle.inputs.specs.Outcomes as R

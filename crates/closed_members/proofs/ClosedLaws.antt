@@ -25,10 +25,10 @@ use Rattle.sheet.specs.Put.{PutRows}
 use Rattle.sheet.specs.declared.State.{State}
 use Rattle.sheet.proofs.RowLaws.{bodyLength, rowsLength, sheet-length}
 use Rattle.sheet.proofs.PutLaws.{put-sheet, put-text, put-types, put-left, rows-then}
-use Rattle.schema.specs.Declarations.{Constructor, Function}
+use Rattle.rows.specs.Declarations.{Constructor, Function}
 use Rattle.schema.specs.Reading.{Read, Scope}
 use Rattle.schema.specs.Members.{constructorIn, functionIn}
-use Rattle.schema.specs.Rows.{constructorRows, functionRows}
+use Rattle.rows.specs.Rows.{constructorRows, functionRows}
 use Rattle.schema.specs.Told.{Lent, Scoped, EntryAt, PickedTold}
 use Rattle.schema.specs.MembersTold.{Affords, Within, PickedWithin, memberCost, closedCost, MemberTold}
 use Rattle.schema.specs.ListsTold.{ListAtTold}

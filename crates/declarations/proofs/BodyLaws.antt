@@ -19,20 +19,20 @@ use Rattle.sheet.specs.Rows.{sheetFrom, texts, bodyBytes}
 use Rattle.sheet.specs.Put.{PutHead, PutRows, past}
 use Rattle.sheet.specs.declared.State.{State}
 use Rattle.sheet.proofs.PutLaws.{put-types, put-none, rows-then}
-use Rattle.schema.specs.Declarations.{Constructor}
+use Rattle.rows.specs.Declarations.{Constructor}
 use Rattle.schema.specs.Fields.{Class·flags, Class·fq-name, Class·constructor}
 use Rattle.schema.specs.Reading.{Scope, classNameIn}
 use Rattle.schema.specs.Members.{flagsIn, listIn, constructorIn, functionIn, propertyIn, membersIn}
-use Rattle.schema.specs.Rows.{propertyRows}
-use Rattle.schema.specs.Written.{headCells, headCounts}
+use Rattle.rows.specs.Rows.{propertyRows}
+use Rattle.rows.specs.Written.{headCells, headCounts}
 use Rattle.schema.specs.Told.{Lent, NamesOf, Scoped}
 use Rattle.schema.specs.MembersTold.{Affords, Within, ListedTold, ListTold}
 use Rattle.schema.specs.declared.Listed.{Listed}
 use Rattle.schema.specs.declared.Listed.the-variants as listed
 use Rattle.schema.specs.declared.Stop.{Stop}
 use Rattle.schema.specs.declared.Walked.the-variants as walked
-use Rattle.schema.proofs.WrittenLaws.{head-small}
-use Rattle.schema.proofs.RecordLaws.{head-put}
+use Rattle.rows.proofs.WrittenLaws.{head-small}
+use Rattle.rows.proofs.RecordLaws.{head-put}
 use Rattle.schema.proofs.CountLaws.{within-none, within-less, within-then, past-within, affords-less, affords-after, affords-places, head-within}
 use Rattle.descriptors.specs.Defaults.{closedConstructor, closedFunction}
 use Rattle.declarations.specs.Payload.{declarationRows}

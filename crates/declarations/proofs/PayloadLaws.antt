@@ -30,7 +30,7 @@ use Rattle.names.specs.declared.records.RecordIndex.{RecordIndex}
 use Rattle.names.specs.declared.records.RecordIndex.the-variants as records
 use Rattle.lookup.proofs.LookupLaws.{index-longer}
 use Rattle.schema.specs.Fields.{Class·flags, Class·fq-name, Class·function, Class·property, Class·type-table, TypeTable·type}
-use Rattle.schema.specs.Declarations.{Declarations}
+use Rattle.rows.specs.Declarations.{Declarations}
 use Rattle.schema.specs.Reading.{pure, _>>=_, TypeTable, scope, allowance, classNameIn}
 use Rattle.schema.specs.Types.{typeTableIn}
 use Rattle.schema.specs.Members.{flagsIn, membersIn, classBody, packageBody}

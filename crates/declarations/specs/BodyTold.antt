@@ -14,10 +14,10 @@ use Rattle.wire.specs.Wire.{Message, cut}
 use Rattle.sheet.specs.Rows.{Row}
 use Rattle.sheet.specs.Put.{PutHead, PutRows}
 use Rattle.sheet.specs.declared.State.{State}
-use Rattle.schema.specs.Declarations.{Constructor, Function, Property}
+use Rattle.rows.specs.Declarations.{Constructor, Function, Property}
 use Rattle.schema.specs.Reading.{Scope}
-use Rattle.schema.specs.Rows.{propertyRows}
-use Rattle.schema.specs.Written.{headCells}
+use Rattle.rows.specs.Rows.{propertyRows}
+use Rattle.rows.specs.Written.{headCells}
 use Rattle.schema.specs.Told.{Lent, NamesOf, Scoped, refusal, WalkedTold}
 use Rattle.schema.specs.MembersTold.{Within, ListedWithin, ListedTold}
 use Rattle.schema.specs.declared.Listed.{Listed}

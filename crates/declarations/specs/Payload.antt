@@ -11,10 +11,10 @@ use Rattle.foundation.specs.Texts.{Text}
 use Rattle.wire.specs.Wire.{Message, cut, readDelimited}
 use Rattle.names.specs.Names.{Names, recordsOf}
 use Rattle.sheet.specs.Rows.{num, Row, row}
-use Rattle.schema.specs.Declarations.{Declarations}
+use Rattle.rows.specs.Declarations.{Declarations}
 use Rattle.schema.specs.Reading.{Read, allowance}
 use Rattle.schema.specs.Members.{classBody, packageBody}
-use Rattle.schema.specs.Rows.{named, propertyRows}
+use Rattle.rows.specs.Rows.{named, propertyRows}
 use Rattle.descriptors.specs.Defaults.{closedConstructor, closedFunction}
 
 abbrev pub bodyOf : ℕ → Names → Message → Read Declarations

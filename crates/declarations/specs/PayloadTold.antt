@@ -16,7 +16,7 @@ use Rattle.names.specs.Records.{Record}
 use Rattle.names.specs.Names.{Names}
 use Rattle.names.specs.Index.{IndexOf}
 use Rattle.schema.specs.Fields.{Class·flags, Class·fq-name, Class·constructor, Class·function, Class·property, Class·type-table, Package·function, Package·property}
-use Rattle.schema.specs.Declarations.{Constructor, Declarations}
+use Rattle.rows.specs.Declarations.{Constructor, Declarations}
 use Rattle.schema.specs.Reading.{Read, pure, _>>=_, TypeTable, Scope, allowance, classNameIn}
 use Rattle.schema.specs.Types.{typeTableIn}
 use Rattle.schema.specs.Members.{flagsIn, listIn, constructorIn, membersIn}

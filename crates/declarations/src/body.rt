@@ -12,13 +12,13 @@ use closed_members::constructors_in;
 use closed_members::functions_in;
 use members::properties::properties_in;
 use names::name::absent;
+use rows::put_head;
+use rows::put_head_counts;
 use schema::Listed;
 use schema::Stop;
 use schema::Tables;
 use schema::Walked;
 use schema::name::class_name_in;
-use schema::rows::put_head;
-use schema::rows::put_head_counts;
 use sheet::State;
 use signatures::flags::flags_in;
 

@@ -29,7 +29,7 @@ use Rattle.sheet.specs.Put.{PutRows}
 use Rattle.sheet.specs.declared.State.{State}
 use Rattle.sheet.proofs.PutLaws.{put-sheet, put-text, put-types, put-front}
 use Rattle.schema.specs.Counting.{declarationsSize}
-use Rattle.schema.specs.Declarations.{Declarations}
+use Rattle.rows.specs.Declarations.{Declarations}
 use Rattle.schema.specs.Reading.{Read, Scope, scope, allowance}
 use Rattle.schema.specs.Told as schema
 use Rattle.schema.specs.Told.{lent, Scoped, WalkedTold}

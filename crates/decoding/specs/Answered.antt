@@ -8,7 +8,7 @@ use lib.ListN.{length, drop}
 use Rattle.foundation.specs.Choices.{if_then_else_}
 use Rattle.foundation.specs.Results.{textTooLong, sheetTooLong, Res, ok, refused}
 use Rattle.sheet.specs.Rows.{Row, texts, sheetFrom}
-use Rattle.schema.specs.Declarations.{Declarations}
+use Rattle.rows.specs.Declarations.{Declarations}
 use Rattle.schema.specs.Reading.{allowance}
 use Rattle.inputs.specs.Outcomes.{Answer, refusal}
 use Rattle.declarations.specs.Payload.{declarationRows}

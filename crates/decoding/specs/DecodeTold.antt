@@ -14,7 +14,7 @@ use Rattle.sheet.specs.Rows.{texts, sheetFrom}
 use Rattle.sheet.specs.Put.{PutRows}
 use Rattle.sheet.specs.declared.State.{State}
 use Rattle.names.specs.Names.{stringsFrom, d2String, endsFit}
-use Rattle.schema.specs.Declarations.{Declarations}
+use Rattle.rows.specs.Declarations.{Declarations}
 use Rattle.schema.specs.Reading.{allowance}
 use Rattle.schema.specs.Told as schema
 use Rattle.schema.specs.declared.Tables.{Tables}

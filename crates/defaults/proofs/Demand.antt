@@ -8,7 +8,7 @@ use lib.ListN.{length, length-map}
 use Rattle.foundation.specs.Choices.{ifSome, mapOption, All}
 use Rattle.foundation.proofs.ChoiceLaws.{all-append}
 use Rattle.characters.specs.WellFormed.{Units}
-use Rattle.schema.specs.Declarations.{Function}
+use Rattle.rows.specs.Declarations.{Function}
 use Rattle.inputs.specs.Inputs.{Input}
 use Rattle.inputs.specs.Outcomes.{Answer}
 use Rattle.descriptors.specs.Defaults.{functionParts, descriptor}

@@ -7,7 +7,7 @@ use Prim.Native.Nat.{ℕ}
 use lib.ListN.{length}
 use Rattle.foundation.specs.Choices.{ifSome, All}
 use Rattle.foundation.specs.Results.{Res, ok, refused}
-use Rattle.schema.specs.Declarations.{Function, Declarations}
+use Rattle.rows.specs.Declarations.{Function, Declarations}
 use Rattle.inputs.specs.Inputs.{Input}
 use Rattle.inputs.specs.Outcomes.{Answer}
 use Rattle.metadata.specs.Read.{reading}

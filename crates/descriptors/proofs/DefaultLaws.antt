@@ -22,7 +22,7 @@ use Rattle.characters.proofs.PartLaws.{part-part, part-short}
 use Rattle.names.specs.Name.{nameText}
 use Rattle.names.specs.declared.name.Name.{Name}
 use Rattle.schema.specs.Fields.{ValueParameter·name, ValueParameter·type, ValueParameter·type-id}
-use Rattle.schema.specs.Declarations.{Ty, Parameter}
+use Rattle.rows.specs.Declarations.{Ty, Parameter}
 use Rattle.schema.specs.Reading.{Scope, kept, nameIn}
 use Rattle.schema.specs.Types.{maxDepth}
 use Rattle.schema.specs.Members.{listIn, parameterIn}

@@ -32,7 +32,7 @@ use Rattle.names.proofs.NameLaws.{source-units, name-parts, front-none}
 use Rattle.names.proofs.PresentLaws.{name-most}
 use Rattle.names.proofs.ScalarLaws.{Strings, qualified-characters, d2-characters, substituted-keeps}
 use Rattle.schema.specs.Fields.{Type·nullable, Type·class-name}
-use Rattle.schema.specs.Declarations.{Ty}
+use Rattle.rows.specs.Declarations.{Ty}
 use Rattle.schema.specs.Reading.{pure, lift, Scope, classNameIn}
 use Rattle.schema.specs.Told.{Lent, NamesOf, Scoped}
 use Rattle.schema.specs.TypesTold.{orNullable}

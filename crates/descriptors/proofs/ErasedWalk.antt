@@ -10,7 +10,7 @@ use native.Mathlib.Omega.{arith}
 use lib.ListN.{length, length-append}
 use Rattle.foundation.specs.Choices.{mapOption}
 use Rattle.foundation.proofs.OverlayLaws.{sets-then}
-use Rattle.schema.specs.Declarations.{Ty, typesOf}
+use Rattle.rows.specs.Declarations.{Ty, typesOf}
 use Rattle.schema.specs.Reading.{Scope}
 use Rattle.schema.specs.Types.{maxDepth}
 use Rattle.schema.specs.Told.{Lent, Scoped}

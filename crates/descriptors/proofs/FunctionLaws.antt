@@ -22,7 +22,7 @@ use Rattle.schema.specs.Fields.{
   Function·receiver-type-id,
   Function·flags,
 }
-use Rattle.schema.specs.Declarations.{Ty, Constructor, Function}
+use Rattle.rows.specs.Declarations.{Ty, Constructor, Function}
 use Rattle.schema.specs.Reading.{Scope}
 use Rattle.schema.specs.Types.{declaredType}
 use Rattle.schema.specs.Members.{bitOf, flagsIn, receiverIn}

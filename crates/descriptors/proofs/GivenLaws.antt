@@ -29,7 +29,7 @@ use Rattle.schema.specs.Fields.{
   ValueParameter·type-id,
   ValueParameter·vararg-element-type-id,
 }
-use Rattle.schema.specs.Declarations.{Parameter, Constructor, Function}
+use Rattle.rows.specs.Declarations.{Parameter, Constructor, Function}
 use Rattle.schema.specs.Reading.{Read, lift, keep, kept, Scope, nameIn}
 use Rattle.schema.specs.Types.{declaredType}
 use Rattle.schema.specs.Members.{named, signatureIn, parameterIn, listIn, constructorIn, functionIn}

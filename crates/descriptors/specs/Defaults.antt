@@ -7,9 +7,9 @@ use Prim.Native.Nat.{ℕ}
 use Rattle.foundation.specs.Choices.{if_then_else_, ifSome, mapOption, bothOf, everyOf, concat}
 use Rattle.foundation.specs.Texts.{ascii}
 use Rattle.sheet.specs.Rows.{ref, Row, row}
-use Rattle.schema.specs.Declarations.{Ty, Parameter, Constructor, Function}
+use Rattle.rows.specs.Declarations.{Ty, Parameter, Constructor, Function}
 use Rattle.schema.specs.Members.{bitOf}
-use Rattle.schema.specs.Rows.{constructorRows, functionRows}
+use Rattle.rows.specs.Rows.{constructorRows, functionRows}
 use Rattle.erasure.specs.Erasure.{Erased, class, erased, Returned, void, value, erasedReturn, print, printReturned}
 
 -- The erased parts: those before the last, and the last, which is the return's.

@@ -8,7 +8,7 @@ use Prim.Native.Nat.{ℕ, _+_, _-_, _*_, _^_, _≤_}
 use Rattle.foundation.specs.Choices.{mapOption, everyOf, concat}
 use Rattle.foundation.specs.Results.{ok}
 use Rattle.wire.specs.Wire.{Message}
-use Rattle.schema.specs.Declarations.{Ty, Parameter, Constructor, Function}
+use Rattle.rows.specs.Declarations.{Ty, Parameter, Constructor, Function}
 use Rattle.schema.specs.Reading.{Scope}
 use Rattle.schema.specs.Members.{listIn, parameterIn, constructorIn, functionIn}
 use Rattle.schema.specs.Told.{Lent, Scoped, EntryAt}

@@ -9,7 +9,7 @@ use Rattle.foundation.specs.Choices.{mapOption}
 use Rattle.foundation.specs.Texts.{Text}
 use Rattle.names.specs.Name.{nameText}
 use Rattle.names.specs.declared.name.Name.{Name}
-use Rattle.schema.specs.Declarations.{Ty}
+use Rattle.rows.specs.Declarations.{Ty}
 use Rattle.schema.specs.Reading.{Scope}
 use Rattle.schema.specs.Told.{Lent, Scoped}
 use Rattle.schema.specs.TypesTold.{orNullable}

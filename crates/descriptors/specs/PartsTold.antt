@@ -16,7 +16,7 @@ use Rattle.schema.specs.Fields.{
   Function·receiver-type-id,
   Function·flags,
 }
-use Rattle.schema.specs.Declarations.{Ty, Parameter, Function}
+use Rattle.rows.specs.Declarations.{Ty, Parameter, Function}
 use Rattle.schema.specs.Reading.{Read, Scope, keep}
 use Rattle.schema.specs.Types.{declaredType}
 use Rattle.schema.specs.Members.{flagsIn, receiverIn, listIn, parameterIn}

@@ -12,7 +12,7 @@ use Rattle.names.specs.Names.{endsFit, recordsOf, recordAt, string, withoutLast
 use Rattle.schema.specs.Reading.{kept, nameIn, classNameIn}
 use Rattle.schema.specs.Types.{resolveAt, typeIn, argumentIn, parseAt, typeAt, declaredType, typeTableIn}
 use Rattle.schema.specs.Members.{signatureOf, signatureIn, fieldOf, fieldIn, parameterIn, listIn, constructorIn, functionIn, propertyIn, membersIn, classBody, packageBody}
-use Rattle.schema.specs.Rows.{typesRows, parameterRows, constructorRows, functionRows, propertyRows}
+use Rattle.rows.specs.Rows.{typesRows, parameterRows, constructorRows, functionRows, propertyRows}
 use Rattle.inputs.specs.Refusals.{numberOf, detailOf}
 use Rattle.inputs.specs.Inputs.{laterFault, faultOf}
 use Rattle.erasure.specs.Erasure.{lookUp, firstErased, erased, erasedReturn, print}

@@ -34,12 +34,12 @@ use Rattle.schema.specs.Fields.{
   Function·flags,
   Function·method-signature,
 }
-use Rattle.schema.specs.Declarations.{Ty, Signature, Parameter, Constructor, Function}
+use Rattle.rows.specs.Declarations.{Ty, Signature, Parameter, Constructor, Function, signed}
 use Rattle.schema.specs.Reading.{pure, _>>=_, Scope, nameIn}
-use Rattle.schema.specs.Members.{flagsIn, signed, parameterIn, listIn, signatureIn, constructorIn, receiverIn, functionIn}
+use Rattle.schema.specs.Members.{flagsIn, parameterIn, listIn, signatureIn, constructorIn, receiverIn, functionIn}
 use Rattle.schema.specs.Types.{declaredType}
-use Rattle.schema.specs.Rows.{receiverRole, returnRole, typeRows, parameterRows, constructorRows, functionRows}
-use Rattle.schema.specs.Written.{cellLimit, signatureBy, initBy, constructorCells, functionCells}
+use Rattle.rows.specs.Rows.{receiverRole, returnRole, typeRows, parameterRows, constructorRows, functionRows}
+use Rattle.rows.specs.Written.{cellLimit, signatureBy, initBy, constructorCells, functionCells}
 use Rattle.schema.specs.Told.{Lent, NamesOf, Scoped, WalkedSpends, WalkedTold}
 use Rattle.schema.specs.TypesTold.{pickedOf}
 use Rattle.schema.specs.MembersTold.{Affords, Within, ListedTold, parameterCost, memberCost, MemberTold, ListTold}
@@ -47,7 +47,7 @@ use Rattle.type_references.specs.OptionalTold.{OptionalTold}
 use Rattle.signatures.specs.SignaturesTold.{SignedTold}
 use Rattle.signatures.specs.ReceiversTold.{ReceiverTold}
 use Rattle.members.specs.CallablesTold.{functionHeadCost, FunctionHead, functionTypes, FunctionTypesAre, FunctionTypesTold}
-use Rattle.schema.specs.declared.rows.SignatureNames.{SignatureNames}
+use Rattle.rows.specs.declared.SignatureNames.{SignatureNames}
 use Rattle.signatures.specs.declared.signatures.Signed.{Signed}
 use Rattle.signatures.specs.declared.signatures.Signed.the-variants as answer
 use Rattle.schema.specs.declared.Stop.{Stop}
@@ -58,8 +58,8 @@ use Rattle.schema.specs.declared.Picked.{Picked}
 use Rattle.schema.specs.declared.Picked.the-variants as picked
 use Rattle.schema.specs.declared.Walked.{Walked}
 use Rattle.schema.specs.declared.Walked.the-variants as walked
-use Rattle.schema.proofs.WrittenLaws.{constructor-small, function-small}
-use Rattle.schema.proofs.RecordLaws.{constructor-put, function-put}
+use Rattle.rows.proofs.WrittenLaws.{constructor-small, function-small}
+use Rattle.rows.proofs.RecordLaws.{constructor-put, function-put}
 use Rattle.schema.proofs.CountLaws.{within-then, within-both, spends-within, past-within, affords-after, affords-places, head-within, listed-within}
 use Rattle.members.proofs.ParameterLaws.{none-is, some-is, walked-spends}
 

@@ -27,12 +27,12 @@ use Rattle.schema.specs.Fields.{
   ValueParameter·vararg-element-type,
   ValueParameter·vararg-element-type-id,
 }
-use Rattle.schema.specs.Declarations.{Ty, Parameter}
+use Rattle.rows.specs.Declarations.{Ty, Parameter}
 use Rattle.schema.specs.Reading.{Read, pure, _>>=_, Scope, nameIn}
 use Rattle.schema.specs.Types.{declaredType}
 use Rattle.schema.specs.Members.{bitOf, smallFlagsIn, parameterIn}
-use Rattle.schema.specs.Rows.{named, parameterRole, varargRole, typeRows, parameterRows}
-use Rattle.schema.specs.Written.{parameterCells}
+use Rattle.rows.specs.Rows.{named, parameterRole, varargRole, typeRows, parameterRows}
+use Rattle.rows.specs.Written.{parameterCells}
 use Rattle.schema.specs.Told.{Lent, NamesOf, Scoped, nameLimit, Spends, WalkedSpends, WalkedTold, PickedTold}
 use Rattle.schema.specs.TypesTold.{pickedOf}
 use Rattle.schema.specs.MembersTold.{Affords, Within, PickedWithin, parameterCost, MemberTold}
@@ -45,7 +45,7 @@ use Rattle.schema.specs.declared.Walked.{Walked}
 use Rattle.schema.specs.declared.Walked.the-variants as walked
 use Rattle.schema.proofs.TypeLaws.{spends-then}
 use Rattle.schema.proofs.NamedLaws.{cell-length}
-use Rattle.schema.proofs.RecordLaws.{parameter-put}
+use Rattle.rows.proofs.RecordLaws.{parameter-put}
 use Rattle.schema.proofs.CountLaws.{within-both, spends-within}
 
 -- What may be absent, by whether it is there.

@@ -37,12 +37,12 @@ use Rattle.schema.specs.Fields.{
   JvmPropertySignature·getter,
   JvmPropertySignature·setter,
 }
-use Rattle.schema.specs.Declarations.{Ty, Signature, Property}
+use Rattle.rows.specs.Declarations.{Ty, Signature, Property}
 use Rattle.schema.specs.Reading.{Scope, nameIn}
 use Rattle.schema.specs.Types.{declaredType}
 use Rattle.schema.specs.Members.{flagsIn, fieldIn, signatureIn, ofSignature, receiverIn, accessorIsDefault, propertyIn}
-use Rattle.schema.specs.Rows.{returnRole, receiverRole, typeRows, propertyRows}
-use Rattle.schema.specs.Written.{Room, cellLimit, signatureBy, propertyCells}
+use Rattle.rows.specs.Rows.{returnRole, receiverRole, typeRows, propertyRows}
+use Rattle.rows.specs.Written.{Room, cellLimit, signatureBy, propertyCells}
 use Rattle.schema.specs.Told.{Lent, Scoped, Ready, refusal, WalkedSpends, WalkedTold}
 use Rattle.schema.specs.MembersTold.{Affords, Within, memberCost, MemberTold}
 use Rattle.type_references.specs.OptionalTold.{OptionalTold}
@@ -54,14 +54,14 @@ use Rattle.schema.specs.declared.Walked.{Walked}
 use Rattle.schema.specs.declared.Walked.the-variants as walked
 use Rattle.schema.specs.declared.Picked.{Picked}
 use Rattle.schema.specs.declared.Picked.the-variants as picked
-use Rattle.schema.specs.declared.rows.SignatureNames.{SignatureNames}
+use Rattle.rows.specs.declared.SignatureNames.{SignatureNames}
 use Rattle.signatures.specs.declared.signatures.Signed.{Signed}
 use Rattle.signatures.specs.declared.signatures.Signed.the-variants as answer
 use Rattle.signatures.specs.declared.signatures.PropertyNames.{PropertyNames}
 use Rattle.signatures.specs.declared.signatures.PropertySigned.{PropertySigned}
 use Rattle.signatures.specs.declared.signatures.PropertySigned.the-variants as property
-use Rattle.schema.proofs.WrittenLaws.{Small, property-small}
-use Rattle.schema.proofs.RecordLaws.{property-put}
+use Rattle.rows.proofs.WrittenLaws.{Small, property-small}
+use Rattle.rows.proofs.RecordLaws.{property-put}
 use Rattle.schema.proofs.CountLaws.{within-both, spends-within, affords-after, affords-ready}
 use Rattle.schema.proofs.TypeLaws.{ready-after}
 

@@ -21,17 +21,17 @@ use Rattle.schema.specs.Fields.{
   Function·flags,
   Function·method-signature,
 }
-use Rattle.schema.specs.Declarations.{Ty, Signature, Function}
+use Rattle.rows.specs.Declarations.{Ty, Signature, Function, signed}
 use Rattle.schema.specs.Reading.{Read, pure, _>>=_, Scope}
 use Rattle.schema.specs.Types.{declaredType}
-use Rattle.schema.specs.Members.{flagsIn, signed, signatureIn}
-use Rattle.schema.specs.Rows.{receiverRole, returnRole, typeRows}
-use Rattle.schema.specs.Written.{cellLimit, functionCells}
+use Rattle.schema.specs.Members.{flagsIn, signatureIn}
+use Rattle.rows.specs.Rows.{receiverRole, returnRole, typeRows}
+use Rattle.rows.specs.Written.{cellLimit, functionCells}
 use Rattle.schema.specs.Told.{Lent, Scoped, WalkedSpends, refusal}
 use Rattle.schema.specs.MembersTold.{Within}
 use Rattle.signatures.specs.SignaturesTold.{SignedTold}
 use Rattle.signatures.specs.ReceiversTold.{ReceiverTold}
-use Rattle.schema.specs.declared.rows.SignatureNames.{SignatureNames}
+use Rattle.rows.specs.declared.SignatureNames.{SignatureNames}
 use Rattle.signatures.specs.declared.signatures.Signed.{Signed}
 use Rattle.signatures.specs.declared.signatures.Signed.the-variants as answer
 use Rattle.schema.specs.declared.Walked.{Walked}

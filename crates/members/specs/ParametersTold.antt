@@ -9,10 +9,10 @@ use Rattle.wire.specs.Wire.{Message, cut}
 use Rattle.sheet.specs.Rows.{Row}
 use Rattle.sheet.specs.declared.State.{State}
 use Rattle.schema.specs.Fields.{ValueParameter·type, ValueParameter·type-id, ValueParameter·vararg-element-type, ValueParameter·vararg-element-type-id}
-use Rattle.schema.specs.Declarations.{Ty}
+use Rattle.rows.specs.Declarations.{Ty}
 use Rattle.schema.specs.Reading.{Read, pure, _>>=_, Scope}
 use Rattle.schema.specs.Types.{declaredType}
-use Rattle.schema.specs.Rows.{parameterRole, varargRole, typeRows}
+use Rattle.rows.specs.Rows.{parameterRole, varargRole, typeRows}
 use Rattle.schema.specs.Told.{Lent, Scoped, WalkedSpends, WalkedTold}
 use Rattle.schema.specs.declared.Walked.{Walked}
 

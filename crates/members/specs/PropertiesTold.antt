@@ -21,17 +21,17 @@ use Rattle.schema.specs.Fields.{
   Property·receiver-type-id,
   Property·flags,
 }
-use Rattle.schema.specs.Declarations.{Ty}
+use Rattle.rows.specs.Declarations.{Ty}
 use Rattle.schema.specs.Reading.{Scope, nameIn}
 use Rattle.schema.specs.Types.{declaredType}
 use Rattle.schema.specs.Members.{flagsIn, receiverIn, accessorIsDefault, propertyIn}
-use Rattle.schema.specs.Rows.{propertyRows}
-use Rattle.schema.specs.Written.{signatureBy, propertyCells}
+use Rattle.rows.specs.Rows.{propertyRows}
+use Rattle.rows.specs.Written.{signatureBy, propertyCells}
 use Rattle.schema.specs.Told.{Lent, Scoped, PickedTold}
 use Rattle.schema.specs.MembersTold.{Within, PickedWithin, memberCost}
 use Rattle.signatures.specs.SignaturesTold.{PropertySignedTold}
 use Rattle.schema.specs.declared.Picked.{Picked}
-use Rattle.schema.specs.declared.rows.SignatureNames.{SignatureNames}
+use Rattle.rows.specs.declared.SignatureNames.{SignatureNames}
 use Rattle.signatures.specs.declared.signatures.Signed.the-variants as answer
 use Rattle.signatures.specs.declared.signatures.PropertyNames.{PropertyNames}
 use Rattle.signatures.specs.declared.signatures.PropertySigned.the-variants as property

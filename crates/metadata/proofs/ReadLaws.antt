@@ -30,12 +30,12 @@ use Rattle.sheet.specs.Put.{PutHead, PutRows, past}
 use Rattle.sheet.specs.declared.State.{State}
 use Rattle.sheet.proofs.PutLaws.{put-none, put-front}
 use Rattle.sheet.proofs.RowLaws.{rowsLength, bodyLength, sheet-length}
-use Rattle.schema.specs.Declarations.{Declarations}
+use Rattle.rows.specs.Declarations.{Declarations}
 use Rattle.schema.specs.Reading.{allowance}
-use Rattle.schema.specs.Written as written
-use Rattle.schema.specs.Written.{headCells, headCounts}
-use Rattle.schema.proofs.RecordLaws.{head-put}
-use Rattle.schema.proofs.WrittenLaws.{head-room, head-small}
+use Rattle.rows.specs.Written as written
+use Rattle.rows.specs.Written.{headCells, headCounts}
+use Rattle.rows.proofs.RecordLaws.{head-put}
+use Rattle.rows.proofs.WrittenLaws.{head-room, head-small}
 use Rattle.declarations.specs.Payload.{declarationRows}
 use Rattle.declarations.proofs.BodyLaws.{no-name}
 use Rattle.inputs.specs.Refusals.{numberOf, detailOf}

@@ -6,7 +6,7 @@ use Rattle.foundation.specs.Choices.{if_then_else_, ifSome}
 use Rattle.foundation.specs.Results.{Res, refused, _>>=_}
 use Rattle.encoding.specs.Encoding.{decoded}
 use Rattle.names.specs.Names.{stringsFrom, d2String}
-use Rattle.schema.specs.Declarations.{Declarations}
+use Rattle.rows.specs.Declarations.{Declarations}
 use Rattle.inputs.specs.Inputs.{Input, kindOf, carriesDeclarations, faultOf}
 use Rattle.inputs.specs.Outcomes.{Answer}
 use Rattle.declarations.specs.Payload.{payload}

@@ -19,8 +19,8 @@ use inputs::outcome::Outcome;
 use inputs::outcome::fault_refusal;
 use inputs::outcome::refused;
 use names::name::absent;
-use schema::rows::put_head;
-use schema::rows::put_head_counts;
+use rows::put_head;
+use rows::put_head_counts;
 
 pub mod exported; // exported.rt: the function of the static library
 

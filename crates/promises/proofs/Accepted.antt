@@ -31,7 +31,7 @@ use Rattle.foundation.specs.Results.{
   refused,
 }
 use Rattle.sheet.specs.Rows.{Row, texts, sheetFrom}
-use Rattle.schema.specs.Declarations.{Declarations}
+use Rattle.rows.specs.Declarations.{Declarations}
 use Rattle.schema.specs.Reading.{allowance}
 use Rattle.inputs.specs.Refusals.{numberOf}
 use Rattle.inputs.specs.Inputs.{Input, kindOf}

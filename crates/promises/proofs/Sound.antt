@@ -22,7 +22,7 @@ use Rattle.wire.proofs.Bounds.{Bounded, cut-bounded}
 use Rattle.characters.specs.WellFormed.{Characters, Units}
 use Rattle.names.specs.Names.{Names, recordsOf, stringsFrom, d2String}
 use Rattle.names.proofs.ScalarLaws.{string-characters, qualified-characters, d2-characters}
-use Rattle.schema.specs.Declarations.{Declarations}
+use Rattle.rows.specs.Declarations.{Declarations}
 use Rattle.schema.specs.Reading.{Read, allowance}
 use Rattle.schema.specs.Counting.{declarationsSize}
 use Rattle.schema.proofs.Fine.{NamesFine, FineDeclarations, class-fine, package-fine}

@@ -13,7 +13,7 @@ use Rattle.foundation.specs.Choices.{mapOption, bothOf, concat, All, IfSome}
 use Rattle.foundation.specs.Texts.{Text}
 use Rattle.characters.specs.Characters.{utf8, fromUtf8}
 use Rattle.sheet.specs.Rows.{bit, Row}
-use Rattle.schema.specs.Declarations.{
+use Rattle.rows.specs.Declarations.{
   Types,
   noTypes,
   andType,
@@ -26,8 +26,8 @@ use Rattle.schema.specs.Declarations.{
   Property,
   Declarations,
 }
-use Rattle.schema.specs.Members.{signed}
-use Rattle.schema.specs.Rows.{returnRole, receiverRole, parameterRole, varargRole, argumentRole, typesRows, typeRows, parameterRows, parametersRows, constructorRows, functionRows, propertyRows}
+use Rattle.rows.specs.Declarations.{signed}
+use Rattle.rows.specs.Rows.{returnRole, receiverRole, parameterRole, varargRole, argumentRole, typesRows, typeRows, parameterRows, parametersRows, constructorRows, functionRows, propertyRows}
 use Rattle.characters.specs.WellFormed.{Characters}
 use Rattle.characters.proofs.Utf8Laws.{utf8-back}
 use Rattle.schema.proofs.Fine.{Named, FineTypes, FineTy, FineParameter, FineSignature, FineConstructor, FineFunction, FineProperty, FineDeclarations}

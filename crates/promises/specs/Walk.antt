@@ -11,7 +11,7 @@ use Rattle.foundation.specs.Texts.{Text}
 use Rattle.characters.specs.Characters.{fromUtf8}
 use Rattle.sheet.specs.Rows.{Cell, num, ref, Row}
 use Rattle.sheet.specs.Reading.{rowsOf}
-use Rattle.schema.specs.Declarations.{
+use Rattle.rows.specs.Declarations.{
   Types,
   noTypes,
   andType,
@@ -23,9 +23,9 @@ use Rattle.schema.specs.Declarations.{
   Property,
   Declarations,
 }
-use Rattle.schema.specs.Members.{signed}
+use Rattle.rows.specs.Declarations.{signed}
 use Rattle.descriptors.specs.Defaults.{functionParts, constructorParts, descriptor}
-use Rattle.schema.specs.Rows.{returnRole, receiverRole, parameterRole, varargRole, argumentRole}
+use Rattle.rows.specs.Rows.{returnRole, receiverRole, parameterRole, varargRole, argumentRole}
 
 abbrev pub numOf : Cell → ℕ
 numOf (num w n) = n

@@ -5,8 +5,8 @@ use mathlib.Core.List.{List, [], _∷_, _++_, append-nil}
 use Prim.Native.Nat.{ℕ, suc}
 use lib.ListN.{length}
 use Rattle.sheet.specs.Rows.{num, bit, Row, row}
-use Rattle.schema.specs.Declarations.{Ty, typesOf, countOf}
-use Rattle.schema.specs.Rows.{named, argumentRole, typesRows}
+use Rattle.rows.specs.Declarations.{Ty, typesOf, countOf}
+use Rattle.rows.specs.Rows.{named, argumentRole, typesRows}
 use Rattle.schema.specs.TypesTold.{rowsIn}
 
 -- The rows of a type and of those after it, and how many they are.

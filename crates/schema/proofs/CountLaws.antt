@@ -10,15 +10,15 @@ use Rattle.sheet.specs.Rows.{Cell}
 use Rattle.sheet.specs.Put.{PutHead, past}
 use Rattle.sheet.specs.declared.State.{State}
 use Rattle.sheet.proofs.PutLaws.{put-types}
-use Rattle.schema.specs.Written as written
-use Rattle.schema.specs.Written.{cellLimit}
+use Rattle.rows.specs.Written as written
+use Rattle.rows.specs.Written.{cellLimit}
 use Rattle.schema.specs.Told.{Ready, Spends}
 use Rattle.schema.specs.MembersTold.{Affords, Within, PickedWithin, ListedWithin}
 use Rattle.schema.specs.declared.Listed.{Listed}
 use Rattle.schema.specs.declared.Listed.the-variants as listed
 use Rattle.schema.specs.declared.Picked.{Picked}
 use Rattle.schema.specs.declared.Picked.the-variants as picked
-use Rattle.schema.proofs.WrittenLaws.{Small, head-room}
+use Rattle.rows.proofs.WrittenLaws.{Small, head-room}
 
 -- Steps one after the other; a step that takes no more than is said.
 pub within-none : (s : State) → Within 0 s s

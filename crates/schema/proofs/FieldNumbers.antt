@@ -12,7 +12,7 @@ use Rattle.foundation.specs.Texts.{Text, ascii}
 use Rattle.wire.specs.Wire.{groupsFrom, readVarint, readBytes, readDelimited, readFixed, readValue, readField, repeated, cut}
 use Rattle.wire.specs.Messages.{values, varintOf, index, flag, bytesOf, message, bodiesOf, cutAll, messages}
 use Rattle.names.specs.Names.{Names, recordAt, string, withoutLast, qualifiedName}
-use Rattle.schema.specs.Declarations.{noTypes, andType, Ty, Signature, Parameter, Declarations}
+use Rattle.rows.specs.Declarations.{noTypes, andType, Ty, Signature, Parameter, Declarations}
 use Rattle.schema.specs.Reading.{kept, nameIn, classNameIn, allowance}
 use Rattle.schema.specs.Types.{resolveAt, typeIn, argumentIn, parseAt, typeAt, declaredType, typeTableIn}
 use Rattle.schema.specs.Members.{

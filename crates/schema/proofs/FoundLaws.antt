@@ -22,7 +22,7 @@ use Rattle.wire.proofs.WalkLaws.{whole, ok-same}
 use Rattle.characters.specs.Characters.{partFrom}
 use Rattle.characters.proofs.PartLaws.{part-part, part-short}
 use Rattle.schema.specs.Fields.{Type·argument, Type·Argument·type, Type·Argument·type-id}
-use Rattle.schema.specs.Declarations.{Ty}
+use Rattle.rows.specs.Declarations.{Ty}
 use Rattle.schema.specs.Reading.{Read, pure, keep, kept, Scope, allowance}
 use Rattle.schema.specs.Types.{maxDepth, typeIn, argumentIn, typeAt, declaredType}
 use Rattle.schema.specs.Told.{EntryAt}

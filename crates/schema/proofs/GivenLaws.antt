@@ -13,7 +13,7 @@ use Rattle.foundation.specs.Texts.{Text}
 use Rattle.wire.specs.Wire.{Message}
 use Rattle.wire.specs.Messages.{index, flag, message, messages}
 use Rattle.schema.specs.Fields.{Type·argument, Type·nullable, Type·class-name}
-use Rattle.schema.specs.Declarations.{Ty, typesOf}
+use Rattle.rows.specs.Declarations.{Ty, typesOf}
 use Rattle.schema.specs.Reading.{Read, pure, _>>=_, lift, enter, kept, Scope, classNameIn, allowance}
 use Rattle.schema.specs.Types.{Walk, maxDepth, resolveAt, typeIn, argumentIn, parseAt, typeAt}
 use Rattle.schema.proofs.FoundLaws.{never-given, bind-given, first-same}

@@ -3,8 +3,6 @@ pub mod TypeNext
 pub mod TypeCount
 pub mod Fine
 pub mod FieldNumbers
-pub mod WrittenLaws
-pub mod RecordLaws
 pub mod TypeLaws
 pub mod ArgumentLaws
 pub mod NamedLaws

@@ -14,10 +14,10 @@ use Rattle.wire.specs.Messages.{flag, messages}
 use Rattle.wire.specs.declared.WireError.{WireError}
 use Rattle.sheet.specs.Rows.{num, bit, row}
 use Rattle.schema.specs.Fields.{Type·argument, Type·nullable, Type·class-name}
-use Rattle.schema.specs.Declarations.{noTypes, andType, Ty, typesOf}
+use Rattle.rows.specs.Declarations.{noTypes, andType, Ty, typesOf}
 use Rattle.schema.specs.Reading.{pure, _>>=_, lift, kept, Scope, classNameIn, allowance}
 use Rattle.schema.specs.Types.{argumentIn, parseAt, typeAt}
-use Rattle.schema.specs.Rows.{named, argumentRole, typesRows}
+use Rattle.rows.specs.Rows.{named, argumentRole, typesRows}
 use Rattle.schema.specs.Told.{refusal}
 use Rattle.schema.specs.declared.Stop.the-variants as stop
 use Rattle.schema.proofs.TypeNext.{type-next}

@@ -17,7 +17,7 @@ use Rattle.wire.specs.Wire.{Message}
 use Rattle.wire.specs.Messages.{index, message, messages}
 use Rattle.names.specs.Names.{Names, string, qualifiedName}
 use Rattle.sheet.specs.Rows.{Row}
-use Rattle.schema.specs.Declarations.{Types, noTypes, andType, Ty, typesOf, Signature, Parameter, Constructor, Function, Property}
+use Rattle.rows.specs.Declarations.{Types, noTypes, andType, Ty, typesOf, Signature, Parameter, Constructor, Function, Property}
 use Rattle.schema.specs.Reading.{Read, pure, _>>=_, lift, enter, keep, kept, Scope, scope, nameIn, classNameIn, allowance}
 use Rattle.schema.specs.Types.{Walk, maxDepth, resolveAt, typeIn, argumentIn, parseAt, typeAt, declaredType, noTable, typeTableIn}
 use Rattle.schema.specs.Members.{
@@ -37,7 +37,7 @@ use Rattle.schema.specs.Members.{
   classBody,
   packageBody,
 }
-use Rattle.schema.specs.Rows.{
+use Rattle.rows.specs.Rows.{
   argumentRole,
   typesRows,
   typeRows,

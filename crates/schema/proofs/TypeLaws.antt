@@ -24,7 +24,7 @@ use Rattle.messages.specs.declared.Embedded.{Embedded}
 use Rattle.messages.specs.declared.Embedded.the-variants as embedded
 use Rattle.sheet.specs.Rows.{Row}
 use Rattle.sheet.specs.declared.State.{State}
-use Rattle.schema.specs.Declarations.{Ty}
+use Rattle.rows.specs.Declarations.{Ty}
 use Rattle.schema.specs.Reading.{Read, pure, _>>=_, Scope, allowance}
 use Rattle.schema.specs.Types.{maxDepth, resolveAt, typeIn, typeAt, declaredType}
 use Rattle.schema.specs.Told.{Lent, Scoped, Ready, Spends, WalkedSpends, PickedSpends, WalkedTold, PickedTold}

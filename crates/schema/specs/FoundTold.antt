@@ -9,7 +9,7 @@ use Rattle.foundation.specs.Results.{ok}
 use Rattle.wire.specs.Wire.{Message}
 use Rattle.wire.specs.Messages.{as32, messages}
 use Rattle.schema.specs.Fields.{Type·argument}
-use Rattle.schema.specs.Declarations.{Ty}
+use Rattle.rows.specs.Declarations.{Ty}
 use Rattle.schema.specs.Reading.{Scope, kept, allowance}
 use Rattle.schema.specs.Types.{maxDepth, resolveAt, typeIn, argumentIn, typeAt, declaredType}
 use Rattle.schema.specs.Told.{EntryAt, EntriesOf}

@@ -1,10 +1,7 @@
 pub mod Fields
-pub mod Declarations
 pub mod Reading
 pub mod Types
 pub mod Members
-pub mod Rows
-pub mod Written
 pub mod Counting
 pub mod Told
 pub mod TypesTold

@@ -55,7 +55,7 @@ use Rattle.schema.specs.Fields.{
   JvmPropertySignature·getter,
   JvmPropertySignature·setter,
 }
-use Rattle.schema.specs.Declarations.{Ty, Signature, Parameter, Constructor, Function, Property, Declarations}
+use Rattle.rows.specs.Declarations.{Ty, Signature, signed, Parameter, Constructor, Function, Property, Declarations}
 use Rattle.schema.specs.Reading.{Read, pure, _>>=_, lift, kept, Scope, scope, nameIn, classNameIn}
 use Rattle.schema.specs.Types.{declaredType, typeTableIn}
 
@@ -70,9 +70,6 @@ flagsIn n m = ifSome (varintOf n m) 6 λ flags. flags
 -- Omitted flags of parameters and accessors are 0.
 abbrev pub smallFlagsIn : ℕ → Message → ℕ
 smallFlagsIn n m = ifSome (varintOf n m) 0 λ flags. flags
-
-abbrev pub signed : Text → Text → Signature
-signed n d = record { name = n; descriptor = d }
 
 -- What `read` reads once there is a name; without one it is skipped before anything inside it is read (metadata.proto requires the
 -- name, and Kotlin's reader refuses the message).

@@ -19,7 +19,7 @@ use Rattle.schema.specs.Fields.{
   TypeTable·type,
   TypeTable·first-nullable,
 }
-use Rattle.schema.specs.Declarations.{Ty, typesOf}
+use Rattle.rows.specs.Declarations.{Ty, typesOf}
 use Rattle.schema.specs.Reading.{Read, pure, _>>=_, lift, enter, kept, TypeTable, Scope, classNameIn, allowance}
 
 -- lookups at this depth or deeper yield no type

@@ -13,10 +13,10 @@ use Rattle.wire.specs.declared.Piece.{Piece}
 use Rattle.wire.specs.declared.Piece.the-variants as piece
 use Rattle.sheet.specs.Rows.{Row}
 use Rattle.sheet.specs.declared.State.{State}
-use Rattle.schema.specs.Declarations.{Ty}
+use Rattle.rows.specs.Declarations.{Ty}
 use Rattle.schema.specs.Reading.{Scope, allowance}
 use Rattle.schema.specs.Types.{maxDepth, resolveAt, typeIn, typeAt, declaredType}
-use Rattle.schema.specs.Rows.{typeRows}
+use Rattle.rows.specs.Rows.{typeRows}
 use Rattle.schema.specs.Told.{Lent, Scoped, WalkedSpends, PickedSpends, WalkedTold, PickedTold, EntriesOf}
 use Rattle.schema.specs.declared.Walked.{Walked}
 use Rattle.schema.specs.declared.Walked.the-variants as walked

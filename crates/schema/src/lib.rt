@@ -3,7 +3,6 @@
 use sheet::State;
 use wire::WireError;
 
-pub mod rows; // rows.rt: records written from values that are looked up
 pub mod name; // name.rt: names by the index in a field
 pub mod head; // head.rt: a type's own fields by one walk
 pub mod table; // table.rt: where the entries of the type table stand

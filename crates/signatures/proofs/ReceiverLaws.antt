@@ -20,7 +20,7 @@ use Rattle.wire.specs.declared.Piece.{Piece}
 use Rattle.wire.specs.declared.Piece.the-variants as piece
 use Rattle.wire.proofs.Later.{gives-any}
 use Rattle.wire.proofs.WalkLaws.{ok-same}
-use Rattle.schema.specs.Declarations.{Ty}
+use Rattle.rows.specs.Declarations.{Ty}
 use Rattle.schema.specs.Reading.{Read, pure, _>>=_, Scope, lift}
 use Rattle.schema.specs.Types.{Walk, resolveAt, typeIn, declaredType}
 use Rattle.signatures.specs.ReceiversTold.{ReceiverTold}

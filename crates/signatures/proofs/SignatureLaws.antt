@@ -18,10 +18,11 @@ use Rattle.messages.specs.declared.Embedded.the-variants as embedded
 use Rattle.names.specs.Name.{nameText}
 use Rattle.schema.specs.Fields.{Property·property-signature, JvmMethodSignature·desc, JvmPropertySignature·field}
 use Rattle.schema.specs.Reading.{pure, _>>=_, Scope, nameIn}
-use Rattle.schema.specs.Members.{signed, signatureOf, signatureIn, fieldOf, fieldIn, ofSignature}
-use Rattle.schema.specs.Written.{signatureBy}
+use Rattle.schema.specs.Members.{signatureOf, signatureIn, fieldOf, fieldIn, ofSignature}
+use Rattle.rows.specs.Declarations.{signed}
+use Rattle.rows.specs.Written.{signatureBy}
 use Rattle.signatures.specs.SignaturesTold.{NamesTold, SignedTold, AccessorTold, ThreeTold, PropertySignedTold}
-use Rattle.schema.specs.declared.rows.SignatureNames.{SignatureNames}
+use Rattle.rows.specs.declared.SignatureNames.{SignatureNames}
 use Rattle.signatures.specs.declared.signatures.Signed.{Signed}
 use Rattle.signatures.specs.declared.signatures.Signed.the-variants as answer
 use Rattle.signatures.specs.declared.signatures.PropertyNames.{PropertyNames}

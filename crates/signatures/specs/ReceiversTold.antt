@@ -7,7 +7,7 @@ use mathlib.Core.Option.{Option}
 use Prim.Native.Nat.{ℕ}
 use Rattle.foundation.specs.Results.{ok, _from_}
 use Rattle.wire.specs.Wire.{Message, cut}
-use Rattle.schema.specs.Declarations.{Ty}
+use Rattle.rows.specs.Declarations.{Ty}
 use Rattle.schema.specs.Reading.{Scope}
 use Rattle.schema.specs.Types.{declaredType}
 use Rattle.schema.specs.Members.{receiverIn}

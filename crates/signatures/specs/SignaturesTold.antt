@@ -22,9 +22,10 @@ use Rattle.schema.specs.Fields.{
   JvmPropertySignature·setter,
 }
 use Rattle.schema.specs.Reading.{Scope, nameIn}
-use Rattle.schema.specs.Members.{signed, signatureIn, fieldIn, ofSignature}
-use Rattle.schema.specs.Written.{signatureBy}
-use Rattle.schema.specs.declared.rows.SignatureNames.{SignatureNames}
+use Rattle.schema.specs.Members.{signatureIn, fieldIn, ofSignature}
+use Rattle.rows.specs.Declarations.{signed}
+use Rattle.rows.specs.Written.{signatureBy}
+use Rattle.rows.specs.declared.SignatureNames.{SignatureNames}
 use Rattle.signatures.specs.declared.signatures.Signed.{Signed}
 use Rattle.signatures.specs.declared.signatures.Signed.the-variants as answer
 use Rattle.signatures.specs.declared.signatures.PropertyNames.{PropertyNames}

@@ -12,7 +12,7 @@ ghost use Rattle.names.specs.Name.{nameText};
 ghost use Rattle.schema.specs.Reading.{Scope};
 ghost use Rattle.schema.specs.Members.{fieldIn};
 ghost use Rattle.schema.specs.Told.{NamesOf};
-ghost use Rattle.schema.specs.Written.{signatureBy};
+ghost use Rattle.rows.specs.Written.{signatureBy};
 ghost use Rattle.signatures.specs.SignaturesTold.{NamesTold, SignedTold, ThreeTold, PropertySignedTold, AccessorsDue};
 use messages::Checked;
 use messages::Embedded;
@@ -20,8 +20,8 @@ use messages::message;
 use names::name::Name;
 use names::name::absent;
 use names::name::is_there;
+use rows::SignatureNames;
 use schema::name::name_in;
-use schema::rows::SignatureNames;
 use wire::WireError;
 
 // Field numbers of jvm_metadata.proto: JvmMethodSignature and JvmFieldSignature, JvmPropertySignature, and a property's signature.

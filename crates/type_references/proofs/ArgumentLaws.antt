@@ -27,7 +27,7 @@ use Rattle.wire.proofs.WalkLaws.{whole}
 use Rattle.characters.specs.Characters.{partFrom}
 use Rattle.characters.proofs.PartLaws.{part-part, part-short}
 use Rattle.schema.specs.Fields.{Type·argument, Type·Argument·type, Type·Argument·type-id}
-use Rattle.schema.specs.Declarations.{Ty}
+use Rattle.rows.specs.Declarations.{Ty}
 use Rattle.schema.specs.Reading.{Read, pure, keep, kept, Scope, allowance}
 use Rattle.schema.specs.Types.{maxDepth, typeIn, argumentIn, typeAt}
 use Rattle.schema.specs.TypesTold.{orNullable, EntryIs, EntryTold}

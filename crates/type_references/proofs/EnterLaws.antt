@@ -26,10 +26,10 @@ use Rattle.sheet.specs.declared.State.{State}
 use Rattle.sheet.proofs.PutLaws.{put-sheet, put-text, put-types, put-left, put-none, row-counted}
 use Rattle.sheet.proofs.RowLaws.{bodyLength, rowsLength, sheet-length}
 use Rattle.schema.specs.Fields.{Type·argument, Type·nullable, Type·class-name}
-use Rattle.schema.specs.Declarations.{noTypes, andType, Ty, typesOf}
+use Rattle.rows.specs.Declarations.{noTypes, andType, Ty, typesOf}
 use Rattle.schema.specs.Reading.{pure, kept, Scope, classNameIn, allowance}
 use Rattle.schema.specs.Types.{maxDepth, argumentIn, typeAt}
-use Rattle.schema.specs.Rows.{named, typesRows}
+use Rattle.rows.specs.Rows.{named, typesRows}
 use Rattle.schema.specs.Told.{Lent, NamesOf, Ready, Spends, refusal}
 use Rattle.schema.specs.TypesTold.{orNullable, rowsIn}
 use Rattle.schema.specs.FoundTold.{TableOf}

@@ -16,10 +16,10 @@ use Rattle.sheet.specs.Put.{PutRows}
 use Rattle.sheet.specs.declared.State.{State}
 use Rattle.sheet.proofs.PutLaws.{put-none, rows-then}
 use Rattle.schema.specs.Fields.{Type·Argument·type, Type·Argument·type-id}
-use Rattle.schema.specs.Declarations.{Ty}
+use Rattle.rows.specs.Declarations.{Ty}
 use Rattle.schema.specs.Reading.{Read, pure, keep, kept, Scope, allowance}
 use Rattle.schema.specs.Types.{resolveAt, typeIn, argumentIn, typeAt}
-use Rattle.schema.specs.Rows.{argumentRole, typesRows, typeRows}
+use Rattle.rows.specs.Rows.{argumentRole, typesRows, typeRows}
 use Rattle.schema.specs.Told.{WalkedTold}
 use Rattle.schema.specs.TypesTold.{orNullable, rowsIn}
 use Rattle.schema.specs.declared.Walked.{Walked}

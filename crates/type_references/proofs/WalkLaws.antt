@@ -26,10 +26,10 @@ use Rattle.sheet.specs.Put.{PutRows}
 use Rattle.sheet.specs.declared.State.{State}
 use Rattle.sheet.proofs.PutLaws.{put-types, put-left}
 use Rattle.schema.specs.Fields.{Type·argument, Type·Argument·type}
-use Rattle.schema.specs.Declarations.{Ty}
+use Rattle.rows.specs.Declarations.{Ty}
 use Rattle.schema.specs.Reading.{kept, Scope, allowance}
 use Rattle.schema.specs.Types.{maxDepth, resolveAt, argumentIn, typeAt}
-use Rattle.schema.specs.Rows.{argumentRole}
+use Rattle.rows.specs.Rows.{argumentRole}
 use Rattle.schema.specs.Told.{Lent, Scoped, Ready, Spends, WalkedSpends, PickedSpends, PickedTold, refusal}
 use Rattle.schema.specs.TypesTold.{orNullable, rowsIn, ResolveTold}
 use Rattle.schema.specs.declared.Tables.{Tables}

@@ -8,7 +8,7 @@ use Rattle.wire.specs.Wire.{Message, cut}
 use Rattle.sheet.specs.declared.State.{State}
 use Rattle.schema.specs.Reading.{Scope}
 use Rattle.schema.specs.Types.{declaredType}
-use Rattle.schema.specs.Rows.{typeRows}
+use Rattle.rows.specs.Rows.{typeRows}
 use Rattle.schema.specs.Told.{Lent, Scoped, WalkedSpends, WalkedTold}
 use Rattle.schema.specs.TypesTold.{ResolveTold}
 use Rattle.schema.specs.declared.Walked.{Walked}

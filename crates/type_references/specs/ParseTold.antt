@@ -16,7 +16,7 @@ use Rattle.sheet.specs.Rows.{Row}
 use Rattle.sheet.specs.Put.{PutRows}
 use Rattle.sheet.specs.declared.State.{State}
 use Rattle.schema.specs.Fields.{Type·argument, Type·Argument·type, Type·Argument·type-id}
-use Rattle.schema.specs.Declarations.{Ty}
+use Rattle.rows.specs.Declarations.{Ty}
 use Rattle.schema.specs.Reading.{Scope, kept, allowance}
 use Rattle.schema.specs.Types.{maxDepth, argumentIn, typeAt}
 use Rattle.schema.specs.Told.{Lent, Scoped, Ready, WalkedSpends, WalkedTold, refusal}

@@ -10,10 +10,10 @@ use Rattle.wire.specs.Messages.{messages}
 use Rattle.characters.specs.Characters.{partFrom}
 use Rattle.sheet.specs.Rows.{Row}
 use Rattle.schema.specs.Fields.{Type·argument}
-use Rattle.schema.specs.Declarations.{Ty, typesOf}
+use Rattle.rows.specs.Declarations.{Ty, typesOf}
 use Rattle.schema.specs.Reading.{Read, pure, _>>=_, kept, Scope, allowance}
 use Rattle.schema.specs.Types.{maxDepth, argumentIn, typeAt}
-use Rattle.schema.specs.Rows.{argumentRole, typesRows}
+use Rattle.rows.specs.Rows.{argumentRole, typesRows}
 
 -- what is read, as the rows that it comes to
 abbrev pub rowsRead : {A : Type 0} → (A → List Row) → Res (A × ℕ) → Res (List Row × ℕ)

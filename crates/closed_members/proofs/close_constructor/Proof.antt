@@ -13,8 +13,8 @@ use Rattle.closed_members.proofs.close_constructor.Reads as reads
 use Rattle.closed_members.proofs.close_constructor.Lts as lts
 use Rattle.closed_members.proofs.put_aside.Reads as put-aside-reads
 use Rattle.descriptors.proofs.defaults.constructor_default.Reads as constructor-default-reads
-use Rattle.schema.proofs.rows.put_default.Reads as put-default-reads
-use Rattle.schema.proofs.rows.put_default_absent.Reads as put-default-absent-reads
+use Rattle.rows.proofs.put_default.Reads as put-default-reads
+use Rattle.rows.proofs.put_default_absent.Reads as put-default-absent-reads
 
 -- src/lib.rt:78:9
 slice-aggregate-constructor-default : tie.Need-slice-aggregate-constructor-default

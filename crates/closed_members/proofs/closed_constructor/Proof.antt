@@ -1,5 +1,5 @@
 use Rattle.schema.specs.Members.{constructorIn}
-use Rattle.schema.specs.Rows.{constructorRows}
+use Rattle.rows.specs.Rows.{constructorRows}
 use Rattle.schema.specs.Told.{lent}
 use Rattle.descriptors.specs.Defaults.{constructorParts, closedConstructor}
 use Rattle.closed_members.proofs.ClosedLaws.{member-room, closing-room, closed-dropped, closed-refused, closed-kept, constructor-closed}

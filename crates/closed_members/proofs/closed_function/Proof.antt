@@ -1,5 +1,5 @@
 use Rattle.schema.specs.Members.{functionIn}
-use Rattle.schema.specs.Rows.{functionRows}
+use Rattle.rows.specs.Rows.{functionRows}
 use Rattle.schema.specs.Told.{lent}
 use Rattle.descriptors.specs.Defaults.{functionParts, closedFunction}
 use Rattle.closed_members.proofs.ClosedLaws.{member-room, closing-room, closed-dropped, closed-refused, closed-kept, function-closed}

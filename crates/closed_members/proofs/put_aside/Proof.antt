@@ -4,7 +4,7 @@ use Rattle.closed_members.proofs.put_aside.Statement.{statement}
 use Rattle.closed_members.proofs.put_aside.Tie as tie
 use Rattle.closed_members.proofs.put_aside.Reads as reads
 use Rattle.closed_members.proofs.put_aside.Lts as lts
-use Rattle.schema.proofs.rows.put_default.Reads as put-default-reads
+use Rattle.rows.proofs.put_default.Reads as put-default-reads
 use Rattle.sheet.proofs.put_all.Reads as put-all-reads
 
 -- src/lib.rt:41:5

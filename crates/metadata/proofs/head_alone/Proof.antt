@@ -9,8 +9,8 @@ use Rattle.metadata.proofs.head_alone.Lts as lts
 use Rattle.decoding.proofs.start.Reads as start-reads
 use Rattle.inputs.proofs.outcome.refused.Reads as refused-reads
 use Rattle.names.proofs.name.absent.Reads as absent-reads
-use Rattle.schema.proofs.rows.put_head.Reads as put-head-reads
-use Rattle.schema.proofs.rows.put_head_counts.Reads as put-head-counts-reads
+use Rattle.rows.proofs.put_head.Reads as put-head-reads
+use Rattle.rows.proofs.put_head_counts.Reads as put-head-counts-reads
 
 -- src/lib.rt:43:9
 refused-requires : tie.Need-refused-requires

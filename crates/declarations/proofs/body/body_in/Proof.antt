@@ -10,7 +10,7 @@ use Rattle.declarations.proofs.body.body_in.Reads as reads
 use Rattle.declarations.proofs.body.body_in.Lts as lts
 use Rattle.declarations.proofs.body.head_in.Reads as head-in-reads
 use Rattle.declarations.proofs.body.members_in.Reads as members-in-reads
-use Rattle.schema.proofs.rows.put_head_counts.Reads as put-head-counts-reads
+use Rattle.rows.proofs.put_head_counts.Reads as put-head-counts-reads
 
 -- src/body.rt:285:9
 head-in-requires : tie.Need-head-in-requires

@@ -8,7 +8,7 @@ use Rattle.declarations.proofs.body.head_in.Lts as lts
 use Rattle.signatures.proofs.flags.flags_in.Reads as flags-in-reads
 use Rattle.names.proofs.name.absent.Reads as absent-reads
 use Rattle.schema.proofs.name.class_name_in.Reads as class-name-in-reads
-use Rattle.schema.proofs.rows.put_head.Reads as put-head-reads
+use Rattle.rows.proofs.put_head.Reads as put-head-reads
 
 -- src/body.rt:99:44
 absent-requires : tie.Need-absent-requires

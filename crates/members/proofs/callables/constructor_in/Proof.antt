@@ -11,8 +11,8 @@ use Rattle.members.proofs.callables.names_of.Reads as names-of-reads
 use Rattle.members.proofs.callables.refused_list.Reads as refused-list-reads
 use Rattle.signatures.proofs.flags.flags_in.Reads as flags-in-reads
 use Rattle.members.proofs.parameters.parameters_in.Reads as parameters-in-reads
-use Rattle.schema.proofs.rows.put_constructor.Reads as put-constructor-reads
-use Rattle.schema.proofs.rows.put_count.Reads as put-count-reads
+use Rattle.rows.proofs.put_constructor.Reads as put-constructor-reads
+use Rattle.rows.proofs.put_count.Reads as put-count-reads
 use Rattle.signatures.proofs.signatures.signature_in.Reads as signature-in-reads
 
 -- src/callables.rt:123:9

@@ -7,7 +7,7 @@ use Rattle.members.proofs.callables.function_head.Lts as lts
 use Rattle.signatures.proofs.receiver.has_receiver.Reads as has-receiver-reads
 use Rattle.members.proofs.callables.names_of.Reads as names-of-reads
 use Rattle.signatures.proofs.flags.flags_in.Reads as flags-in-reads
-use Rattle.schema.proofs.rows.put_function.Reads as put-function-reads
+use Rattle.rows.proofs.put_function.Reads as put-function-reads
 use Rattle.signatures.proofs.signatures.or_name.Reads as or-name-reads
 
 -- src/callables.rt:187:9

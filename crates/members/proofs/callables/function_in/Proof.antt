@@ -15,7 +15,7 @@ use Rattle.members.proofs.callables.function_types.Reads as function-ty
 use Rattle.members.proofs.callables.refused_list.Reads as refused-list-reads
 use Rattle.schema.proofs.name.name_in.Reads as name-in-reads
 use Rattle.members.proofs.parameters.parameters_in.Reads as parameters-in-reads
-use Rattle.schema.proofs.rows.put_count.Reads as put-count-reads
+use Rattle.rows.proofs.put_count.Reads as put-count-reads
 use Rattle.signatures.proofs.signatures.signature_in.Reads as signature-in-reads
 use Rattle.schema.proofs.types.picked.Reads as picked-reads
 

@@ -12,7 +12,7 @@ use Rattle.names.proofs.name.is_there.Reads as is-there-reads
 use Rattle.schema.proofs.name.name_in.Reads as name-in-reads
 use Rattle.members.proofs.parameters.declares_default.Reads as declares-default-reads
 use Rattle.members.proofs.parameters.parameter_types.Reads as parameter-types-reads
-use Rattle.schema.proofs.rows.put_parameter.Reads as put-parameter-reads
+use Rattle.rows.proofs.put_parameter.Reads as put-parameter-reads
 use Rattle.schema.proofs.types.picked.Reads as picked-reads
 
 -- src/parameters.rt:141:9

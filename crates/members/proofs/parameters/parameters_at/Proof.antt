@@ -3,7 +3,7 @@ use Prim.Native.Nat.{_-_}
 use native.Mathlib.Omega.{arith}
 use lib.ListN.{length}
 use Rattle.schema.specs.Members.{parameterIn}
-use Rattle.schema.specs.Rows.{parameterRows}
+use Rattle.rows.specs.Rows.{parameterRows}
 use Rattle.schema.specs.Told.{lent}
 use Rattle.schema.specs.MembersTold.{parameterCost}
 use Rattle.schema.proofs.ParseLaws.{part-inside}

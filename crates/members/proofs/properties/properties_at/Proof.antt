@@ -3,7 +3,7 @@ use Prim.Native.Nat.{_-_, _^_}
 use native.Mathlib.Omega.{arith}
 use lib.ListN.{length}
 use Rattle.schema.specs.Members.{propertyIn}
-use Rattle.schema.specs.Rows.{propertyRows}
+use Rattle.rows.specs.Rows.{propertyRows}
 use Rattle.schema.specs.Told.{lent}
 use Rattle.schema.proofs.ParseLaws.{part-inside}
 use Rattle.schema.proofs.ListLaws.{Looping, bytes-cheap, loop-start, member-in, member-affords, loop-end, loop-refused, loop-dropped, loop-kept}

@@ -7,7 +7,7 @@ use Rattle.members.proofs.properties.put_record.Lts as lts
 use Rattle.signatures.proofs.receiver.has_receiver.Reads as has-receiver-reads
 use Rattle.signatures.proofs.flags.flags_in.Reads as flags-in-reads
 use Rattle.members.proofs.properties.is_default.Reads as is-default-reads
-use Rattle.schema.proofs.rows.put_property.Reads as put-property-reads
+use Rattle.rows.proofs.put_property.Reads as put-property-reads
 use Rattle.signatures.proofs.signatures.Signed.names.Reads as names-reads
 
 -- src/properties.rt:77:9

@@ -1,0 +1,73 @@
+-- The declarations that one class's metadata comes to.
+-- Assumes nothing.
+use mathlib.Core.Bool.{Bool}
+use mathlib.Core.List.{List, [], _∷_}
+use mathlib.Core.Option.{Option}
+use Prim.Native.Nat.{ℕ, suc}
+use Rattle.foundation.specs.Texts.{Text}
+
+-- Types one after the other, each with whether it is nullable, its name, and its kept arguments.
+pub data Types : Type 0 where
+  noTypes : Types
+  andType : Bool → Option Text → Types → Types → Types
+
+pub record Ty : Type 0 where
+  pub nullable : Bool
+  pub name : Option Text
+  pub arguments : Types
+
+abbrev pub typesOf : List Ty → Types
+typesOf [] = noTypes
+typesOf (t ∷ ts) = andType (t .nullable) (t .name) (t .arguments) (typesOf ts)
+
+-- how many stand side by side
+abbrev pub countOf : Types → ℕ
+countOf noTypes = 0
+countOf (andType nullable name arguments after) = suc (countOf after)
+
+pub record Signature : Type 0 where
+  pub name : Text
+  pub descriptor : Text
+
+abbrev pub signed : Text → Text → Signature
+signed n d = record { name = n; descriptor = d }
+
+-- The name is an option, though every parameter that is read has one: those without are skipped.
+pub record Parameter : Type 0 where
+  pub name : Option Text
+  pub declaresDefault : Bool
+  pub type : Option Ty
+  pub varargElement : Option Ty
+
+pub record Constructor : Type 0 where
+  pub flags : ℕ
+  pub parameters : List Parameter
+  pub signature : Option Signature
+
+pub record Function : Type 0 where
+  pub name : Text
+  pub flags : ℕ
+  pub parameters : List Parameter
+  pub hasReceiver : Bool
+  pub receiver : Option Ty
+  pub signature : Option Signature
+  pub returned : Option Ty
+
+pub record Property : Type 0 where
+  pub name : Text
+  pub flags : ℕ
+  pub field : Option Signature
+  pub getter : Option Signature
+  pub setter : Option Signature
+  pub getterIsDefault : Bool
+  pub setterIsDefault : Bool
+  pub hasReceiver : Bool
+  pub receiver : Option Ty
+  pub type : Option Ty
+
+pub record Declarations : Type 0 where
+  pub name : Option Text
+  pub flags : ℕ
+  pub constructors : List Constructor
+  pub functions : List Function
+  pub properties : List Property
