@@ -1,7 +1,7 @@
 #!/usr/bin/env python3
 """Tries the wrong answers of tools/wrong_answers.tsv: the prover must refuse each at what its function's contract asks.
 
-usage: tools/wrong_answers.py [--list] [NAME..]     NAME is a crate, or a module or function of it: wire, wire::reader, wire::message::find
+usage: tools/wrong_answers.py [--list] [NAME..]     NAME is a crate, or a module or function of it: messages, messages::reader, messages::find
                                                     no name: all; --list: only tests that the edits fit the files
 
 A line of the table is one edit: crate, file, function, old text, new text, what is wrong, with tabs between. The old text stands once in the function.
