@@ -5,6 +5,7 @@ ghost use lib.IntN.{ℤ};
 ghost use Rattle.names.specs.Names.{endsFit};
 ghost use Rattle.inputs.specs.Inputs.{kindOf, faultOf};
 ghost use Rattle.inputs.specs.Told.{input, faultTold};
+use foundation::wide;
 
 pub mod outcome; // outcome.rt: numbers and details of refusals
 
@@ -35,12 +36,6 @@ pub fn kind_of(k: i32) -> u8
         5 => 5,
         _ => 1,
     }
-}
-
-fn wide(end: u32) -> usize
-    ensures { λ r. ⌜ r ≡ end ⌝ }
-{
-    end as usize
 }
 
 // Ends that don't fall and whose last (0 if there are none) is the unit count. The loop has no way out, so that the machine tests several at once.

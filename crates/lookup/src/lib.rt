@@ -18,6 +18,7 @@ pub mod qualified; // qualified.rt: class names by their index
 use crate::steps::Extent;
 use crate::steps::decides;
 use crate::steps::record_name;
+use foundation::wide;
 use names::name::Listed;
 use names::name::Name;
 use names::name::absent;
@@ -55,12 +56,6 @@ pub fn find_record(firsts: &[u64], count: usize, index: u32) -> Found
         }
     }
     Found::Record { at: low }
-}
-
-fn wide(n: u32) -> usize
-    ensures { λ r. ⌜ r ≡ n ⌝ }
-{
-    n as usize
 }
 
 // A string of d2, by where its strings end.

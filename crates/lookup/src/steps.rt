@@ -13,6 +13,7 @@ ghost use Rattle.names.specs.RecordTold.{bothOf};
 ghost use Rattle.lookup.specs.Steps.{known, SubstringTold, PieceFits, BaseTold, PartTold, StepsTold, BuiltTold};
 use characters::Place;
 use characters::find_place;
+use foundation::wide;
 use messages::Indexed;
 use messages::repeated::Two;
 use names::name::Listed;
@@ -85,12 +86,6 @@ fn base_of(string: Piece, index: Indexed, from: usize) -> Base
         start,
         end,
     }
-}
-
-fn wide(n: u32) -> usize
-    ensures { λ r. ⌜ r ≡ n ⌝ }
-{
-    n as usize
 }
 
 // The substring from byte place `first` to `last` of a part's text.

@@ -6,6 +6,7 @@ ghost use Prim.Native.Nat.{_-_};
 ghost use Rattle.schema.specs.TypesTold.{pickedOf, EntryTold};
 use crate::Picked;
 use crate::Walked;
+use foundation::wide;
 use wire::Piece;
 
 pub fn less(n: usize) -> usize
@@ -24,12 +25,6 @@ pub fn either(a: bool, b: bool) -> bool
         return true;
     }
     b
-}
-
-fn wide(n: u32) -> usize
-    ensures { λ r. ⌜ r ≡ n ⌝ }
-{
-    n as usize
 }
 
 pub fn picked(walked: Walked) -> Picked

@@ -5,7 +5,7 @@ use Rattle.lookup.proofs.d2_extent.Statement.{statement}
 use Rattle.lookup.proofs.d2_extent.Tie as tie
 use Rattle.lookup.proofs.d2_extent.Reads as reads
 use Rattle.lookup.proofs.d2_extent.Lts as lts
-use Rattle.lookup.proofs.wide.Reads as wide-reads
+use Rattle.foundation.proofs.wide.Reads as wide-reads
 
 -- src/lib.rt:60:9
 wide-requires : tie.Need-wide-requires

@@ -4,7 +4,7 @@ use Rattle.lookup.proofs.place_of.Statement.{statement}
 use Rattle.lookup.proofs.place_of.Tie as tie
 use Rattle.lookup.proofs.place_of.Reads as reads
 use Rattle.lookup.proofs.place_of.Lts as lts
-use Rattle.lookup.proofs.wide.Reads as wide-reads
+use Rattle.foundation.proofs.wide.Reads as wide-reads
 
 -- src/lib.rt:99:9
 returns : tie.Need-returns

@@ -10,7 +10,7 @@ use Rattle.lookup.proofs.steps.part_of.Reads as reads
 use Rattle.lookup.proofs.steps.part_of.Lts as lts
 use Rattle.names.proofs.name.base_part.Reads as base-part-reads
 use Rattle.lookup.proofs.steps.substring.Reads as substring-reads
-use Rattle.lookup.proofs.steps.wide.Reads as wide-reads
+use Rattle.foundation.proofs.wide.Reads as wide-reads
 
 -- src/steps.rt:113:32
 slice-aggregate-base-part : tie.Need-slice-aggregate-base-part

@@ -4,7 +4,7 @@ use Rattle.schema.proofs.types.entry_at.Statement.{statement}
 use Rattle.schema.proofs.types.entry_at.Tie as tie
 use Rattle.schema.proofs.types.entry_at.Reads as reads
 use Rattle.schema.proofs.types.entry_at.Lts as lts
-use Rattle.schema.proofs.types.wide.Reads as wide-reads
+use Rattle.foundation.proofs.wide.Reads as wide-reads
 
 -- src/types.rt:104:9
 wide-requires : tie.Need-wide-requires
