@@ -1,4 +1,4 @@
-// Names by their index. The definitions: specs/Names.antt, specs/Index.antt.
+// Names by their index. The definitions: names' specs/Names.antt and specs/Index.antt; what look-ups tell: specs/Found.antt.
 ghost use mathlib.Core.Path.{_≡_};
 ghost use mathlib.Core.Bool.{true};
 ghost use mathlib.Core.List.{List};

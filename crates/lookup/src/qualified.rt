@@ -1,4 +1,4 @@
-// Class names: without a leading L and a trailing ; if both are there, / and $ turned into dots. The definition: specs/Names.antt,
+// Class names: without a leading L and a trailing ; if both are there, / and $ turned into dots. The definition: names' specs/Names.antt,
 // `qualifiedName`; how the answers tell it: specs/Qualified.antt.
 ghost use mathlib.Core.Path.{_≡_};
 ghost use mathlib.Core.Bool.{true};

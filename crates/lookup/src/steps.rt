@@ -1,5 +1,5 @@
 // The name that a record builds: a part of what its text is made of, and what is done to its characters. The definitions:
-// specs/Records.antt; how the answers tell them: specs/Steps.antt.
+// names' specs/Records.antt; how the answers tell them: specs/Steps.antt.
 ghost use mathlib.Core.Bool.{_&&_, _||_};
 ghost use mathlib.Core.Path.{_≡_};
 ghost use mathlib.Core.List.{List};

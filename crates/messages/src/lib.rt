@@ -1,5 +1,5 @@
 // Messages: a slice that is cut into fields, and what it says of a field. A function that asks a message tells what the definitions say
-// where the slice can be cut, and is safe on any.
+// where the slice can be cut, and is safe on any. The definitions: wire's specs/Messages.antt; how the answers tell them: specs/Asked.antt.
 ghost use mathlib.Core.Path.{_≡_};
 ghost use Rattle.foundation.specs.Results.{ok, _from_};
 ghost use Rattle.wire.specs.Wire.{cut, Message};

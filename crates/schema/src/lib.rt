@@ -1,5 +1,5 @@
-// Declarations read from messages and written as records, in the specification's order. The definitions: specs/Types.antt,
-// specs/Members.antt, specs/Rows.antt; how the answers tell them: specs/Told.antt.
+// Declarations read from messages, in the specification's order. The definitions: specs/Types.antt, specs/Members.antt; how the answers
+// tell them: specs/Told.antt.
 use sheet::State;
 use wire::WireError;
 

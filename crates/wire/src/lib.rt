@@ -1,5 +1,5 @@
-// The wire format: varints, fields and messages in a slice `s` whose first byte has the offset `base` among the decoded bytes.
-// A place in it is `at`. The definitions: specs/Wire.antt, specs/Messages.antt; how the answers tell them: specs/Told.antt.
+// The wire format: varints and fields in a slice `s` whose first byte has the offset `base` among the decoded bytes. A place in it is
+// `at`. The definitions: specs/Wire.antt; how the answers tell them: specs/Told.antt.
 ghost use mathlib.Core.Path.{_≡_};
 ghost use mathlib.Core.List.{List};
 ghost use Prim.Native.Nat.{ℕ, _+_, _^_, _≤_, _<_};
