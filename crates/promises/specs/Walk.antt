@@ -11,19 +11,7 @@ use Rattle.foundation.specs.Texts.{Text}
 use Rattle.characters.specs.Characters.{fromUtf8}
 use Rattle.sheet.specs.Rows.{Cell, num, ref, Row}
 use Rattle.sheet.specs.Reading.{rowsOf}
-use Rattle.rows.specs.Declarations.{
-  Types,
-  noTypes,
-  andType,
-  Ty,
-  Signature,
-  Parameter,
-  Constructor,
-  Function,
-  Property,
-  Declarations,
-}
-use Rattle.rows.specs.Declarations.{signed}
+use Rattle.rows.specs.Declarations.{Types, noTypes, andType, Ty, Signature, Parameter, Constructor, Function, Property, Declarations, signed}
 use Rattle.descriptors.specs.Defaults.{functionParts, constructorParts, descriptor}
 use Rattle.rows.specs.Rows.{returnRole, receiverRole, parameterRole, varargRole, argumentRole}
 

@@ -20,24 +20,10 @@ use Rattle.wire.proofs.Bounds.{Bounded, varintOf-below, message-bounded, messag
 use Rattle.characters.specs.Characters.{isScalar}
 use Rattle.characters.specs.WellFormed.{Characters}
 use Rattle.names.specs.Names.{Names, string, qualifiedName}
-use Rattle.rows.specs.Declarations.{
-  Types,
-  noTypes,
-  andType,
-  Ty,
-  typesOf,
-  countOf,
-  Signature,
-  Parameter,
-  Constructor,
-  Function,
-  Property,
-  Declarations,
-}
+use Rattle.rows.specs.Declarations.{Types, noTypes, andType, Ty, typesOf, countOf, Signature, Parameter, Constructor, Function, Property, Declarations, signed}
 use Rattle.schema.specs.Reading.{Read, pure, _>>=_, lift, enter, keep, kept, Scope, scope, nameIn, classNameIn, allowance}
 use Rattle.schema.specs.Types.{Walk, maxDepth, resolveAt, typeIn, argumentIn, parseAt, typeAt, declaredType, typeTableIn}
 use Rattle.schema.specs.Members.{flagsIn, named, signatureOf, signatureIn, fieldOf, forgiven, fieldIn, ofSignature, parameterIn, listIn, constructorIn, functionIn, propertyIn, membersIn, classBody, packageBody}
-use Rattle.rows.specs.Declarations.{signed}
 
 -- each of them a Unicode scalar value
 -- Fine is what its row can say: names of characters, flags of 64 bits, counts of 16.
