@@ -30,7 +30,7 @@ use Rattle.inputs.specs.Outcomes as R
 use Rattle.inputs.specs.Outcomes.{refusal}
 use Rattle.inputs.specs.Told.{input}
 use Rattle.declarations.specs.Payload.{declarationRows}
-use Rattle.decoding.specs.Answered.{answered, written, sheetWritten, accepted, textLimit}
+use Rattle.areas.specs.Answered.{answered, written, sheetWritten, accepted, textLimit}
 use Rattle.metadata.specs.Read.{read, reading}
 use Rattle.metadata.specs.declared.Answer.{Answer}
 use Rattle.metadata.specs.ReadTold.{toldBy}

@@ -1,55 +1,24 @@
--- What the code's answers tell of the whole reading: the measuring walk, both areas written.
+-- What the code's answers tell of the whole reading: the measuring walk, an answer or no room.
 -- Assumes nothing.
 use mathlib.Core.Path.{_≡_}
-use mathlib.Core.Bool.{true}
-use mathlib.Core.List.{List, _++_}
-use mathlib.Core.Option.{Option}
+use mathlib.Core.List.{List}
 use Prim.Native.Nat.{ℕ, _*_, _≤_, _<_}
-use lib.ListN.{length, drop}
+use lib.ListN.{length}
 use Rattle.foundation.specs.Choices.{if_then_else_}
-use Rattle.foundation.specs.Results.{Res, ok, _>>=_}
-use Rattle.foundation.specs.Texts.{Text}
-use Rattle.encoding.specs.Encoding.{decoded, unitLimit}
-use Rattle.sheet.specs.Rows.{texts, sheetFrom}
-use Rattle.sheet.specs.Put.{PutRows}
-use Rattle.sheet.specs.declared.State.{State}
-use Rattle.names.specs.Names.{stringsFrom, d2String, endsFit}
+use Rattle.foundation.specs.Results.{Res, _>>=_}
+use Rattle.encoding.specs.Encoding.{decoded}
 use Rattle.rows.specs.Declarations.{Declarations}
-use Rattle.schema.specs.Reading.{allowance}
 use Rattle.schema.specs.Told as schema
-use Rattle.schema.specs.declared.Tables.{Tables}
 use Rattle.inputs.specs.Inputs.{carriesDeclarations}
 use Rattle.inputs.specs.Outcomes.{told}
-use Rattle.declarations.specs.Payload.{payload, declarationRows}
-use Rattle.declarations.specs.PayloadTold.{OpenedAt, IndexRoom}
-use Rattle.decoding.specs.Answered.{nothingRead, answered}
+use Rattle.declarations.specs.Payload.{payload}
+use Rattle.declarations.specs.PayloadTold.{IndexRoom}
+use Rattle.areas.specs.Answered.{nothingRead, answered}
+use Rattle.areas.specs.AreaTold.{strings, MeasuredAt}
 use Rattle.decoding.specs.declared.Measured.{Measured}
 use Rattle.decoding.specs.declared.Measured.the-variants as measured
 use Rattle.decoding.specs.declared.Core.{Core}
 use Rattle.decoding.specs.declared.Core.the-variants as core
-
--- the action that looks a string of d2 up
-abbrev pub strings : List ℕ → List ℕ → ℕ → Res (Option Text)
-strings d2 ends = d2String (stringsFrom 0 ends d2)
-
--- What the host has kept to: neither d1's bytes nor d2 is too long, and the ends fit.
-pub record Kept (bytes d2 ends : List ℕ) : Type 0 where
-  pub bytes-short : length bytes ≤ unitLimit
-  pub d2-short : length d2 ≤ unitLimit
-  pub fit : endsFit 0 ends (length d2) ≡ true
-
-abbrev pub start : State
-start = record { sheet = 0; text = 0; types = allowance }
-
--- The decoded bytes are read, their rows measured, and written where two areas hold them: what is lent is theirs.
-pub record MeasuredAt (kind : ℕ) (bytes d2 ends starts stops firsts entryStarts entryEnds : List ℕ) (at : ℕ) (tables : Tables) (end : State) (S T : List ℕ) : Type 0 where
-  pub opened : OpenedAt bytes starts stops firsts entryStarts entryEnds at tables
-  pub declarations : Declarations
-  pub left : ℕ
-  pub reads : payload kind (strings d2 ends) bytes ≡ ok (declarations, left)
-  pub S₀ : List ℕ
-  pub T₀ : List ℕ
-  pub put : PutRows (declarationRows kind declarations) left start end S₀ S T₀ T
 
 abbrev pub MeasuredTold : ℕ → List ℕ → List ℕ → List ℕ → List ℕ → List ℕ → List ℕ → List ℕ → List ℕ → Measured → (S T : List ℕ) → Type 0
 MeasuredTold kind bytes d2 ends starts stops firsts entryStarts entryEnds (measured.Read at tables end) S T =
@@ -80,10 +49,3 @@ readingOf kind d1 d2 ends = decoded d1 >>= payload kind (strings d2 ends)
 -- and of any kind
 abbrev pub readingBy : ℕ → List ℕ → List ℕ → List ℕ → Res (Declarations × ℕ)
 readingBy kind d1 d2 ends = let body = readingOf kind d1 d2 ends in if carriesDeclarations kind then body else nothingRead
-
--- Both areas hold the rows of what was read, and what they held before past them.
-abbrev pub WrittenOut : ℕ → Res (Declarations × ℕ) → (S S′ T T′ : List ℕ) → Type 0
-WrittenOut kind r S S′ T T′ =
-    (d : Declarations) (left : ℕ) → r ≡ ok (d, left)
-    → (S′ ≡ sheetFrom 0 (declarationRows kind d) ++ drop (length (sheetFrom 0 (declarationRows kind d))) S)
-    × (T′ ≡ texts (declarationRows kind d) ++ drop (length (texts (declarationRows kind d))) T)

@@ -18,7 +18,7 @@ use Rattle.inputs.specs.Inputs.{laterFault, faultOf}
 use Rattle.erasure.specs.Erasure.{lookUp, firstErased, erased, erasedReturn, print}
 use Rattle.descriptors.specs.Defaults.{functionParts, constructorParts, descriptor, closedConstructor, closedFunction}
 use Rattle.declarations.specs.Payload.{payload, declarationRows}
-use Rattle.decoding.specs.Answered.{sheetWritten, written}
+use Rattle.areas.specs.Answered.{sheetWritten, written}
 use Rattle.metadata.specs.Read.{reading, read}
 use Rattle.examples.specs.Cases.{Case, holds}
 

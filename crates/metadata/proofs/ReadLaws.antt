@@ -46,9 +46,10 @@ use Rattle.inputs.specs.Outcomes.{told, RefusedAs}
 use Rattle.inputs.specs.declared.Fault.{Fault}
 use Rattle.inputs.specs.declared.Fault.the-variants as fault
 use Rattle.inputs.specs.declared.outcome.Outcome.{Outcome}
-use Rattle.decoding.specs.Answered as answers
-use Rattle.decoding.specs.Answered.{headAlone, nothingRead, sheetWritten, answered}
-use Rattle.decoding.specs.DecodeTold.{Kept, start, CoreTold, readingOf, readingBy}
+use Rattle.areas.specs.Answered as answers
+use Rattle.areas.specs.Answered.{headAlone, nothingRead, sheetWritten, answered}
+use Rattle.areas.specs.AreaTold.{Kept, start}
+use Rattle.decoding.specs.DecodeTold.{CoreTold, readingOf, readingBy}
 use Rattle.decoding.specs.declared.Core.{Core}
 use Rattle.decoding.specs.declared.Core.the-variants as core
 use Rattle.metadata.specs.Read.{reading, read}

@@ -10,7 +10,7 @@ use Rattle.rows.specs.Declarations.{Declarations}
 use Rattle.inputs.specs.Inputs.{Input, kindOf, carriesDeclarations, faultOf}
 use Rattle.inputs.specs.Outcomes.{Answer}
 use Rattle.declarations.specs.Payload.{payload}
-use Rattle.decoding.specs.Answered.{nothingRead, answered}
+use Rattle.areas.specs.Answered.{nothingRead, answered}
 
 -- The declarations, and how many types might still be entered.
 unfoldable pub reading : Input → Res (Declarations × ℕ)

@@ -37,7 +37,7 @@ use Rattle.inputs.specs.Refusals.{numberOf}
 use Rattle.inputs.specs.Inputs.{Input, kindOf}
 use Rattle.inputs.specs.Outcomes.{Answer, refusal}
 use Rattle.declarations.specs.Payload.{declarationRows}
-use Rattle.decoding.specs.Answered.{textLimit, accepted, sheetWritten, written, answered}
+use Rattle.areas.specs.Answered.{textLimit, accepted, sheetWritten, written, answered}
 use Rattle.metadata.specs.Read.{reading, read}
 
 -- no refusal has number 0

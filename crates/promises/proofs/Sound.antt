@@ -29,7 +29,7 @@ use Rattle.schema.proofs.Fine.{NamesFine, FineDeclarations, class-fine, package
 use Rattle.schema.proofs.TypeCount.{class-enters, package-enters}
 use Rattle.inputs.specs.Inputs.{Input, kindOf, carriesDeclarations, laterFault, faultOf}
 use Rattle.declarations.specs.Payload.{bodyOf, payload}
-use Rattle.decoding.specs.Answered.{headAlone}
+use Rattle.areas.specs.Answered.{headAlone}
 use Rattle.metadata.specs.Read.{reading}
 
 -- the form gives no more bytes than units

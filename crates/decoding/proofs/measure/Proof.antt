@@ -1,11 +1,12 @@
-use Rattle.decoding.proofs.DecodeLaws.{start-affords, opened-is, opened-refused, opened-no-room, measured-read, measured-stops}
+use Rattle.areas.proofs.AreaLaws.{start-affords, measured-read, measured-stops}
+use Rattle.decoding.proofs.DecodeLaws.{opened-is, opened-refused, opened-no-room}
 use borrow.Author.Needs.{needs}
 use Rattle.decoding.proofs.measure.Statement.{statement}
 use Rattle.decoding.proofs.measure.Tie as tie
 use Rattle.decoding.proofs.measure.Reads as reads
 use Rattle.decoding.proofs.measure.Lts as lts
 use Rattle.declarations.proofs.body.body_in.Reads as body-in-reads
-use Rattle.decoding.proofs.start.Reads as start-reads
+use Rattle.areas.proofs.start.Reads as start-reads
 use Rattle.declarations.proofs.payload.open_payload.Reads as open-payload-reads
 
 -- src/lib.rt:75:9

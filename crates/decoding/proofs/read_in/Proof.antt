@@ -6,7 +6,7 @@ use Rattle.decoding.proofs.read_in.Tie as tie
 use Rattle.decoding.proofs.read_in.Reads as reads
 use Rattle.decoding.proofs.read_in.Lts as lts
 use Rattle.decoding.proofs.measure.Reads as measure-reads
-use Rattle.decoding.proofs.write_in.Reads as write-in-reads
+use Rattle.areas.proofs.write_in.Reads as write-in-reads
 use Rattle.inputs.proofs.outcome.stop_refusal.Reads as stop-refusal-reads
 
 -- src/lib.rt:238:9

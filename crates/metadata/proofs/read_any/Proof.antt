@@ -1,7 +1,7 @@
 use mathlib.Core.Path.{_≡_, sym, subst}
 use Prim.Native.Nat.{ℕ}
 use Rattle.inputs.specs.Outcomes.{told}
-use Rattle.decoding.specs.Answered.{answered}
+use Rattle.areas.specs.Answered.{answered}
 use Rattle.decoding.specs.DecodeTold.{readingOf}
 use borrow.Author.Needs.{needs}
 use Rattle.metadata.proofs.read_any.Statement.{statement}

@@ -1,13 +1,13 @@
 use native.Mathlib.Omega.{arith}
 use lib.ListN.{length-take}
-use Rattle.decoding.proofs.DecodeLaws.{start-affords, copied-out, walked-out}
+use Rattle.areas.proofs.AreaLaws.{start-affords, copied-out, walked-out}
 use borrow.Author.Needs.{needs}
-use Rattle.decoding.proofs.write_out.Statement.{statement}
-use Rattle.decoding.proofs.write_out.Tie as tie
-use Rattle.decoding.proofs.write_out.Reads as reads
-use Rattle.decoding.proofs.write_out.Lts as lts
+use Rattle.areas.proofs.write_out.Statement.{statement}
+use Rattle.areas.proofs.write_out.Tie as tie
+use Rattle.areas.proofs.write_out.Reads as reads
+use Rattle.areas.proofs.write_out.Lts as lts
 use Rattle.declarations.proofs.body.body_in.Reads as body-in-reads
-use Rattle.decoding.proofs.start.Reads as start-reads
+use Rattle.areas.proofs.start.Reads as start-reads
 use Rattle.sheet.proofs.put_all.Reads as put-all-reads
 
 -- src/lib.rt:136:31

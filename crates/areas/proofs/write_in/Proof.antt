@@ -1,10 +1,10 @@
-use Rattle.decoding.proofs.DecodeLaws.{types-left, text-past-limit, text-past-area, sheet-over, all-written}
+use Rattle.areas.proofs.AreaLaws.{types-left, text-past-limit, text-past-area, sheet-over, all-written}
 use borrow.Author.Needs.{needs}
-use Rattle.decoding.proofs.write_in.Statement.{statement}
-use Rattle.decoding.proofs.write_in.Tie as tie
-use Rattle.decoding.proofs.write_in.Reads as reads
-use Rattle.decoding.proofs.write_in.Lts as lts
-use Rattle.decoding.proofs.write_out.Reads as write-out-reads
+use Rattle.areas.proofs.write_in.Statement.{statement}
+use Rattle.areas.proofs.write_in.Tie as tie
+use Rattle.areas.proofs.write_in.Reads as reads
+use Rattle.areas.proofs.write_in.Lts as lts
+use Rattle.areas.proofs.write_out.Reads as write-out-reads
 use Rattle.inputs.proofs.outcome.refused.Reads as refused-reads
 
 -- src/lib.rt:184:9
