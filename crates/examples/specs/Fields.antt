@@ -48,4 +48,10 @@ cases =
     -- flags as bytes first: omitted, 6
     ∷ given (pos 1) (pos 1 ∷ pos 9 ∷ pos 0 ∷ []) (hex "00000a000809") (hex "") ([]) 22 2
     (gives 0 0 0 "0101ffffffff0600000000000000000000000000" "")
+    -- a return type as varint first: none, whatever message follows
+    ∷ given (pos 2) (pos 1 ∷ pos 9 ∷ pos 0 ∷ []) (hex "00001a08100018001a023000") (hex "66") (1 ∷ []) 51 3
+    (gives 0 0 0 "0102ffffffff060000000000000000000100000003000001000600000000000000ffffffffffffffff00000007ffffffff" "66")
+    -- a parameter as varint is passed over, the message after it is read
+    ∷ given (pos 2) (pos 1 ∷ pos 9 ∷ pos 0 ∷ []) (hex "00001a081000300032021000") (hex "66") (1 ∷ []) 57 4
+    (gives 0 0 0 "0102ffffffff060000000000000000000100000003000001000600000000000000ffffffffffffffff00010005010001000007ffffffff" "6666")
     ∷ []

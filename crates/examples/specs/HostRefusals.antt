@@ -1,4 +1,4 @@
--- Refusals 1 to 3: inputs with the answers that the Rust gave.
+-- Refusal 3: inputs with the answers that the specification gives; the Rust has no refusals 1 to 3.
 -- Assumes nothing.
 use mathlib.Core.List.{List, [], _∷_}
 use lib.IntN.{pos}

@@ -1,7 +1,7 @@
 -- Refusals 4 to 6, kinds and versions: inputs with the answers that the Rust gave.
 -- Assumes nothing.
 use mathlib.Core.List.{List, [], _∷_}
-use lib.IntN.{pos}
+use lib.IntN.{pos, negsuc}
 use Rattle.examples.specs.Cases.{Case, given, gives, hex, units}
 
 abbrev pub cases : List Case
@@ -33,4 +33,9 @@ cases =
     -- kind 2: class name, flags and constructors unread
     ∷ given (pos 2) (pos 1 ∷ pos 9 ∷ pos 0 ∷ []) (hex "000008091800420113") (hex "43") (1 ∷ []) 22 2
     (gives 0 0 0 "0102ffffffff0600000000000000000000000000" "")
+    -- a negative major is read: -1, -2147483648
+    ∷ given (pos 1) (negsuc 0 ∷ pos 9 ∷ pos 0 ∷ []) (hex "00001800") (hex "43") (1 ∷ []) 22 3
+    (gives 0 0 0 "0101000001000600000000000000000000000000" "43")
+    ∷ given (pos 1) (negsuc 2147483647 ∷ pos 9 ∷ pos 0 ∷ []) (hex "00001800") (hex "43") (1 ∷ []) 22 3
+    (gives 0 0 0 "0101000001000600000000000000000000000000" "43")
     ∷ []

@@ -16,6 +16,7 @@ use Rattle.inputs.specs.Refusals.{numberOf}
 use Rattle.inputs.specs.Inputs.{Input}
 use Rattle.inputs.specs.Outcomes.{Answer}
 use Rattle.metadata.specs.Read.{read}
+use Rattle.answers.specs.Program.{printed, zeros}
 use Rattle.examples.specs.Cases.{Case, Expected, given, gives, hex, holds, area}
 
 pub record Marked : Type 0 where
@@ -63,9 +64,19 @@ typesInput propertyLength typeLength n = record {
 abbrev pub answers : ℕ → ℕ → ℕ → Answer → Bool
 answers number types sheetLength a = eqb (a .number) number && eqb (a .types) types && eqb (a .sheetLength) sheetLength
 
+-- the bytes of (a): k, mv, d1, d2 and string ends, each list with its count; and the line
+abbrev pub lineInput : String
+lineInput =
+    "020000000100000009000000000000000a000000000000001a000600100000001a000200300001000c00000066006b006f0074006c0069006e002f0055006e006900740002000000010000000c000000"
+
+abbrev pub wholeLine : String
+wholeLine =
+    "0 0 0102ffffffff060000000000000000000100000003000001000600000000000000ffffffffffffffff00000006010001000b000000070c000300 666b6f746c696e2e556e6974282956\n"
+
 abbrev pub marked : List Marked
 marked =
-    _shows_ "(a) the whole line" (holds (unitFunction 1 (gives 0 0 1
+    _shows_ "(a) the whole line, from its bytes" (same (printed zeros zeros (hex lineInput)) (ascii wholeLine))
+    ∷ _shows_ "(a) its answer" (holds (unitFunction 1 (gives 0 0 1
     "0102ffffffff060000000000000000000100000003000001000600000000000000ffffffffffffffff00000006010001000b000000070c000300"
     "666b6f746c696e2e556e6974282956")))
     ∷ _shows_ "(b) d1 00 00: a head of 20 bytes" (holds (inPackage (hex "0000") [] [] (gives 0 0 0

@@ -182,7 +182,7 @@ fn substring_of(payload: &[u8], source: u8, start: usize, end: usize, numbers: T
     }
 }
 
-// The name that a record builds whose message begins at `from`. Public for its sibling `lookup` alone, which has read the record there, so that
+// The name that a record builds whose message begins at `from`. Public for the crate's root alone, which has read the record there, so that
 // the sums of places fit.
 pub fn record_name(payload: &[u8], from: usize, read: Record) -> Name
     requires { ⌜ PieceFits from (read .string) ⌝ }

@@ -1,4 +1,4 @@
-// Constructors and functions. The definitions: specs/Members.antt; what the readers tell: specs/CallablesTold.antt, specs/MembersTold.antt.
+// Constructors and functions. The definitions: schema's specs/Members.antt; what the readers tell: specs/CallablesTold.antt, schema's specs/MembersTold.antt.
 ghost use mathlib.Core.Path.{_≡_};
 ghost use Prim.Native.Nat.{_+_, _≤_};
 ghost use lib.ListN.{length};

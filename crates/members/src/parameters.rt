@@ -1,5 +1,5 @@
-// Value parameters: a name, whether a default is declared, a type and the type of vararg elements. The definitions: specs/Members.antt,
-// `parameterIn`; what the readers tell: specs/ParametersTold.antt, specs/MembersTold.antt.
+// Value parameters: a name, whether a default is declared, a type and the type of vararg elements. The definitions: schema's specs/Members.antt,
+// `parameterIn`; what the readers tell: specs/ParametersTold.antt, schema's specs/MembersTold.antt.
 ghost use mathlib.Core.Path.{_≡_};
 ghost use Prim.Native.Nat.{_+_, _*_, _≤_};
 ghost use lib.ListN.{length};

@@ -1,4 +1,4 @@
-// Properties. The definition: specs/Members.antt, `propertyIn`; what the readers tell: specs/PropertiesTold.antt, specs/MembersTold.antt.
+// Properties. The definition: schema's specs/Members.antt, `propertyIn`; what the readers tell: specs/PropertiesTold.antt, schema's specs/MembersTold.antt.
 ghost use mathlib.Core.Path.{_≡_};
 ghost use Prim.Native.Nat.{_+_, _*_, _^_, _≤_};
 ghost use lib.ListN.{length};

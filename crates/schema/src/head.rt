@@ -19,7 +19,7 @@ use wire::Piece;
 use wire::WireValue;
 use wire::field_at;
 
-// The index of its class name, whether it says that it is nullable, and whether it has an argument.
+// The index of its class name, whether it says that it is nullable, and whether it may have an argument: if not, it has none.
 pub struct TypeHead {
     pub name: Indexed,
     pub nullable: bool,

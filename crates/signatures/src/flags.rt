@@ -1,4 +1,4 @@
-// Flags in a field, and their bits. The definitions: schema's specs/Members.antt, `flagsIn`, `smallFlagsIn` and `bitOf`.
+// Flags in a field. The definitions: schema's specs/Members.antt, `flagsIn` and `smallFlagsIn`.
 ghost use mathlib.Core.Path.{_≡_};
 ghost use Rattle.foundation.specs.Choices.{ifSome};
 ghost use Rattle.foundation.specs.Results.{ok, _from_};

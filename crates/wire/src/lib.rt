@@ -87,7 +87,7 @@ fn long_varint_at(s: &[u8], base: u32, at: usize) -> Varint
     tenth_at(&*s, base, place, i, value)
 }
 
-// The varint at a place. Most have one byte.
+// The varint at a place. Most have one byte. Of a place past the slice's end nothing is said.
 pub fn varint_at(s: &[u8], base: u32, at: usize) -> Varint
     ensures { λ r. ⌜ (at ≤ length (now (s .entry)) → readVarint (restOf base (now (s .entry)) at) ≡ varintTold base (now (s .entry)) r) ⌝ }
 {
@@ -208,7 +208,7 @@ impl Varint {
     }
 }
 
-// A length as a varint and that many bytes.
+// A length as a varint and that many bytes; said of the same places.
 pub fn delimited_at(s: &[u8], base: u32, at: usize) -> Delimited
     ensures { λ r. ⌜ (at ≤ length (now (s .entry)) → DelimitedTold base (now (s .entry)) (readDelimited (restOf base (now (s .entry)) at)) r) ⌝ }
 {
@@ -430,7 +430,7 @@ fn short_field_at(
     }
 }
 
-// The field at a place.
+// The field at a place; said of the same places.
 pub fn field_at(s: &[u8], base: u32, at: usize) -> FieldStep
     ensures { λ r. ⌜ (at ≤ length (now (s .entry)) → FieldTold base (now (s .entry)) (readField (restOf base (now (s .entry)) at)) r) ⌝ }
 {
