@@ -18,14 +18,20 @@ use Rattle.wire.specs.declared.WireError.{WireError}
 use Rattle.wire.specs.declared.WireValue.{WireValue}
 use Rattle.wire.specs.declared.FieldStep.{FieldStep}
 use Rattle.wire.specs.declared.FieldStep.the-variants as step
+use Rattle.wire.specs.declared.Piece.{Piece}
 use Rattle.wire.specs.declared.Piece.the-variants as piece
 use Rattle.messages.specs.declared.Indexed.{Indexed}
 use Rattle.messages.specs.declared.Indexed.the-variants as indexed
 use Rattle.wire.proofs.WalkLaws.{Leads, leads-start, leads-next, leads-never, leads-end, values-found, values-passed}
 use Rattle.messages.proofs.FindLaws.{as-number, as-piece}
 use Rattle.schema.specs.Fields.{Type·argument, Type·nullable, Type·class-name}
-use Rattle.schema.specs.HeadTold.{NameKnown, FlagKnown, ArgumentsKnown, Known, HeadTold}
+use Rattle.schema.specs.HeadTold.{isBody, anyOf, NameKnown, FlagKnown, ArgumentsKnown, Known, HeadTold}
 use Rattle.schema.specs.declared.head.Seen.{Seen}
+use Rattle.schema.specs.declared.head.TypeHead.{TypeHead}
+
+not-body : (p : Piece) → isBody p ≡ false → p ≡ piece.Nothing
+not-body (piece.Body start end) e = let z : _≡_ {A = ℕ} 0 1 = cc in absurd (omega arith)
+not-body piece.Nothing e = refl
 
 -- What a message says of field k, if its first field has another number, and of a field that is its first.
 module _ (k : ℕ) {n : ℕ} (v : Value) (m : Message) (h : n ≡ k → ⊥) where
@@ -45,11 +51,25 @@ module _ (k base : ℕ) (s : List ℕ) (v : WireValue) (m : Message) where
   unfolding varintOf
   varint-first = ap (λ (vs : List Value). ifSome (firstOf vs) none asVarint) (values-found k (valueOf base s v) m refl) ∙ as-number base s v
 
-  bodies-none : pieceOf v ≡ piece.Nothing → bodies k (field k (valueOf base s v) ∷ m) ≡ bodies k m
+  -- the bodies, by the piece that stands first
+  abbrev with-piece : Piece → List Part
+  with-piece p = ifSome (pieceTold base s p) (bodies k m) λ b. b ∷ bodies k m
+
+  bodies-first : bodies k (field k (valueOf base s v) ∷ m) ≡ with-piece (pieceOf v)
   unfolding bodiesOf
-  bodies-none e =
+  bodies-first =
       ap bodiesOf (values-found k (valueOf base s v) m refl)
-      ∙ ap (λ (o : Option Part). ifSome o (bodies k m) λ p. p ∷ bodies k m) (as-piece base s v ∙ ap (pieceTold base s) e)
+      ∙ ap (λ (o : Option Part). ifSome o (bodies k m) λ p. p ∷ bodies k m) (as-piece base s v)
+
+  bodies-none : isBody (pieceOf v) ≡ false → bodies k (field k (valueOf base s v) ∷ m) ≡ bodies k m
+  bodies-none e = bodies-first ∙ ap with-piece (not-body (pieceOf v) e)
+
+  bodies-some : isBody (pieceOf v) ≡ true → anyOf (bodies k (field k (valueOf base s v) ∷ m)) ≡ true
+  bodies-some e = ap anyOf bodies-first ∙ there (pieceOf v) e
+    where
+      there : (p : Piece) → isBody p ≡ true → anyOf (with-piece p) ≡ true
+      there (piece.Body start end) h = refl
+      there piece.Nothing h = let z : _≡_ {A = ℕ} 0 1 = cc in absurd (omega arith)
 
 -- One part of what is known: after a field with another number, after one that no longer counts, of one that was not seen, at the end.
 module _ (x : Indexed) (m : Message) where
@@ -90,17 +110,21 @@ module _ (x : Bool) (m : Message) where
 
 module _ (m : Message) where
   arguments-other : {n : ℕ} (v : Value) (rest : Message) (t : Bool) → (n ≡ Type·argument → ⊥) → ArgumentsKnown t m (field n v ∷ rest) → ArgumentsKnown t m rest
-  arguments-other v rest true h e = tt
+  arguments-other v rest true h e = e
   arguments-other v rest false h e = e ∙ bodies-passed Type·argument v rest h
 
   arguments-more : (a b : Message) (t : Bool) → bodies Type·argument a ≡ bodies Type·argument b → ArgumentsKnown t m a → ArgumentsKnown t m b
-  arguments-more a b true h e = tt
+  arguments-more a b true h e = e
   arguments-more a b false h e = e ∙ h
 
-  arguments-end : (t : Bool) → t ≡ false → ArgumentsKnown t m [] → bodies Type·argument m ≡ []
+  arguments-there : (a : Message) (t : Bool) → anyOf (bodies Type·argument a) ≡ true → ArgumentsKnown t m a → anyOf (bodies Type·argument m) ≡ true
+  arguments-there a true h e = e
+  arguments-there a false h e = ap anyOf e ∙ h
+
+  arguments-end : (t : Bool) → ArgumentsKnown t m [] → anyOf (bodies Type·argument m) ≡ t
   unfolding values bodiesOf
-  arguments-end true h e = let z : _≡_ {A = ℕ} 0 1 = cc in absurd (omega arith)
-  arguments-end false h e = e
+  arguments-end true e = e
+  arguments-end false e = ap anyOf e
 
 pub never-false : {A : Type 0} → true ≡ false → A
 never-false e = let z : _≡_ {A = ℕ} 0 1 = cc in absurd (omega arith)
@@ -170,17 +194,24 @@ module _ (x : Seen) (v : WireValue) (base : ℕ) (s : List ℕ) (m rest : Messag
         }
 
   module _ (k : Known x m (field Type·argument (valueOf base s v) ∷ rest)) where
-    pub known-argument : Known (record { named = x .named; name = x .name; flagged = x .flagged; nullable = x .nullable; arguments = true }) m rest
-    known-argument = record {
-      name = name-other (x .name) m (valueOf base s v) rest (x .named) (λ e. omega arith) (k .name);
-      nullable = flag-other (x .nullable) m (valueOf base s v) rest (x .flagged) (λ e. omega arith) (k .nullable);
-      arguments = tt;
+    argument-name : NameKnown (x .named) (x .name) m rest
+    argument-name = name-other (x .name) m (valueOf base s v) rest (x .named) (λ e. omega arith) (k .name)
+
+    argument-nullable : FlagKnown (x .flagged) (x .nullable) m rest
+    argument-nullable = flag-other (x .nullable) m (valueOf base s v) rest (x .flagged) (λ e. omega arith) (k .nullable)
+
+    pub known-argument : isBody (pieceOf v) ≡ true
+        → Known (record { named = x .named; name = x .name; flagged = x .flagged; nullable = x .nullable; arguments = true }) m rest
+    known-argument h = record {
+      name = argument-name;
+      nullable = argument-nullable;
+      arguments = arguments-there m (field Type·argument (valueOf base s v) ∷ rest) (x .arguments) (bodies-some Type·argument base s v rest h) (k .arguments);
     }
 
-    pub known-no-body : pieceOf v ≡ piece.Nothing → Known x m rest
+    pub known-no-body : isBody (pieceOf v) ≡ false → Known x m rest
     known-no-body h = record {
-      name = known-argument .name;
-      nullable = known-argument .nullable;
+      name = argument-name;
+      nullable = argument-nullable;
       arguments = arguments-more m (field Type·argument (valueOf base s v) ∷ rest) rest (x .arguments) (bodies-none Type·argument base s v rest h) (k .arguments);
     }
 
@@ -212,8 +243,15 @@ module _ (base : ℕ) (s : List ℕ) where
   head-told x k = record {
     name = λ m w. name-end (x .name) m (x .named) (k m w .name);
     nullable = λ m w. flag-end (x .nullable) m (x .flagged) (k m w .nullable);
-    arguments = λ h m w. arguments-end m (x .arguments) h (k m w .arguments);
+    arguments = λ m w. arguments-end m (x .arguments) (k m w .arguments);
   }
+
+  pub head-none : {r : TypeHead} → HeadTold base s r → r .arguments ≡ false → (m : Message) → cut (_from_ base s) ≡ ok m → bodies Type·argument m ≡ []
+  head-none f h m w = none-there (bodies Type·argument m) (f .arguments m w ∙ h)
+    where
+      none-there : (ps : List Part) → anyOf ps ≡ false → ps ≡ []
+      none-there [] e = refl
+      none-there (p ∷ ps) e = let z : _≡_ {A = ℕ} 0 1 = cc in absurd (omega arith)
 
 -- A message without a body of field k has no message there.
 pub no-messages : (k : ℕ) (m : Message) → bodies k m ≡ [] → messages k m ≡ ok []

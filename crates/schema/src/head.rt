@@ -8,9 +8,8 @@ ghost use Rattle.wire.specs.Wire.{field, Message, cut};
 ghost use Rattle.wire.specs.Messages.{varintOf, index, flag};
 ghost use Rattle.wire.specs.Told.{valueOf, numberOf, pieceOf};
 ghost use Rattle.messages.specs.Asked.{numberTold, indexTold};
-ghost use Rattle.wire.specs.declared.Piece.the-variants as piece;
 ghost use Rattle.schema.specs.Fields.{Type·argument, Type·nullable, Type·class-name};
-ghost use Rattle.schema.specs.HeadTold.{Known, HeadTold};
+ghost use Rattle.schema.specs.HeadTold.{isBody, Known, HeadTold};
 use messages::Found;
 use messages::Indexed;
 use wire::FieldStep;
@@ -19,7 +18,7 @@ use wire::Piece;
 use wire::WireValue;
 use wire::field_at;
 
-// The index of its class name, whether it says that it is nullable, and whether it may have an argument: if not, it has none.
+// The index of its class name, whether it says that it is nullable, and whether it has an argument.
 pub struct TypeHead {
     pub name: Indexed,
     pub nullable: bool,
@@ -53,7 +52,7 @@ fn is_set(value: WireValue) -> bool
 }
 
 fn is_body(value: WireValue) -> bool
-    ensures { λ r. ⌜ (r ≡ false → pieceOf value ≡ piece.Nothing) ⌝ }
+    ensures { λ r. ⌜ r ≡ isBody (pieceOf value) ⌝ }
 {
     let found = value.bytes();
     let Piece::Nothing = found else {

@@ -1,5 +1,5 @@
-use mathlib.Core.Path.{sym, _∙_}
-use Rattle.schema.proofs.HeadLaws.{never-false}
+use mathlib.Core.Path.{ap, sym, _∙_}
+use Rattle.schema.specs.HeadTold.{isBody}
 use borrow.Author.Needs.{needs}
 use Rattle.schema.proofs.head.is_body.Statement.{statement}
 use Rattle.schema.proofs.head.is_body.Tie as tie
@@ -20,11 +20,11 @@ enum-told-2 c = search needs
 
 -- src/head.rt:66:9
 returns : tie.Need-returns
-returns c = λ e. never-false e
+returns c = sym (ap isBody (sym (c .before .before .bytes .ensures) ∙ c .enum-told2 .given .1))
 
 -- src/head.rt:61:1
 returns-2 : tie.Need-returns-2
-returns-2 c = λ e. sym (c .before .before .bytes .ensures) ∙ c .enum-told .given .1
+returns-2 c = sym (ap isBody (sym (c .before .before .bytes .ensures) ∙ c .enum-told .given .1))
 
 pub is-body-spec : {M : Type 1} → statement M
 is-body-spec = tie.close (tie.spec bytes-requires enum-told enum-told-2 returns returns-2)

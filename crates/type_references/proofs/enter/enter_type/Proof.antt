@@ -1,6 +1,7 @@
 use native.Mathlib.Omega.{arith}
 use Rattle.schema.specs.Told.{lent}
 use Rattle.type_references.proofs.EnterLaws.{enter-none, enter-uncut, enter-done}
+use Rattle.schema.proofs.HeadLaws.{head-none}
 use borrow.Author.Needs.{needs}
 use Rattle.type_references.proofs.enter.enter_type.Statement.{statement}
 use Rattle.type_references.proofs.enter.enter_type.Tie as tie
@@ -27,7 +28,7 @@ less-requires c κs = search needs
 
 -- src/enter.rt:150:9
 count-arguments-requires : tie.Need-count-arguments-requires
-count-arguments-requires c κs = (omega (arith, c .before .before .before .before .before .before .before .before .before .before .before .before .before .before .pre .1, c .before .before .before .before .before .before .before .before .before .before .before .before .before .before .pre .0 .payload-short), c .before .type-head .ensures .arguments)
+count-arguments-requires c κs = (omega (arith, c .before .before .before .before .before .before .before .before .before .before .before .before .before .before .pre .1, c .before .before .before .before .before .before .before .before .before .before .before .before .before .before .pre .0 .payload-short), head-none _ _ (c .before .type-head .ensures))
 
 -- src/enter.rt:161:28
 enum-known-arguments : tie.Need-enum-known-arguments
