@@ -5,3 +5,4 @@ pub mod Defaults
 pub mod Form
 pub mod Characters
 pub mod Demand
+pub mod Fixed
