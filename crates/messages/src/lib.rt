@@ -4,7 +4,7 @@ ghost use mathlib.Core.Path.{_≡_};
 ghost use Rattle.foundation.specs.Results.{ok, _from_};
 ghost use Rattle.wire.specs.Wire.{cut, Message};
 ghost use Rattle.wire.specs.Messages.{varintOf, index, messages};
-ghost use Rattle.wire.specs.Told.{restOf, numberOf, pieceOf};
+ghost use Rattle.wire.specs.Told.{restOf};
 ghost use Rattle.messages.specs.Asked.{CheckedTold, FoundTold, FoundFrom, FoundAt, numberTold, numberIn, pieceIn, BytesTold, indexTold, indexIn, EmbeddedTold, pieceIf, NextTold};
 
 pub mod repeated; // repeated.rt: repeated numbers, single and packed

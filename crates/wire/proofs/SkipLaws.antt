@@ -1,20 +1,19 @@
 -- Fields whose tag and the varint after it have one or two bytes each: read at once, and skipped in a row.
 -- Assumes nothing.
-use mathlib.Core.Path.{_≡_, refl, ap, sym, _∙_, subst}
+use mathlib.Core.Path.{_≡_, refl, ap, sym, _∙_}
 use mathlib.Core.List.{List, [], _∷_, _++_, append-assoc}
 use Prim.Native.Nat.{ℕ, _+_, _-_, _*_, _/_, _%_, _≤_, _<_}
 use native.Mathlib.Omega.{arith}
 use lib.ListN.{length, getD}
 use Rattle.foundation.specs.Results.{Res, ok, refused, _>>=_, Part, mapGot}
-use Rattle.wire.specs.Wire.{Value, varint, body, field, readField, Message, cut}
-use Rattle.wire.specs.Messages.{values, bodiesOf}
+use Rattle.wire.specs.Wire.{varint, body, field, readField, Message, cut}
+use Rattle.wire.specs.Messages.{values}
 use Rattle.wire.specs.Told.{restOf, valueOf, FieldTold, ShortTold, ShortField, Skips, SkipTold}
 use Rattle.wire.specs.declared.ShortVarint.{ShortVarint}
 use Rattle.wire.specs.declared.WireValue.{WireValue}
 use Rattle.wire.specs.declared.WireValue.the-variants as wire
 use Rattle.wire.specs.declared.Varint.the-variants as read
 use Rattle.wire.specs.declared.FieldStep.the-variants as step
-use Rattle.wire.specs.declared.Piece.{Piece}
 use Rattle.wire.proofs.VarintLaws.{one-byte, two-bytes}
 use Rattle.wire.proofs.FieldLaws.{value-varint, value-body, field-value, delimited-there}
 use Rattle.wire.proofs.WalkLaws.{cut-field, field-inside, bind-ok, Leads, values-passed}

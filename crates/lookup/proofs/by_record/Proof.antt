@@ -1,5 +1,4 @@
 use mathlib.Core.Path.{subst, refl}
-use native.Mathlib.Omega.{arith}
 use Rattle.lookup.specs.Found.{PlaceTold}
 use Rattle.lookup.proofs.LookupLaws.{string-none, string-lost, string-named}
 use borrow.Author.Needs.{needs}

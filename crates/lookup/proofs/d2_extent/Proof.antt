@@ -1,4 +1,3 @@
-use native.Mathlib.Omega.{arith}
 use Rattle.lookup.proofs.IndexLaws.{d2-past, d2-begins, d2-goes}
 use borrow.Author.Needs.{needs}
 use Rattle.lookup.proofs.d2_extent.Statement.{statement}

@@ -1,4 +1,3 @@
-use mathlib.Core.Path.{_∙_, refl}
 use mathlib.Core.List.{[]}
 use Prim.Native.Nat.{_-_}
 use native.Mathlib.Omega.{arith}

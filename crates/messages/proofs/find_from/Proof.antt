@@ -1,5 +1,4 @@
-use Rattle.messages.proofs.FindLaws.{find-none, find-here, find-start, find-end}
-use native.Mathlib.Omega.{arith}
+use Rattle.messages.proofs.FindLaws.{find-none, find-here}
 use Rattle.messages.proofs.SkippedLaws.{found-skipped}
 use borrow.Author.Needs.{needs}
 use Rattle.messages.proofs.find_from.Statement.{statement}

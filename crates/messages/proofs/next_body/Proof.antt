@@ -1,4 +1,3 @@
-use native.Mathlib.Omega.{arith}
 use Rattle.messages.proofs.BodyLaws.{bodies-start, bodies-end, next-here}
 use Rattle.messages.proofs.SkippedLaws.{next-skipped}
 use borrow.Author.Needs.{needs}

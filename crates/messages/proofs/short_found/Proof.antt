@@ -1,4 +1,3 @@
-use native.Mathlib.Omega.{arith}
 use Rattle.wire.proofs.SkipLaws.{short-field}
 use Rattle.messages.proofs.SkippedLaws.{found-varint, found-body}
 use borrow.Author.Needs.{needs}

@@ -1,4 +1,3 @@
-use native.Mathlib.Omega.{arith}
 use Rattle.wire.proofs.SkipLaws.{short-field, skip-none, skip-varint, skip-body}
 use borrow.Author.Needs.{needs}
 use Rattle.wire.proofs.short_end.Statement.{statement}

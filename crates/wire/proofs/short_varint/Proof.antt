@@ -1,4 +1,3 @@
-use native.Mathlib.Omega.{arith}
 use Rattle.wire.proofs.SkipLaws.{short-none, short-one, short-two}
 use borrow.Author.Needs.{needs}
 use Rattle.wire.proofs.short_varint.Statement.{statement}
