@@ -10,11 +10,11 @@ fn main() {
     let root = PathBuf::from(std::env::var_os("CARGO_MANIFEST_DIR").unwrap());
     let archive = match std::env::var_os("SHEET_READER_LIB") {
         Some(path) => PathBuf::from(path),
-        None => root.join("../target/staticlib/libmetadata.a"),
+        None => root.join("../target/staticlib/libsheet_calls.a"),
     };
     let archive = archive
         .canonicalize()
-        .unwrap_or_else(|_| panic!("no static library at {}: run rt staticlib metadata", archive.display()));
+        .unwrap_or_else(|_| panic!("no static library at {}: run rt staticlib sheet_calls", archive.display()));
     println!("cargo:rerun-if-changed={}", archive.display());
     println!("cargo:rustc-link-arg={}", archive.display());
 }

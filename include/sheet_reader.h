@@ -1,6 +1,6 @@
 /* The sheet reader as a C function: the metadata of one compiled Kotlin class in, a call sheet out. docs/MANUAL.md tells all of it.
  *
- * Build the archive with `rt staticlib metadata`, and link target/staticlib/libmetadata.a (x86-64 Linux). It needs no other library,
+ * Build the archive with `rt staticlib sheet_calls`, and link target/staticlib/libsheet_calls.a (x86-64 Linux). It needs no other library,
  * allocates nothing, keeps nothing between calls and may be called from several threads at once.
  */
 #ifndef SHEET_READER_H
@@ -12,6 +12,10 @@
 #ifdef __cplusplus
 extern "C" {
 #endif
+
+/* The number of the sheets' format: 1 for the sheets as they are told below. It goes up whenever sheets change, so that a program that keeps
+ * sheets can tell by it which of them to make anew. */
+#define SHEET_FORMAT 1
 
 /* What sheet_read puts into answer. */
 enum {

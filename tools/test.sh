@@ -1,5 +1,7 @@
 #!/usr/bin/env bash
 # class_input.py and sheet_text.py on the examples: each sheet in words is examples/NAME.txt, and the inputs' hashes are those that are noted.
+# crate_uses.py on a repository of two crates.
+# The tools for proofs, and that each proof is what its template gives. That README and NOTICE name every crate.
 set -eu
 cd "$(dirname "$0")/.."
 here=$(mktemp -d)
@@ -54,6 +56,32 @@ refused 'cut short' say '0 0 0102ffffffff -'
 refused 'no count announced' say '0 0 0102ffffffff060000000000000000000000000007ffffffff -'
 refused 'was announced' say '0 0 0102ffffffff0600000000000000000001000000 -'
 
+# crate_uses.py: a crate above another, named by its code, by a proof, or in comments alone
+uses=$here/uses
+mkdir -p "$uses/tools" "$uses/crates/low/src" "$uses/crates/high/src" "$uses/crates/high/proofs"
+cp tools/crate_uses.py "$uses/tools"
+echo 'pub fn f() {}' > "$uses/crates/low/src/lib.rt"
+uses_are() { # what, what the line of `high` lists
+    python3 -B "$uses/tools/crate_uses.py" | grep '^high:' > "$here/given"
+    echo "high:$2" > "$here/expected"
+    same "crate_uses, $1" "$here/expected" "$here/given"
+}
+printf 'low:\nhigh: low io # all of it\n' > "$uses/crates.txt"
+printf 'mod os;\nuse low::f;\nfn g() { f(); os::h(); }\n' > "$uses/crates/high/src/lib.rt"
+uses_are 'by code' ' low'
+refused 'lists io' python3 -B "$uses/tools/crate_uses.py" --check
+printf '// low::f\nuse io::write;\n' > "$uses/crates/high/src/lib.rt"
+uses_are 'not by comments' ' io'
+echo 'use Rattle.low.specs.F.{f} -- Rattle.check' > "$uses/crates/high/proofs/Lib.antt"
+uses_are 'by a proof' ' low io'
+python3 -B "$uses/tools/crate_uses.py" --check > "$here/given" || { echo 'crate_uses: refused as it should be'; failed=1; }
+echo 'low:' > "$uses/crates.txt"
+echo 'high: # nothing' >> "$uses/crates.txt"
+refused 'its text names low' python3 -B "$uses/tools/crate_uses.py" --check
+python3 -B "$uses/tools/crate_uses.py" --write
+printf 'low:\nhigh: low io # nothing\n' > "$here/expected"
+same 'crate_uses --write' "$here/expected" "$uses/crates.txt"
+
 # ./read: with a program that knows one answer, and with the real one where it is built
 printf '#!/bin/sh\ncat examples/Sale.line\n' > "$here/knows_sale"
 printf '#!/bin/sh\necho 7 0 - -\n' > "$here/refuses"
@@ -82,5 +110,15 @@ if [ -e "$corpus" ] && [ -e "$jar" ]; then
 else
     echo 'tools: real classes skipped, no corpus or no kotlin-stdlib.jar'
 fi
+
+# proofs and their templates
+bash tools/proofs/test.sh || failed=1
+python3 -B tools/proofs/check.py > "$here/proofs" || { cat "$here/proofs"; failed=1; }
+
+# the maps
+for crate in $(sed 's/#.*//; s/:.*//' crates.txt); do
+    sed '/Apache License/,$d' NOTICE | grep -qw -- "$crate" || { echo "NOTICE doesn't name $crate"; failed=1; }
+    grep -q -- "\`$crate\`" README.md || { echo "README's map doesn't name $crate"; failed=1; }
+done
 
 if [ "$failed" = 0 ]; then echo 'tools: ok'; else exit 1; fi

@@ -1,20 +1,22 @@
--- Each field takes two bytes at least, so that half as many entries as there are bytes are enough for the index of the name table's
--- records and for the places of the type table's entries.
+-- Each field takes two bytes at least, so that a table has half as many records or entries as there are bytes.
 -- Assumes nothing.
-use mathlib.Core.Path.{_≡_}
+use mathlib.Core.Path.{_≡_, refl, _∙_}
 use mathlib.Core.List.{List, [], _∷_}
 use mathlib.Core.Option.{Option, none, some}
 use Prim.Native.Nat.{ℕ, _+_, _*_, _/_, _%_, _^_, _≤_}
 use native.Mathlib.Omega.{arith}
 use lib.Dec.{ltb}
-use lib.ListN.{length}
+use lib.ListN.{length, length-map}
 use Rattle.foundation.specs.Choices.{IfSome}
-use Rattle.foundation.specs.Results.{ok, Part, Got}
+use Rattle.foundation.specs.Results.{Res, ok, refused, Part, Got}
 use Rattle.foundation.proofs.ChoiceLaws.{if-ind}
 use Rattle.foundation.proofs.ResultLaws.{Gives, gives-bind, gives-weaken, gives-map, gives-ok}
+use Rattle.fields.specs.Fields.{StringTableTypes·record, StringTableTypes·local-name}
 use Rattle.wire.specs.Wire.{Value, varint, fixed, body, Field, field, Message, readVarint, readValue, readField, cut}
-use Rattle.wire.specs.Messages.{values, bytesOf, bodiesOf, cutOption, message}
+use Rattle.wire.specs.Messages.{values, bytesOf, bodiesOf, cutOption, message, cutAll, messages, varints}
 use Rattle.messages.specs.Asked.{bodies}
+use Rattle.names.specs.Records.{Record, recordOf}
+use Rattle.names.specs.Names.{recordsOf}
 use Rattle.wire.proofs.Readers.{Within, within-shorter, after-shorter, varint-after, value-after}
 use Rattle.wire.proofs.Progress.{every-gives}
 use Rattle.wire.proofs.MessageLaws.{values-few}
@@ -60,3 +62,29 @@ unfolding message Few
 inner-few j k p {m} {table} e f =
     let inside = option-few p (bytesOf j m) (bytesOf-in p j m (gives-ok _ e (cut-in p))) in
     omega (arith, bodies-of-few (values k table), values-few k table, gives-ok (IfSome (Few p)) f inside)
+
+-- as many records as bodies
+cut-all-many : (ps : List Part) → Gives (λ ms. length ms ≡ length ps) (cutAll ps)
+unfolding cutAll
+cut-all-many [] = refl
+cut-all-many (p ∷ ps) =
+    gives-bind (λ m. Unit {0}) (λ ms. length ms ≡ length (p ∷ ps)) (cut p) _ (any (cut p)) λ m t.
+    gives-bind (λ ms. length ms ≡ length ps) (λ ms. length ms ≡ length (p ∷ ps)) (cutAll ps) _ (cut-all-many ps) λ ms e. omega arith
+  where
+    any : {A : Type 0} (r : Res A) → Gives (λ a. Unit {0}) r
+    any (ok a) = tt
+    any (refused c q) = tt
+
+pub records-many : (m : Message) {records : List Record} → recordsOf m ≡ ok records → length records ≡ length (bodies StringTableTypes·record m)
+unfolding recordsOf messages
+records-many m {records} e = gives-ok (λ rs. length rs ≡ length (bodies StringTableTypes·record m)) e counts
+  where
+    any : {A : Type 0} (r : Res A) → Gives (λ a. Unit {0}) r
+    any (ok a) = tt
+    any (refused c q) = tt
+
+    counts : Gives (λ rs. length rs ≡ length (bodies StringTableTypes·record m)) (recordsOf m)
+    counts =
+        gives-bind (λ ms. length ms ≡ length (bodies StringTableTypes·record m)) _ (cutAll (bodies StringTableTypes·record m)) _
+        (cut-all-many (bodies StringTableTypes·record m)) λ ms h.
+        gives-bind (λ a. Unit {0}) _ (varints StringTableTypes·local-name m) _ (any (varints StringTableTypes·local-name m)) λ l t. length-map ms recordOf ∙ h

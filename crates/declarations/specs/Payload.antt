@@ -1,24 +1,25 @@
 -- The decoded bytes as declarations, and declarations as the rows of a sheet.
 -- Assumes nothing.
-use mathlib.Core.List.{List, [], _∷_, _++_, map}
+use mathlib.Core.List.{List, [], _∷_, _++_}
 use mathlib.Core.Option.{Option}
 use Prim.Native.Nat.{ℕ}
 use lib.Dec.{eqb}
 use lib.ListN.{length}
-use Rattle.foundation.specs.Choices.{if_then_else_, concat}
 use Rattle.foundation.specs.Results.{Res, _>>=_, _from_}
 use Rattle.foundation.specs.Texts.{Text}
 use Rattle.wire.specs.Wire.{Message, cut, readDelimited}
 use Rattle.names.specs.Names.{Names, recordsOf}
 use Rattle.sheet.specs.Rows.{num, Row, row}
-use Rattle.rows.specs.Declarations.{Declarations}
+use Rattle.declaration_rows.specs.Declarations.{Declarations}
 use Rattle.schema.specs.Reading.{Read, allowance}
-use Rattle.schema.specs.Members.{classBody, packageBody}
-use Rattle.rows.specs.Rows.{named, propertyRows}
-use Rattle.descriptors.specs.Defaults.{closedConstructor, closedFunction}
+use Rattle.schema.specs.Members.{bodyIn}
+use Rattle.declaration_rows.specs.Rows.{named}
+use Rattle.members.specs.Lists.{sectionRows}
+use Rattle.members.specs.declared.list.Member.the-variants as member
 
+-- the body by the metadata kind: 1 is a class
 abbrev pub bodyOf : ℕ → Names → Message → Read Declarations
-bodyOf kind = if eqb kind 1 then classBody else packageBody
+bodyOf kind = bodyIn (eqb kind 1)
 
 -- the decoded bytes: a length-delimited name table, then the body
 unfoldable pub payload : ℕ → (ℕ → Res (Option Text)) → List ℕ → Res (Declarations × ℕ)
@@ -35,9 +36,7 @@ headRow kind d =
     num 1 kind ∷ named (d .name) ∷ num 8 (d .flags) ∷ num 2 (length (d .constructors)) ∷ num 2 (length (d .functions))
     ∷ num 2 (length (d .properties)) ∷ [])
 
--- the head, then constructors, functions, properties
+-- the head, then the rows of each list: constructors, functions, properties
 unfoldable pub declarationRows : ℕ → Declarations → List Row
 declarationRows kind d =
-    headRow kind d
-    ∷ (concat (map closedConstructor (d .constructors))
-    ++ (concat (map closedFunction (d .functions)) ++ concat (map propertyRows (d .properties))))
+    headRow kind d ∷ (sectionRows member.Constructor d ++ (sectionRows member.Function d ++ sectionRows member.Property d))

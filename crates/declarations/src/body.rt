@@ -1,56 +1,60 @@
-// The body of a class or package, which is the decoded bytes from `at` on, written as rows: the head, constructors, functions,
-// properties; then the head's counts. The definitions: specs/Payload.antt, `declarationRows`, and schema's Members; what the functions tell:
-// specs/BodyTold.antt.
+// The body of a class or package written as rows: the head, constructors, functions, properties; then the head's counts. The definitions:
+// specs/Payload.antt, `declarationRows`, and schema's specs/Members.antt, `afterTable`; what the functions tell: specs/BodyTold.antt.
 ghost use mathlib.Core.Path.{_≡_};
-ghost use Prim.Native.Nat.{_+_, _-_, _*_, _^_, _≤_};
 ghost use lib.ListN.{length};
-ghost use Rattle.schema.specs.Told.{lent};
+ghost use Rattle.schema.specs.Members.{functionField, propertyField};
+ghost use Rattle.schema.specs.Told.{lent, Stands};
 ghost use Rattle.schema.specs.MembersTold.{Affords};
-ghost use Rattle.declarations.specs.PayloadTold.{functionField, propertyField};
-ghost use Rattle.declarations.specs.BodyTold.{headCost, listCost, bodyCost, HeadTold, ConstructorsTold, MembersTold, BodyWalked};
-use closed_members::constructors_in;
-use closed_members::functions_in;
-use members::properties::properties_in;
+ghost use Rattle.declarations.specs.BodyTold.{headCost, listCost, listsCost, bodyCost, BodyHead, ConstructorsTold, ListsTold, BodyWalked};
+use declaration_rows::put_head;
+use declaration_rows::put_head_counts;
+use fields::CLASS_CONSTRUCTOR;
+use fields::CLASS_FLAGS;
+use fields::CLASS_FQ_NAME;
+use fields::CLASS_FUNCTION;
+use fields::CLASS_PROPERTY;
+use fields::OMITTED_FLAGS;
+use fields::PACKAGE_FUNCTION;
+use fields::PACKAGE_PROPERTY;
+use members::list::Member;
+use members::list::MemberList;
+use members::list::members_in;
 use names::name::absent;
-use rows::put_head;
-use rows::put_head_counts;
 use schema::Listed;
 use schema::Stop;
 use schema::Tables;
-use schema::Walked;
+use schema::flags::flags_in;
 use schema::name::class_name_in;
 use sheet::State;
-use signatures::flags::flags_in;
 
-// Field numbers of metadata.proto's Class, and of its Package.
-const CLASS_FLAGS: u32 = 1;
+// After a list: how far both areas are written, and how many it has.
+pub struct Section {
+    pub state: State,
+    pub count: usize,
+}
 
-const CLASS_FQ_NAME: u32 = 3;
+// The same after the head, which has no count, and after each list.
+pub struct Sections {
+    pub head: State,
+    pub constructors: Section,
+    pub functions: Section,
+    pub properties: Section,
+}
 
-const CLASS_CONSTRUCTOR: u32 = 8;
-
-const CLASS_FUNCTION: u32 = 9;
-
-const CLASS_PROPERTY: u32 = 10;
-
-const PACKAGE_FUNCTION: u32 = 3;
-
-const PACKAGE_PROPERTY: u32 = 4;
-
-// Omitted flags, and those of a package.
-const OMITTED_FLAGS: u64 = 6;
-
-// The members are written, up to a state; how many of each there are.
-pub enum Members {
+pub enum Lists {
     Done {
-        state: State,
-        constructors: usize,
-        functions: usize,
-        properties: usize,
+        constructors: Section,
+        functions: Section,
+        properties: Section,
     },
     Refused {
         stop: Stop,
     },
+}
+
+pub enum Body {
+    Done { sections: Sections },
+    Refused { stop: Stop },
 }
 
 fn function_field(class: bool) -> u32
@@ -73,36 +77,24 @@ fn property_field(class: bool) -> u32
     }
 }
 
-// Why a list is refused, of one that is.
-fn stop_of(listed: Listed) -> Stop
-    ensures { λ r. ⌜ ((stop : Stop) → listed ≡ Listed.Refused stop → r ≡ stop) ⌝ }
-{
-    match listed {
-        Listed::Done { state: _, count: _ } => Stop::TooManyTypes,
-        Listed::Refused { stop } => stop,
-    }
-}
-
 // The head up to its counts. A package has no class name, and flags 6.
 fn head_in(
-    class: bool,
     kind: u8,
+    msg: &[u8],
+    base: u32,
     payload: &[u8],
-    at: usize,
     d2: &[u16],
     ends: &[u32],
-    starts: &[u32],
-    stops: &[u32],
-    firsts: &[u64],
+    notes: &[u64],
     records: usize,
     state: State,
     sheet: &mut [u8],
     text: &mut [u8],
 ) -> State
-    requires { ⌜ Affords (now payload) (now d2) headCost state × (at ≤ length (now payload)) ⌝ }
-    ensures { λ r. ⌜ HeadTold class kind (now (payload .entry)) (now (d2 .entry)) (now (ends .entry)) (now (starts .entry)) (now (stops .entry)) (now (firsts .entry)) records at state r (now (sheet .entry)) (now (sheet .exit)) (now (text .entry)) (now (text .exit)) ⌝ }
+    requires { ⌜ Affords (now payload) (now d2) headCost state ⌝ }
+    ensures { λ r. ⌜ BodyHead kind (now (payload .entry)) (now (d2 .entry)) (now (ends .entry)) (now (notes .entry)) records (now (msg .entry)) base state r (now (sheet .entry)) (now (sheet .exit)) (now (text .entry)) (now (text .exit)) ⌝ }
 {
-    if !class {
+    if kind != 1 {
         return put_head(
             payload,
             d2,
@@ -114,57 +106,42 @@ fn head_in(
             text,
         );
     }
-    let base = at as u32;
-    let flags = flags_in(&payload[at..], base, CLASS_FLAGS, OMITTED_FLAGS);
-    let name = class_name_in(
-        &payload[at..],
-        base,
-        CLASS_FQ_NAME,
-        payload,
-        d2,
-        ends,
-        starts,
-        stops,
-        firsts,
-        records,
-    );
+    let flags = flags_in(msg, base, CLASS_FLAGS, OMITTED_FLAGS);
+    let name = class_name_in(msg, base, CLASS_FQ_NAME, payload, d2, ends, notes, records);
     put_head(payload, d2, kind, name, flags, state, sheet, text)
 }
 
 // The constructors of a class; a package has none.
-fn class_constructors(
+fn constructors_in(
     class: bool,
+    msg: &[u8],
+    base: u32,
     payload: &[u8],
-    at: usize,
     d2: &[u16],
     ends: &[u32],
-    starts: &[u32],
-    stops: &[u32],
-    firsts: &[u64],
-    entry_starts: &[u32],
-    entry_ends: &[u32],
+    notes: &[u64],
     tables: Tables,
     state: State,
     sheet: &mut [u8],
     text: &mut [u8],
 ) -> Listed
-    requires { ⌜ Affords (now payload) (now d2) (listCost (length (now payload) - at)) state × (at ≤ length (now payload)) ⌝ }
-    ensures { λ r. ⌜ ConstructorsTold class (lent (now (payload .entry)) (now (d2 .entry)) (now (ends .entry)) (now (starts .entry)) (now (stops .entry)) (now (firsts .entry)) (now («entry_starts» .entry)) (now («entry_ends» .entry)) tables) at state r (now (sheet .entry)) (now (sheet .exit)) (now (text .entry)) (now (text .exit)) ⌝ }
+    requires { ⌜ Affords (now payload) (now d2) (listCost (length (now msg))) state × Stands (now payload) (now msg) base ⌝ }
+    ensures { λ r. ⌜ ConstructorsTold class (lent (now (payload .entry)) (now (d2 .entry)) (now (ends .entry)) (now (notes .entry)) tables) (now (msg .entry)) base state r (now (sheet .entry)) (now (sheet .exit)) (now (text .entry)) (now (text .exit)) ⌝ }
 {
     if !class {
         return Listed::Done { state, count: 0 };
     }
-    constructors_in(
+    members_in(
+        MemberList {
+            member: Member::Constructor,
+            number: CLASS_CONSTRUCTOR,
+        },
+        msg,
+        base,
         payload,
-        at,
-        CLASS_CONSTRUCTOR,
         d2,
         ends,
-        starts,
-        stops,
-        firsts,
-        entry_starts,
-        entry_ends,
+        notes,
         tables,
         state,
         sheet,
@@ -173,178 +150,156 @@ fn class_constructors(
 }
 
 // Constructors, functions, properties.
-fn members_in(
+fn lists_in(
     class: bool,
+    msg: &[u8],
+    base: u32,
     payload: &[u8],
-    at: usize,
     d2: &[u16],
     ends: &[u32],
-    starts: &[u32],
-    stops: &[u32],
-    firsts: &[u64],
-    entry_starts: &[u32],
-    entry_ends: &[u32],
+    notes: &[u64],
     tables: Tables,
     state: State,
     sheet: &mut [u8],
     text: &mut [u8],
-) -> Members
-    requires { ⌜ Affords (now payload) (now d2) (2 ^ 27 * (length (now payload) - at)) state × (at ≤ length (now payload)) ⌝ }
-    ensures { λ r. ⌜ MembersTold class (lent (now (payload .entry)) (now (d2 .entry)) (now (ends .entry)) (now (starts .entry)) (now (stops .entry)) (now (firsts .entry)) (now («entry_starts» .entry)) (now («entry_ends» .entry)) tables) at state r (now (sheet .entry)) (now (sheet .exit)) (now (text .entry)) (now (text .exit)) ⌝ }
+) -> Lists
+    requires { ⌜ Affords (now payload) (now d2) (listsCost (length (now msg))) state × Stands (now payload) (now msg) base ⌝ }
+    ensures { λ r. ⌜ ListsTold class (lent (now (payload .entry)) (now (d2 .entry)) (now (ends .entry)) (now (notes .entry)) tables) (now (msg .entry)) base state r (now (sheet .entry)) (now (sheet .exit)) (now (text .entry)) (now (text .exit)) ⌝ }
 {
-    let made = class_constructors(
+    let made = constructors_in(
         class,
+        msg,
+        base,
         payload,
-        at,
         d2,
         ends,
-        starts,
-        stops,
-        firsts,
-        entry_starts,
-        entry_ends,
+        notes,
         tables,
         state,
         sheet,
         text,
     );
-    let Listed::Done {
-        state: first,
-        count: constructors,
-    } = made
-    else {
-        return Members::Refused {
-            stop: stop_of(made),
-        };
+    let constructors = match made {
+        Listed::Done { state, count } => Section { state, count },
+        Listed::Refused { stop } => return Lists::Refused { stop },
     };
-    let called = functions_in(
-        payload,
-        at,
-        function_field(class),
-        d2,
-        ends,
-        starts,
-        stops,
-        firsts,
-        entry_starts,
-        entry_ends,
-        tables,
-        first,
-        sheet,
-        text,
-    );
-    let Listed::Done {
-        state: second,
-        count: functions,
-    } = called
-    else {
-        return Members::Refused {
-            stop: stop_of(called),
-        };
-    };
-    let held = properties_in(
-        &payload[at..],
-        at as u32,
-        property_field(class),
+    let called = members_in(
+        MemberList {
+            member: Member::Function,
+            number: function_field(class),
+        },
+        msg,
+        base,
         payload,
         d2,
         ends,
-        starts,
-        stops,
-        firsts,
-        entry_starts,
-        entry_ends,
+        notes,
         tables,
-        second,
+        constructors.state,
         sheet,
         text,
     );
-    let Listed::Done {
-        state: last,
-        count: properties,
-    } = held
-    else {
-        return Members::Refused {
-            stop: stop_of(held),
-        };
+    let functions = match called {
+        Listed::Done { state, count } => Section { state, count },
+        Listed::Refused { stop } => return Lists::Refused { stop },
     };
-    Members::Done {
-        state: last,
-        constructors,
-        functions,
-        properties,
+    let held = members_in(
+        MemberList {
+            member: Member::Property,
+            number: property_field(class),
+        },
+        msg,
+        base,
+        payload,
+        d2,
+        ends,
+        notes,
+        tables,
+        functions.state,
+        sheet,
+        text,
+    );
+    match held {
+        Listed::Done { state, count } => Lists::Done {
+            constructors,
+            functions,
+            properties: Section { state, count },
+        },
+        Listed::Refused { stop } => Lists::Refused { stop },
     }
 }
 
 // A whole body, after its type table.
 pub fn body_in(
     kind: u8,
+    msg: &[u8],
+    base: u32,
     payload: &[u8],
-    at: usize,
     d2: &[u16],
     ends: &[u32],
-    starts: &[u32],
-    stops: &[u32],
-    firsts: &[u64],
-    entry_starts: &[u32],
-    entry_ends: &[u32],
+    notes: &[u64],
     tables: Tables,
     state: State,
     sheet: &mut [u8],
     text: &mut [u8],
-) -> Walked
-    requires { ⌜ Affords (now payload) (now d2) (bodyCost (length (now payload) - at)) state × (at ≤ length (now payload)) ⌝ }
-    ensures { λ r. ⌜ BodyWalked kind (lent (now (payload .entry)) (now (d2 .entry)) (now (ends .entry)) (now (starts .entry)) (now (stops .entry)) (now (firsts .entry)) (now («entry_starts» .entry)) (now («entry_ends» .entry)) tables) at state r (now (sheet .entry)) (now (sheet .exit)) (now (text .entry)) (now (text .exit)) ⌝ }
+) -> Body
+    requires { ⌜ Affords (now payload) (now d2) (bodyCost (length (now msg))) state × Stands (now payload) (now msg) base ⌝ }
+    ensures { λ r. ⌜ BodyWalked kind (lent (now (payload .entry)) (now (d2 .entry)) (now (ends .entry)) (now (notes .entry)) tables) (now (msg .entry)) base state r (now (sheet .entry)) (now (sheet .exit)) (now (text .entry)) (now (text .exit)) ⌝ }
 {
-    let class = kind == 1;
-    let records = tables.records;
     let begun = head_in(
-        class,
         kind,
+        msg,
+        base,
         payload,
-        at,
         d2,
         ends,
-        starts,
-        stops,
-        firsts,
-        records,
+        notes,
+        tables.records,
         state,
         sheet,
         text,
     );
-    let head = begun.sheet;
-    let next = State {
-        sheet: head + 6,
+    let place = begun.sheet;
+    let head = State {
+        sheet: place + 6,
         text: begun.text,
         types: begun.types,
     };
-    let members = members_in(
-        class,
+    let lists = lists_in(
+        kind == 1,
+        msg,
+        base,
         payload,
-        at,
         d2,
         ends,
-        starts,
-        stops,
-        firsts,
-        entry_starts,
-        entry_ends,
+        notes,
         tables,
-        next,
+        head,
         sheet,
         text,
     );
-    match members {
-        Members::Done {
-            state: last,
+    match lists {
+        Lists::Done {
             constructors,
             functions,
             properties,
         } => {
-            put_head_counts(sheet, head, constructors, functions, properties);
-            Walked::Done { state: last }
+            put_head_counts(
+                sheet,
+                place,
+                constructors.count,
+                functions.count,
+                properties.count,
+            );
+            Body::Done {
+                sections: Sections {
+                    head,
+                    constructors,
+                    functions,
+                    properties,
+                },
+            }
         }
-        Members::Refused { stop } => Walked::Refused { stop },
+        Lists::Refused { stop } => Body::Refused { stop },
     }
 }

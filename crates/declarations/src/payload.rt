@@ -1,23 +1,23 @@
-// The decoded bytes opened: a length-delimited name table, its records indexed, then the body and its type table. The definition:
+// The decoded bytes opened: a length-delimited name table, its records noted, then the body and its type table. The definition:
 // specs/Payload.antt, `payload`; what the answers tell: specs/PayloadTold.antt.
 ghost use mathlib.Core.Path.{_≡_};
-ghost use Prim.Native.Nat.{_≤_};
+ghost use Prim.Native.Nat.{_*_, _^_, _≤_, _<_};
 ghost use lib.ListN.{length};
 ghost use Rattle.foundation.specs.Results.{_from_, got};
 ghost use Rattle.wire.specs.Wire.{readDelimited};
 ghost use Rattle.wire.specs.Told.{bodyOf, restOf};
-ghost use Rattle.declarations.specs.PayloadTold.{BodyTold, OpenedTold};
+ghost use Rattle.declarations.specs.PayloadTold.{BodyOpened, NotedOpened, OpenedTold};
+use fields::CLASS_TYPE_TABLE;
+use lookup::resolve::resolve;
 use messages::Checked;
 use messages::check_from;
+use names::records::RECORD_WORDS;
 use names::records::RecordIndex;
 use names::records::index_records;
 use schema::Tables;
 use schema::table::TypeIndex;
 use schema::table::index_types;
 use wire::WireError;
-
-// The field of the type table, in a class and in a package.
-const TYPE_TABLE: u32 = 30;
 
 // The body begins at a place of the decoded bytes, or why there is none.
 pub enum Opened {
@@ -26,15 +26,9 @@ pub enum Opened {
     NoRoom,
 }
 
-// The body from `at` on is cut, and its type table indexed.
-fn open_body(
-    bytes: &[u8],
-    at: usize,
-    records: usize,
-    entry_starts: &mut [u32],
-    entry_ends: &mut [u32],
-) -> Opened
-    ensures { λ r. ⌜ BodyTold (now (bytes .entry)) at records (now («entry_starts» .exit)) (now («entry_ends» .exit)) r ⌝ }
+// The body from `at` on is cut, and where the entries of its type table stand is noted.
+fn open_body(bytes: &[u8], at: usize, records: usize, entries: &mut [u64]) -> Opened
+    ensures { λ r. ⌜ BodyOpened (now (bytes .entry)) at records (now (entries .exit)) r ⌝ }
 {
     let checked = check_from(bytes, 0, at);
     let Checked::Whole = checked else {
@@ -42,7 +36,7 @@ fn open_body(
             error: checked.error(),
         };
     };
-    let types = index_types(bytes, at, TYPE_TABLE, entry_starts, entry_ends);
+    let types = index_types(bytes, at, CLASS_TYPE_TABLE, entries);
     match types {
         TypeIndex::Types { count, first } => Opened::Body {
             at,
@@ -57,20 +51,19 @@ fn open_body(
     }
 }
 
-// The name table from a place to another is cut and its records indexed; then the body from `rest` on.
-fn open_table(
-    bytes: &[u8],
-    start: usize,
-    end: usize,
-    rest: usize,
-    starts: &mut [u32],
-    stops: &mut [u32],
-    firsts: &mut [u64],
-    entry_starts: &mut [u32],
-    entry_ends: &mut [u32],
-) -> Opened
-    requires { ⌜ (start ≤ end) × (end ≤ length (now bytes)) × (rest ≤ length (now bytes)) ⌝ }
-    ensures { λ r. ⌜ (readDelimited (_from_ 0 (now (bytes .entry))) ≡ got (bodyOf 0 (now (bytes .entry)) start end) (restOf 0 (now (bytes .entry)) rest) → OpenedTold (now (bytes .entry)) (now (starts .exit)) (now (stops .exit)) (now (firsts .exit)) (now («entry_starts» .exit)) (now («entry_ends» .exit)) r) ⌝ }
+// The records are noted: each is worked out once, and the body from `rest` on opened, with its notes after theirs.
+fn open_noted(bytes: &[u8], rest: usize, count: usize, notes: &mut [u64]) -> Opened
+    requires { ⌜ 3 * count ≤ length (now notes) ⌝ }
+    ensures { λ r. ⌜ NotedOpened (now (bytes .entry)) rest count (now (notes .entry)) (now (notes .exit)) r ⌝ }
+{
+    resolve(bytes, notes, count);
+    open_body(bytes, rest, count, &mut notes[RECORD_WORDS * count..])
+}
+
+// The name table from a place to another is cut and its records noted; then the body from `rest` on.
+fn open_table(bytes: &[u8], start: usize, end: usize, rest: usize, notes: &mut [u64]) -> Opened
+    requires { ⌜ (start ≤ end) × (end ≤ rest) × (rest ≤ length (now bytes)) × (length (now bytes) < 2 ^ 32) ⌝ }
+    ensures { λ r. ⌜ (readDelimited (_from_ 0 (now (bytes .entry))) ≡ got (bodyOf 0 (now (bytes .entry)) start end) (restOf 0 (now (bytes .entry)) rest) → OpenedTold (now (bytes .entry)) (now (notes .exit)) r) ⌝ }
 {
     let checked = check_from(&bytes[..end], 0, start);
     let Checked::Whole = checked else {
@@ -78,38 +71,26 @@ fn open_table(
             error: checked.error(),
         };
     };
-    let records = index_records(&bytes[..end], start, starts, stops, firsts);
+    let records = index_records(&bytes[..end], start, notes);
     match records {
-        RecordIndex::Records { count } => open_body(bytes, rest, count, entry_starts, entry_ends),
+        RecordIndex::Records { count } => open_noted(bytes, rest, count, notes),
         RecordIndex::Refused { error } => Opened::Refused { error },
         RecordIndex::NoRoom => Opened::NoRoom,
     }
 }
 
-// The decoded bytes opened, their indexes noted in what is lent.
-pub fn open_payload(
-    bytes: &[u8],
-    starts: &mut [u32],
-    stops: &mut [u32],
-    firsts: &mut [u64],
-    entry_starts: &mut [u32],
-    entry_ends: &mut [u32],
-) -> Opened
-    ensures { λ r. ⌜ OpenedTold (now (bytes .entry)) (now (starts .exit)) (now (stops .exit)) (now (firsts .exit)) (now («entry_starts» .exit)) (now («entry_ends» .exit)) r ⌝ }
+// The decoded bytes opened, their tables noted in what is lent.
+pub fn open_payload(bytes: &[u8], notes: &mut [u64]) -> Opened
+    ensures { λ r. ⌜ OpenedTold (now (bytes .entry)) (now (notes .exit)) r ⌝ }
 {
-    let table = messages::reader::open_payload(bytes);
+    if 4294967295 < bytes.len() {
+        return Opened::NoRoom;
+    }
+    let table = messages::reader::split_payload(bytes);
     match table {
-        messages::reader::Opened::Parts { start, end, rest } => open_table(
-            bytes,
-            start,
-            end,
-            rest,
-            starts,
-            stops,
-            firsts,
-            entry_starts,
-            entry_ends,
-        ),
-        messages::reader::Opened::Refused { error } => Opened::Refused { error },
+        messages::reader::Split::Parts { start, end, rest } => {
+            open_table(bytes, start, end, rest, notes)
+        }
+        messages::reader::Split::Refused { error } => Opened::Refused { error },
     }
 }

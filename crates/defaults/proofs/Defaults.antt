@@ -5,7 +5,7 @@ use mathlib.Core.Logic.{_↔_, Iff·trans}
 use mathlib.Core.List.{List, map}
 use mathlib.Core.Option.{Option, none, some, IsSome, Option·some-injective}
 use Rattle.foundation.specs.Choices.{mapOption, All}
-use Rattle.rows.specs.Declarations.{Ty, Constructor, Function}
+use Rattle.declaration_rows.specs.Declarations.{Ty, Constructor, Function}
 use Rattle.erasure.specs.Erasure.{print, printReturned}
 use Rattle.descriptors.specs.Defaults.{Parts, functionParts, constructorParts, descriptor}
 use Rattle.defaults.specs.Needs.{Has, needed, neededByConstructor, partTexts}

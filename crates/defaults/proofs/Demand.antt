@@ -7,7 +7,7 @@ use Prim.Native.Nat.{ℕ}
 use Rattle.foundation.specs.Choices.{ifSome, mapOption, All}
 use Rattle.foundation.proofs.ChoiceLaws.{all-append}
 use Rattle.characters.specs.WellFormed.{Units}
-use Rattle.rows.specs.Declarations.{Constructor, Function}
+use Rattle.declaration_rows.specs.Declarations.{Constructor, Function}
 use Rattle.inputs.specs.Inputs.{Input}
 use Rattle.inputs.specs.Outcomes.{Answer}
 use Rattle.descriptors.specs.Defaults.{functionParts, constructorParts, descriptor}

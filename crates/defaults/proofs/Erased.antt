@@ -11,7 +11,7 @@ use Rattle.foundation.specs.Texts.{Text, same}
 use Rattle.foundation.proofs.ChoiceLaws.{if-ind, all-append, same-true}
 use Rattle.foundation.proofs.EveryLaws.{all-split}
 use Rattle.defaults.proofs.ChoiceLaws.{some-map, some-both, some-every, same-false}
-use Rattle.rows.specs.Declarations.{Types, noTypes, andType, Ty, typesOf, Constructor, Function}
+use Rattle.declaration_rows.specs.Declarations.{Types, noTypes, andType, Ty, typesOf, Constructor, Function}
 use Rattle.erasure.specs.Erasure.{Meaning, primitive, primitiveArray, array, unit, nothing, mapped, Entry, listed, lookUp, meaningOf, Erased, arrayOf, erasedAs, firstErased, erased, void, value, returnedAs, erasedReturn}
 use Rattle.descriptors.specs.Defaults.{Parts, parts, erasedOption, parameterTypes, typesBefore, suspends, suspendedParts, functionParts, constructorParts}
 use Rattle.defaults.specs.Needs.{withSlashes, kotlin·Array, kotlin·Nothing, HasDescriptor, ends, through, HasDescriptorTy, Has, needed, neededByConstructor}

@@ -13,7 +13,7 @@ use lib.ListN.{length}
 use Rattle.foundation.specs.Choices.{mapOption}
 use Rattle.foundation.specs.Texts.{ascii}
 use Rattle.characters.specs.Characters.{utf8Of, utf8}
-use Rattle.rows.specs.Declarations.{noTypes, Ty, Parameter, Function}
+use Rattle.declaration_rows.specs.Declarations.{noTypes, Ty, Parameter, Function}
 use Rattle.erasure.specs.Erasure.{lookUp, class, firstErased, erased, void, erasedReturn, print}
 use Rattle.descriptors.specs.Defaults.{Parts, parts, functionParts, descriptor}
 use Rattle.defaults.specs.Needs.{partTexts}

@@ -6,7 +6,7 @@ use mathlib.Core.Option.{Option}
 use Prim.Native.Nat.{ℕ}
 use Rattle.foundation.specs.Choices.{ifSome, All}
 use Rattle.foundation.specs.Results.{Res, ok, refused}
-use Rattle.rows.specs.Declarations.{Constructor, Function, Declarations}
+use Rattle.declaration_rows.specs.Declarations.{Constructor, Function, Declarations}
 use Rattle.inputs.specs.Inputs.{Input}
 use Rattle.inputs.specs.Outcomes.{Answer}
 use Rattle.metadata.specs.Read.{reading}

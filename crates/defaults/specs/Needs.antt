@@ -11,7 +11,7 @@ use Rattle.foundation.specs.Choices.{if_then_else_, concat}
 use Rattle.foundation.specs.Texts.{Text, ascii}
 use Rattle.characters.specs.Characters.{utf8}
 use Rattle.names.specs.Records.{substituted}
-use Rattle.rows.specs.Declarations.{Types, andType, Ty, typesOf, Constructor, Function}
+use Rattle.declaration_rows.specs.Declarations.{Types, andType, Ty, typesOf, Constructor, Function}
 use Rattle.schema.specs.Members.{bitOf}
 use Rattle.erasure.specs.Erasure.{Erased, base, class, arrayOf, Returned, void, value, print, printReturned}
 use Rattle.descriptors.specs.Defaults.{Parts}

@@ -6,7 +6,7 @@ use mathlib.Core.List.{List, [], _∷_, _++_}
 use mathlib.Core.Option.{Option, some, IsSome}
 use Prim.Native.Nat.{ℕ}
 use Rattle.foundation.specs.Choices.{concat, All}
-use Rattle.rows.specs.Declarations.{Ty, Constructor, Function}
+use Rattle.declaration_rows.specs.Declarations.{Ty, Constructor, Function}
 use Rattle.descriptors.specs.Defaults.{Parts, functionParts, constructorParts}
 use Rattle.grammar.specs.Grammar.{ClassName, Cut}
 use Rattle.defaults.specs.Needs.{Has, needed, neededByConstructor, partTexts, partNames}

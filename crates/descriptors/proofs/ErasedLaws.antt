@@ -17,6 +17,8 @@ use Rattle.foundation.specs.Texts.{Text}
 use Rattle.foundation.proofs.ChoiceLaws.{if-ind}
 use Rattle.foundation.proofs.ResultLaws.{Gives}
 use Rattle.foundation.proofs.OverlayLaws.{sets-then, sets-front}
+use Rattle.foundation.proofs.PresenceLaws.{none-is, some-is}
+use Rattle.fields.specs.Fields.{Type·nullable, Type·class-name}
 use Rattle.wire.specs.Wire.{Message, cut}
 use Rattle.wire.specs.Messages.{index, flag}
 use Rattle.characters.specs.Characters.{isScalar, partFrom, fromUtf16, utf8Of, utf8}
@@ -31,12 +33,12 @@ use Rattle.names.specs.declared.name.Change.{Change}
 use Rattle.names.proofs.NameLaws.{source-units, name-parts, front-none}
 use Rattle.names.proofs.PresentLaws.{name-most}
 use Rattle.names.proofs.ScalarLaws.{Strings, qualified-characters, d2-characters, substituted-keeps}
-use Rattle.schema.specs.Fields.{Type·nullable, Type·class-name}
-use Rattle.rows.specs.Declarations.{Ty}
+use Rattle.declaration_rows.specs.Declarations.{Ty}
 use Rattle.schema.specs.Reading.{pure, lift, Scope, classNameIn}
-use Rattle.schema.specs.Told.{Lent, NamesOf, Scoped}
+use Rattle.schema.specs.Told.{Lent, NamesOf, Scoped, Stands}
 use Rattle.schema.specs.TypesTold.{orNullable}
-use Rattle.schema.specs.FoundTold.{TypeFound}
+use Rattle.schema.specs.PlacesTold.{TypeFound}
+use Rattle.schema.proofs.StandsLaws.{stands-cut}
 use Rattle.schema.proofs.FoundLaws.{bind-given, first-same}
 use Rattle.schema.proofs.GivenLaws.{Entered, type-entered}
 use Rattle.erasure.specs.Erasure.{slashed, meaningOf, Erased, class, arrayOf, firstErased, erased, value, erasedReturn, print, printReturned}
@@ -183,51 +185,43 @@ class-characters c k m l b n s e = go (index k m) e
 slashed-characters : (n : Text) → Characters n → Characters (slashed n)
 slashed-characters n = substituted-keeps (λ c. T (isScalar c)) 0x2e 0x2f n (scalar-below 0x2f (omega arith))
 
-absent-is : {A : Type 0} (o : Option A) → isSome o ≡ false → o ≡ none
-absent-is none e = refl
-absent-is (some a) e = let z : _≡_ {A = ℕ} 0 1 = cc in absurd (omega arith)
-
-there-is : {A : Type 0} (o : Option A) → isSome o ≡ true → (a : A) × (o ≡ some a)
-there-is none e = let z : _≡_ {A = ℕ} 0 1 = cc in absurd (omega arith)
-there-is (some a) e = (a, refl)
-
 -- One type.
-module _ (e : Lent) (start end : ℕ) (nullable : Bool) (position : Position) (at : ℕ) (name : Name)
-    (i : (c : Scope) → NamesOf (e .payload) (e .d2) (e .ends) (e .starts) (e .stops) (e .firsts) (e .tables .records) (c .names)
-    → (m : Message) → cut (_from_ start (partFrom start end (e .payload))) ≡ ok m → (l : ℕ)
+module _ (e : Lent) (msg : List ℕ) (base : ℕ) (nullable : Bool) (position : Position) (at : ℕ) (name : Name) (st : Stands (e .payload) msg base)
+    (i : (c : Scope) → NamesOf (e .payload) (e .d2) (e .ends) (e .notes) (e .tables .records) (c .names)
+    → (m : Message) → cut (_from_ base msg) ≡ ok m → (l : ℕ)
     → classNameIn c Type·class-name m l ≡ ok (nameText (e .payload) (e .d2) name, l)) where
-  module _ (c : Scope) (o : Scoped e c) (left : ℕ) (t : Ty) (f : TypeFound (e .payload) c start end left t) where
+  module _ (c : Scope) (o : Scoped e c) (left : ℕ) (t : Ty) (f : TypeFound (e .payload) c base (base + length msg) left t) where
     entered : Entered c (f .depth) (f .message) t
     entered = type-entered c (f .depth) (f .message) t (f .before) (f .after) (f .given)
 
     name-is : t .name ≡ nameText (e .payload) (e .d2) name
     name-is =
         ap (λ (t : Ty). t .name) (entered .is)
-        ∙ first-same (sym (entered .named) ∙ i c (o .names) (f .message) (f .at .cuts) (entered .between))
+        ∙ first-same (sym (entered .named) ∙ i c (o .names) (f .message) (stands-cut st (f .at)) (entered .between))
 
     name-characters : Units (e .d2) → (n : Text) → nameText (e .payload) (e .d2) name ≡ some n → Characters n
     name-characters u n g =
         class-characters c Type·class-name (f .message) 0 0 n (lent-strings e c o u)
-        (i c (o .names) (f .message) (f .at .cuts) 0 ∙ ap (λ (x : Option Text). pure x 0) g)
+        (i c (o .names) (f .message) (stands-cut st (f .at)) 0 ∙ ap (λ (x : Option Text). pure x 0) g)
 
-  pub type-absent : isSome (nameText (e .payload) (e .d2) name) ≡ false → {A A′ : List ℕ} → TypePartTold e start end nullable position at typePart.Absent A A′
+  pub type-absent : isSome (nameText (e .payload) (e .d2) name) ≡ false → {A A′ : List ℕ} → TypePartTold e base (base + length msg) nullable position at typePart.Absent A A′
   type-absent h = record {
     within = tt;
     is = λ c o left t f.
         ap (mapOption printReturned)
-        (erased-nameless position (orNullable nullable t) (name-is c o left t f ∙ absent-is (nameText (e .payload) (e .d2) name) h));
+        (erased-nameless position (orNullable nullable t) (name-is c o left t f ∙ none-is (nameText (e .payload) (e .d2) name) h));
   }
 
   module _ (units : Units (e .d2)) (meaning : Meaning) (m : Means (nameBytes (e .payload) (e .d2) name true) meaning) {either : Bool}
-      (n : (m : Message) → cut (_from_ start (partFrom start end (e .payload))) ≡ ok m → (nullable || flag Type·nullable m) ≡ either)
+      (n : (m : Message) → cut (_from_ base msg) ≡ ok m → (nullable || flag Type·nullable m) ≡ either)
       (printed : Printed) (p : PrintsAs meaning either position printed) where
-    type-printed : (c : Scope) (o : Scoped e c) (left : ℕ) (t : Ty) (f : TypeFound (e .payload) c start end left t) (x : Text)
+    type-printed : (c : Scope) (o : Scoped e c) (left : ℕ) (t : Ty) (f : TypeFound (e .payload) c base (base + length msg) left t) (x : Text)
         → nameText (e .payload) (e .d2) name ≡ some x
         → erasedAt position (orNullable nullable t) ≡ printedTold (slashed x) (firstErased true (t .arguments)) printed
     type-printed c o left t f x g =
         let inner = firstErased true (t .arguments) in
         let either-is : (nullable || t .nullable) ≡ either =
-        ap (λ (t : Ty). nullable || t .nullable) (entered c o left t f .is) ∙ n (f .message) (f .at .cuts) in
+        ap (λ (t : Ty). nullable || t .nullable) (entered c o left t f .is) ∙ n (f .message) (stands-cut st (f .at)) in
         erased-named position (orNullable nullable t) x (name-is c o left t f ∙ g)
         ∙ ap (λ (b : Bool). partAt position b inner (meaningOf x)) either-is
         ∙ part-told position either inner meaning printed (slashed x) m p
@@ -235,11 +229,11 @@ module _ (e : Lent) (start end : ℕ) (nullable : Bool) (position : Position) (a
         (sym (name-slashed (e .payload) (e .d2) name x g))
 
     pub type-part : isSome (nameText (e .payload) (e .d2) name) ≡ true → {r : TypePart} {A A′ : List ℕ}
-        → PrintedPut (e .payload) (e .d2) name printed at r A A′ → TypePartTold e start end nullable position at r A A′
+        → PrintedPut (e .payload) (e .d2) name printed at r A A′ → TypePartTold e base (base + length msg) nullable position at r A A′
     type-part h {r} {A} {A′} q = record {
       within = q .within;
       is = λ c o left t f.
-          let x = there-is (nameText (e .payload) (e .d2) name) h in
+          let x = some-is (nameText (e .payload) (e .d2) name) h in
           subst (λ y. TypePartIs (mapOption printReturned y) (firstErased true (t .arguments)) at r A A′)
           (sym (type-printed c o left t f (x .0) (x .1)))
           (q .is (x .0) (x .1) (firstErased true (t .arguments)));

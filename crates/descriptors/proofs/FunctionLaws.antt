@@ -11,22 +11,14 @@ use lib.ListN.{length, set, length-append}
 use lib.Seq.{sets}
 use Rattle.foundation.specs.Choices.{if_then_else_, ifSome, mapOption}
 use Rattle.foundation.specs.Results.{ok, _from_}
+use Rattle.fields.specs.Fields.{Constructor·value-parameter, Function·return-type, Function·receiver-type, Function·value-parameter, Function·return-type-id, Function·receiver-type-id, Function·flags}
 use Rattle.wire.specs.Wire.{Message, cut}
-use Rattle.characters.specs.Characters.{partFrom}
-use Rattle.schema.specs.Fields.{
-  Constructor·value-parameter,
-  Function·return-type,
-  Function·receiver-type,
-  Function·value-parameter,
-  Function·return-type-id,
-  Function·receiver-type-id,
-  Function·flags,
-}
-use Rattle.rows.specs.Declarations.{Ty, Constructor, Function}
+use Rattle.declaration_rows.specs.Declarations.{Ty, Constructor, Function}
 use Rattle.schema.specs.Reading.{Scope}
 use Rattle.schema.specs.Types.{declaredType}
 use Rattle.schema.specs.Members.{bitOf, flagsIn, receiverIn}
-use Rattle.schema.specs.Told.{Lent, EntryAt}
+use Rattle.schema.specs.Told.{Lent, EntryAt, Stands}
+use Rattle.schema.proofs.StandsLaws.{stands-cut}
 use Rattle.erasure.specs.Erasure.{Returned, value, erasedReturn, print, printReturned}
 use Rattle.erasure.specs.Told.{fixedPart, PutText, PutPart}
 use Rattle.erasure.specs.declared.Position.the-variants as position
@@ -55,13 +47,12 @@ use Rattle.descriptors.proofs.JoinLaws.{
 }
 
 -- Room for what stands at the start, and after it.
-pub room-less : {payload d2 : List ℕ} {start end n at : ℕ} (n₁ at₁ : ℕ) → at₁ + n₁ ≤ at + n → PartRoom payload d2 start end n at
-    → PartRoom payload d2 start end n₁ at₁
+pub room-less : {payload d2 msg : List ℕ} {base n at : ℕ} (n₁ at₁ : ℕ) → at₁ + n₁ ≤ at + n → PartRoom payload d2 msg base n at
+    → PartRoom payload d2 msg base n₁ at₁
 room-less n₁ at₁ h p = record {
   payload-short = p .payload-short;
   d2-short = p .d2-short;
-  ordered = p .ordered;
-  inside = p .inside;
+  stands = p .stands;
   room = omega (arith, p .room);
 }
 
@@ -78,7 +69,7 @@ parameters d = parametersPart (d .parameters)
 abbrev ended : Constructor → Option (List ℕ)
 ended d = both (parametersPart (d .parameters)) (some (0x29 ∷ 0x56 ∷ []))
 
-module _ (e : Lent) (start end at : ℕ) (A : List ℕ) {A₁ A₂ : List ℕ} (f : A₁ ≡ set A at 0x28) {r : Part}
+module _ {e : Lent} {start end : ℕ} (at : ℕ) (A : List ℕ) {A₁ A₂ : List ℕ} (f : A₁ ≡ set A at 0x28) {r : Part}
     (u : ParametersTold e start end Constructor·value-parameter (at + 1) r A₁ A₂) where
   parameters-are : {y : Part} → r ≡ y → PartOf ConstructorGiven parameters (partCost * (end - start)) e start end (at + 1) y A₁ A₂
   parameters-are w = part-answer w (record { within = u .within; is = λ c s m k d g. u .is c s m k (d .parameters) (g .before) (g .after) (g .is) })
@@ -101,18 +92,18 @@ module _ (e : Lent) (start end at : ℕ) (A : List ℕ) {A₁ A₂ : List ℕ} (
       (let i : 1 + (size + 2) ≡ 3 + size = omega arith in ap part.Written i)
 
 -- A function's receiver.
-module _ (e : Lent) (start end at : ℕ) {b : Bool}
-    (t : (c : Scope) (m : Message) (l : ℕ) (o : Option Ty) (n : ℕ) → cut (_from_ start (partFrom start end (e .payload))) ≡ ok m
+module _ (e : Lent) (msg : List ℕ) (base at : ℕ) (st : Stands (e .payload) msg base) {b : Bool}
+    (t : (c : Scope) (m : Message) (l : ℕ) (o : Option Ty) (n : ℕ) → cut (_from_ base msg) ≡ ok m
     → declaredType c Function·receiver-type Function·receiver-type-id m l ≡ ok (o, n) → receiverIn o Function·receiver-type-id m ≡ b) where
-  received : (c : Scope) (m : Message) → EntryAt (e .payload) start end m → (f : Function) → FunctionGiven c m f → {y : Bool} → b ≡ y
+  received : (c : Scope) (m : Message) → EntryAt (e .payload) base (base + length msg) m → (f : Function) → FunctionGiven c m f → {y : Bool} → b ≡ y
       → (if y then typePart position.Parameter (f .receiver) else some []) ≡ receiverPart f
   received c m k f g {y} q =
-      let h : f .hasReceiver ≡ y = g .hasReceiver ∙ t c m (g .receiver .before) (f .receiver) (g .receiver .after) (k .cuts) (g .receiver .is) ∙ q in
+      let h : f .hasReceiver ≡ y = g .hasReceiver ∙ t c m (g .receiver .before) (f .receiver) (g .receiver .after) (stands-cut st k) (g .receiver .is) ∙ q in
       ap (λ (x : Bool). if x then typePart position.Parameter (f .receiver) else some []) (sym h)
 
   pub receiver-there : b ≡ true → {r : Part} {A A₁ : List ℕ}
-      → PartOf (TypeGiven Function·receiver-type Function·receiver-type-id) (typePart position.Parameter) partCost e start end at r A A₁
-      → PartOf FunctionGiven receiverPart partCost e start end at r A A₁
+      → PartOf (TypeGiven Function·receiver-type Function·receiver-type-id) (typePart position.Parameter) partCost e base (base + length msg) at r A A₁
+      → PartOf FunctionGiven receiverPart partCost e base (base + length msg) at r A A₁
   receiver-there q {r} {A} {A₁} u = record {
     within = u .within;
     is = λ c s m k f g.
@@ -120,7 +111,7 @@ module _ (e : Lent) (start end at : ℕ) {b : Bool}
         (u .is c s m k (f .receiver) (g .receiver));
   }
 
-  pub receiver-none : b ≡ false → (A : List ℕ) → PartOf FunctionGiven receiverPart partCost e start end at (part.Written 0) A A
+  pub receiver-none : b ≡ false → (A : List ℕ) → PartOf FunctionGiven receiverPart partCost e base (base + length msg) at (part.Written 0) A A
   receiver-none q A = record {
     within = omega arith;
     is = λ c s m k f g.
@@ -128,20 +119,20 @@ module _ (e : Lent) (start end at : ℕ) {b : Bool}
   }
 
 -- What stands before the ): the receiver, then the parameters.
-module _ (e : Lent) (start end at : ℕ) {r : Part} {A A₁ : List ℕ} (u : PartOf FunctionGiven receiverPart partCost e start end at r A A₁) where
-  pub before-absent : r ≡ part.Absent → PartOf FunctionGiven beforePart (partCost * (1 + (end - start))) e start end at part.Absent A A₁
+module _ {e : Lent} (msg : List ℕ) {base at : ℕ} {r : Part} {A A₁ : List ℕ} (u : PartOf FunctionGiven receiverPart partCost e base (base + length msg) at r A A₁) where
+  pub before-absent : r ≡ part.Absent → PartOf FunctionGiven beforePart (partCost * (1 + length msg)) e base (base + length msg) at part.Absent A A₁
   before-absent w =
-      part-absent receiverPart (λ f. parametersPart (f .parameters)) beforePart before-part (partCost * (1 + (end - start))) (part-answer w u)
+      part-absent receiverPart (λ f. parametersPart (f .parameters)) beforePart before-part (partCost * (1 + length msg)) (part-answer w u)
 
-  pub before-done : {size : ℕ} → r ≡ part.Written size → {y z : Part} {A₂ : List ℕ} → ParametersTold e start end Function·value-parameter (at + size) y A₁ A₂
-      → z ≡ preceded size y → PartOf FunctionGiven beforePart (partCost * (1 + (end - start))) e start end at z A A₂
+  pub before-done : {size : ℕ} → r ≡ part.Written size → {y z : Part} {A₂ : List ℕ} → ParametersTold e base (base + length msg) Function·value-parameter (at + size) y A₁ A₂
+      → z ≡ preceded size y → PartOf FunctionGiven beforePart (partCost * (1 + length msg)) e base (base + length msg) at z A A₂
   before-done {size} w {y} {z} {A₂} v q =
-      let p : PartOf FunctionGiven (λ f. parametersPart (f .parameters)) (partCost * (end - start)) e start end (at + size) y A₁ A₂ = record {
+      let p : PartOf FunctionGiven (λ f. parametersPart (f .parameters)) (partCost * (base + length msg - base)) e base (base + length msg) (at + size) y A₁ A₂ = record {
         within = v .within;
         is = λ c s m k f g. v .is c s m k (f .parameters) (g .parameters .before) (g .parameters .after) (g .parameters .is);
       } in
       part-answer (sym q)
-      (part-more (partCost * (1 + (end - start))) (omega arith)
+      (part-more (partCost * (1 + length msg)) (omega arith)
       (part-then receiverPart (λ f. parametersPart (f .parameters)) beforePart before-part (part-answer w u) p))
 
 -- The parts that the code names.
@@ -185,12 +176,13 @@ returned-text (some t) = go (erasedReturn t)
     go none = refl
     go (some r) = refl
 
-module _ (e : Lent) (start end at : ℕ) {b : Bool} (t : (m : Message) → EntryAt (e .payload) start end m → bitOf 13 (flagsIn Function·flags m) ≡ b) where
-  suspending : (c : Scope) (m : Message) → EntryAt (e .payload) start end m → (f : Function) → FunctionGiven c m f → {y : Bool} → b ≡ y → suspends f ≡ y
-  suspending c m k f g q = ap (bitOf 13) (g .flags) ∙ t m k ∙ q
+module _ (e : Lent) (msg : List ℕ) (base at : ℕ) (st : Stands (e .payload) msg base) {b : Bool}
+    (t : (m : Message) → cut (_from_ base msg) ≡ ok m → bitOf 13 (flagsIn Function·flags m) ≡ b) where
+  suspending : (c : Scope) (m : Message) → EntryAt (e .payload) base (base + length msg) m → (f : Function) → FunctionGiven c m f → {y : Bool} → b ≡ y → suspends f ≡ y
+  suspending c m k f g q = ap (bitOf 13) (g .flags) ∙ t m (stands-cut st k) ∙ q
 
   pub after-suspended : b ≡ true → {size : ℕ} {A A₁ : List ℕ} → PutText (print continuation ++ (0x29 ∷ print object)) at size A A₁
-      → PartOf FunctionGiven afterPart (partCost * 2) e start end at (part.Written size) A A₁
+      → PartOf FunctionGiven afterPart (partCost * 2) e base (base + length msg) at (part.Written size) A A₁
   after-suspended q {size} {A} {A₁} u = record {
     within = omega (arith, u .size, suspended-short);
     is = λ c s m k f g.
@@ -200,10 +192,10 @@ module _ (e : Lent) (start end at : ℕ) {b : Bool} (t : (m : Message) → Entry
   }
 
   pub after-returned : b ≡ false → {A A₁ A₂ : List ℕ} → A₁ ≡ set A at 0x29 → {r z : Part}
-      → PartOf (TypeGiven Function·return-type Function·return-type-id) (typePart position.Return) partCost e start end (at + 1) r A₁ A₂
-      → z ≡ preceded 1 r → PartOf FunctionGiven afterPart (partCost * 2) e start end at z A A₂
+      → PartOf (TypeGiven Function·return-type Function·return-type-id) (typePart position.Return) partCost e base (base + length msg) (at + 1) r A₁ A₂
+      → z ≡ preceded 1 r → PartOf FunctionGiven afterPart (partCost * 2) e base (base + length msg) at z A A₂
   after-returned q {A} {A₁} {A₂} i {r} {z} u w =
-      let last : PartOf FunctionGiven (λ f. typePart position.Return (f .returned)) partCost e start end (at + 1) r A₁ A₂ = record {
+      let last : PartOf FunctionGiven (λ f. typePart position.Return (f .returned)) partCost e base (base + length msg) (at + 1) r A₁ A₂ = record {
         within = u .within;
         is = λ c s m k f g. u .is c s m k (f .returned) (g .returned);
       } in
@@ -220,19 +212,19 @@ module _ (e : Lent) (start end at : ℕ) {b : Bool} (t : (m : Message) → Entry
 abbrev inner : Function → Option (List ℕ)
 inner f = both (beforePart f) (afterPart f)
 
-module _ (e : Lent) (start end at : ℕ) (A : List ℕ) {A₁ A₂ : List ℕ} (h : A₁ ≡ set A at 0x28) {r : Part}
-    (u : PartOf FunctionGiven beforePart (partCost * (1 + (end - start))) e start end (at + 1) r A₁ A₂) where
-  function-told : {n : ℕ} → 1 + n ≤ partCost * (4 + (end - start)) → {y z : Part} {A₃ : List ℕ} → PartOf FunctionGiven inner n e start end (at + 1) y A₁ A₃
-      → preceded 1 y ≡ z → FunctionDefault e start end at z A A₃
+module _ {e : Lent} (msg : List ℕ) {base : ℕ} (at : ℕ) (A : List ℕ) {A₁ A₂ : List ℕ} (h : A₁ ≡ set A at 0x28) {r : Part}
+    (u : PartOf FunctionGiven beforePart (partCost * (1 + length msg)) e base (base + length msg) (at + 1) r A₁ A₂) where
+  function-told : {n : ℕ} → 1 + n ≤ partCost * (4 + (base + length msg - base)) → {y z : Part} {A₃ : List ℕ} → PartOf FunctionGiven inner n e base (base + length msg) (at + 1) y A₁ A₃
+      → preceded 1 y ≡ z → FunctionDefault e base (base + length msg) at z A A₃
   function-told i p w =
-      let q = opened inner (λ f. mapOption descriptor (functionParts f)) function-text (partCost * (4 + (end - start))) i h p w in
+      let q = opened inner (λ f. mapOption descriptor (functionParts f)) function-text (partCost * (4 + (base + length msg - base))) i h p w in
       record { within = q .within; is = λ c s m k f l b g. q .is c s m k f (function-given c m f l b g) }
 
-  pub function-absent : r ≡ part.Absent → FunctionDefault e start end at part.Absent A A₂
+  pub function-absent : r ≡ part.Absent → FunctionDefault e base (base + length msg) at part.Absent A A₂
   function-absent w = function-told {n = 0} (omega arith) (part-absent beforePart afterPart inner (λ f. refl) 0 (part-answer w u)) refl
 
   pub function-done : {size : ℕ} → r ≡ part.Written size → {y z : Part} {A₃ : List ℕ}
-      → PartOf FunctionGiven afterPart (partCost * 2) e start end (at + 1 + size) y A₂ A₃ → z ≡ preceded (1 + size) y → FunctionDefault e start end at z A A₃
+      → PartOf FunctionGiven afterPart (partCost * 2) e base (base + length msg) (at + 1 + size) y A₂ A₃ → z ≡ preceded (1 + size) y → FunctionDefault e base (base + length msg) at z A A₃
   function-done {size} w {y} v q =
-      function-told {n = partCost * (1 + (end - start)) + partCost * 2} (omega arith) (part-then beforePart afterPart inner (λ f. refl) (part-answer w u) v)
+      function-told {n = partCost * (1 + length msg) + partCost * 2} (omega arith) (part-then beforePart afterPart inner (λ f. refl) (part-answer w u) v)
       (preceded-sum 1 size y ∙ sym q)

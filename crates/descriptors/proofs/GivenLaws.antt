@@ -10,26 +10,11 @@ use Rattle.foundation.specs.Choices.{isSome, IfSome}
 use Rattle.foundation.specs.Results.{Res, ok, refused}
 use Rattle.foundation.specs.Texts.{Text, ascii}
 use Rattle.foundation.proofs.ResultLaws.{Gives, gives-ok}
+use Rattle.fields.specs.Fields.{Constructor·value-parameter, Constructor·constructor-signature, Function·name, Function·return-type, Function·receiver-type, Function·value-parameter, Function·return-type-id, Function·receiver-type-id, Function·method-signature, ValueParameter·name, ValueParameter·type, ValueParameter·vararg-element-type, ValueParameter·type-id, ValueParameter·vararg-element-type-id}
 use Rattle.wire.specs.Wire.{Message}
 use Rattle.wire.specs.Messages.{messages}
 use Rattle.wire.proofs.WalkLaws.{ok-same}
-use Rattle.schema.specs.Fields.{
-  Constructor·value-parameter,
-  Constructor·constructor-signature,
-  Function·name,
-  Function·return-type,
-  Function·receiver-type,
-  Function·value-parameter,
-  Function·return-type-id,
-  Function·receiver-type-id,
-  Function·method-signature,
-  ValueParameter·name,
-  ValueParameter·type,
-  ValueParameter·vararg-element-type,
-  ValueParameter·type-id,
-  ValueParameter·vararg-element-type-id,
-}
-use Rattle.rows.specs.Declarations.{Parameter, Constructor, Function}
+use Rattle.declaration_rows.specs.Declarations.{Parameter, Constructor, Function}
 use Rattle.schema.specs.Reading.{Read, lift, keep, kept, Scope, nameIn}
 use Rattle.schema.specs.Types.{declaredType}
 use Rattle.schema.specs.Members.{named, signatureIn, parameterIn, listIn, constructorIn, functionIn}

@@ -11,7 +11,7 @@ use lib.ListN.{set, length-append}
 use Rattle.foundation.specs.Choices.{if_then_else_, ifSome, mapOption, bothOf, everyOf, concat}
 use Rattle.foundation.proofs.OverlayLaws.{sets-then}
 use Rattle.wire.specs.Wire.{Message}
-use Rattle.rows.specs.Declarations.{Ty, Parameter, Constructor, Function}
+use Rattle.declaration_rows.specs.Declarations.{Ty, Parameter, Constructor, Function}
 use Rattle.schema.specs.Reading.{Scope, keep}
 use Rattle.schema.specs.Told.{Lent}
 use Rattle.erasure.specs.Erasure.{Erased, erased, Returned, value, erasedReturn, print, printReturned}

@@ -14,7 +14,7 @@ use Rattle.characters.specs.WellFormed.{Characters, WellFormed, empty, characte
 use Rattle.foundation.proofs.EveryLaws.{every, every-all}
 use Rattle.characters.proofs.Utf8Laws.{utf8-well-formed}
 use Rattle.names.proofs.ScalarLaws.{substituted-keeps}
-use Rattle.rows.specs.Declarations.{Types, noTypes, andType, Ty, Parameter, Constructor, Function}
+use Rattle.declaration_rows.specs.Declarations.{Types, noTypes, andType, Ty, Parameter, Constructor, Function}
 use Rattle.schema.proofs.Fine.{FineTypes, FineTy, FineParameter, FineConstructor, FineFunction}
 use Rattle.erasure.specs.Erasure.{
   Primitive,

@@ -7,9 +7,9 @@ use Prim.Native.Nat.{ℕ}
 use Rattle.foundation.specs.Choices.{if_then_else_, ifSome, mapOption, bothOf, everyOf, concat}
 use Rattle.foundation.specs.Texts.{ascii}
 use Rattle.sheet.specs.Rows.{ref, Row, row}
-use Rattle.rows.specs.Declarations.{Ty, Parameter, Constructor, Function}
+use Rattle.declaration_rows.specs.Declarations.{Ty, Parameter, Constructor, Function}
 use Rattle.schema.specs.Members.{bitOf}
-use Rattle.rows.specs.Rows.{constructorRows, functionRows}
+use Rattle.declaration_rows.specs.Rows.{constructorRows, functionRows}
 use Rattle.erasure.specs.Erasure.{Erased, class, erased, Returned, void, value, erasedReturn, print, printReturned}
 
 -- The erased parts: those before the last, and the last, which is the return's.

@@ -8,12 +8,12 @@ use Prim.Native.Nat.{ℕ, _+_, _-_, _*_, _^_, _≤_}
 use Rattle.foundation.specs.Choices.{mapOption, everyOf, concat}
 use Rattle.foundation.specs.Results.{ok}
 use Rattle.wire.specs.Wire.{Message}
-use Rattle.rows.specs.Declarations.{Ty, Parameter, Constructor, Function}
+use Rattle.declaration_rows.specs.Declarations.{Ty, Parameter, Constructor, Function}
 use Rattle.schema.specs.Reading.{Scope}
 use Rattle.schema.specs.Members.{listIn, parameterIn, constructorIn, functionIn}
 use Rattle.schema.specs.Told.{Lent, Scoped, EntryAt}
 use Rattle.schema.specs.TypesTold.{orNullable}
-use Rattle.schema.specs.FoundTold.{TypeFound}
+use Rattle.schema.specs.PlacesTold.{TypeFound}
 use Rattle.erasure.specs.Erasure.{firstErased, single, erased, Returned, value, erasedReturn, print, printReturned}
 use Rattle.erasure.specs.Told.{PutText}
 use Rattle.erasure.specs.declared.Position.{Position}

@@ -9,11 +9,11 @@ use Rattle.foundation.specs.Choices.{mapOption}
 use Rattle.foundation.specs.Texts.{Text}
 use Rattle.names.specs.Name.{nameText}
 use Rattle.names.specs.declared.name.Name.{Name}
-use Rattle.rows.specs.Declarations.{Ty}
+use Rattle.declaration_rows.specs.Declarations.{Ty}
 use Rattle.schema.specs.Reading.{Scope}
 use Rattle.schema.specs.Told.{Lent, Scoped}
 use Rattle.schema.specs.TypesTold.{orNullable}
-use Rattle.schema.specs.FoundTold.{TypeFound}
+use Rattle.schema.specs.PlacesTold.{TypeFound}
 use Rattle.erasure.specs.Erasure.{slashed, Erased, firstErased, print, printReturned}
 use Rattle.erasure.specs.Told.{PutText, printedTold}
 use Rattle.erasure.specs.declared.Position.{Position}

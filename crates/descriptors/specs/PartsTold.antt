@@ -7,20 +7,13 @@ use Prim.Native.Nat.{ℕ, _+_, _^_, _≤_}
 use lib.ListN.{length}
 use Rattle.foundation.specs.Choices.{if_then_else_, ifSome, mapOption, everyOf, concat}
 use Rattle.foundation.specs.Results.{ok}
+use Rattle.fields.specs.Fields.{Function·return-type, Function·receiver-type, Function·value-parameter, Function·return-type-id, Function·receiver-type-id, Function·flags}
 use Rattle.wire.specs.Wire.{Message}
-use Rattle.schema.specs.Fields.{
-  Function·return-type,
-  Function·receiver-type,
-  Function·value-parameter,
-  Function·return-type-id,
-  Function·receiver-type-id,
-  Function·flags,
-}
-use Rattle.rows.specs.Declarations.{Ty, Parameter, Function}
+use Rattle.declaration_rows.specs.Declarations.{Ty, Parameter, Function}
 use Rattle.schema.specs.Reading.{Read, Scope, keep}
 use Rattle.schema.specs.Types.{declaredType}
 use Rattle.schema.specs.Members.{flagsIn, receiverIn, listIn, parameterIn}
-use Rattle.schema.specs.Told.{Lent, Scoped, EntryAt}
+use Rattle.schema.specs.Told.{Lent, Scoped, EntryAt, Stands}
 use Rattle.erasure.specs.Erasure.{erasedReturn, print, printReturned}
 use Rattle.erasure.specs.declared.Position.{Position}
 use Rattle.erasure.specs.declared.Position.the-variants as position
@@ -29,13 +22,12 @@ use Rattle.erasure.specs.declared.Part.the-variants as part
 use Rattle.descriptors.specs.Defaults.{erasedOption, typesBefore, suspends, continuation, object}
 use Rattle.descriptors.specs.DefaultsTold.{erasedAt, PartWithin, PartTold, parametersPart}
 
--- What a writer of parts starts from: decoded bytes and d2 of 32,768 at most, a message among the decoded bytes, and n bytes that can be
--- counted from a place on.
-pub record PartRoom (payload d2 : List ℕ) (start end n at : ℕ) : Type 0 where
+-- What a writer of parts starts from: decoded bytes and d2 of 32,768 at most, a message that stands among the decoded bytes, and n bytes
+-- that can be counted from a place on.
+pub record PartRoom (payload d2 msg : List ℕ) (base n at : ℕ) : Type 0 where
   pub payload-short : length payload ≤ 32768
   pub d2-short : length d2 ≤ 32768
-  pub ordered : start ≤ end
-  pub inside : end ≤ length payload
+  pub stands : Stands payload msg base
   pub room : at + n ≤ 2 ^ 61
 
 -- A reading has given this, with some types left before and after.

@@ -2,90 +2,68 @@
 // tell: specs/DefaultsTold.antt and specs/PartsTold.antt.
 ghost use mathlib.Core.Path.{_≡_};
 ghost use mathlib.Core.List.{_∷_, _++_};
-ghost use Prim.Native.Nat.{_+_, _-_, _*_, _^_, _≤_};
+ghost use Prim.Native.Nat.{_+_, _*_, _^_, _≤_};
 ghost use lib.ListN.{length};
-ghost use Rattle.wire.specs.Wire.{Message};
-ghost use Rattle.schema.specs.Fields.{Function·flags};
+ghost use Rattle.foundation.specs.Results.{ok, _from_};
+ghost use Rattle.fields.specs.Fields.{Function·flags};
+ghost use Rattle.wire.specs.Wire.{Message, cut};
 ghost use Rattle.schema.specs.Members.{bitOf, flagsIn};
-ghost use Rattle.schema.specs.Told.{lent, EntryAt};
+ghost use Rattle.schema.specs.Told.{lent};
 ghost use Rattle.erasure.specs.Erasure.{print};
 ghost use Rattle.erasure.specs.Told.{PutText};
 ghost use Rattle.descriptors.specs.Defaults.{continuation, object};
 ghost use Rattle.descriptors.specs.DefaultsTold.{partCost, PartWithin, ParametersTold, ConstructorDefault, FunctionDefault};
 ghost use Rattle.descriptors.specs.PartsTold.{PartRoom, PartOf, TypeGiven, typePart, ParameterGiven, parameterPart, FunctionGiven, receiverPart, beforePart, afterPart, preceded};
+use crate::erased::Placement;
 use crate::erased::put_erased;
 use erasure::CONTINUATION;
 use erasure::OBJECT;
 use erasure::Part;
 use erasure::Position;
 use erasure::put_part;
+use fields::CONSTRUCTOR_VALUE_PARAMETER;
+use fields::FUNCTION_FLAGS;
+use fields::FUNCTION_RECEIVER_TYPE;
+use fields::FUNCTION_RECEIVER_TYPE_ID;
+use fields::FUNCTION_RETURN_TYPE;
+use fields::FUNCTION_RETURN_TYPE_ID;
+use fields::FUNCTION_VALUE_PARAMETER;
+use fields::OMITTED_FLAGS;
+use fields::VALUE_PARAMETER_NAME;
+use fields::VALUE_PARAMETER_TYPE;
+use fields::VALUE_PARAMETER_TYPE_ID;
 use messages::next_body;
 use names::name::is_there;
-use schema::Found;
+use schema::FoundType;
 use schema::Tables;
+use schema::TypeSlot;
+use schema::flags::flags_in;
 use schema::name::name_in;
 use schema::places::declared_place;
+use schema::receiver::has_receiver;
 use sheet::put;
 use sheet::put_all;
-use signatures::flags::OMITTED;
-use signatures::flags::flags_in;
-use signatures::receiver::has_receiver;
 use wire::Piece;
 
-// Field numbers of metadata.proto's Constructor, Function and ValueParameter.
-const CONSTRUCTOR_PARAMETER: u32 = 2;
-
-const RETURN_TYPE: u32 = 3;
-
-const RECEIVER_TYPE: u32 = 5;
-
-const FUNCTION_PARAMETER: u32 = 6;
-
-const RETURN_TYPE_ID: u32 = 7;
-
-const RECEIVER_TYPE_ID: u32 = 8;
-
-const FUNCTION_FLAGS: u32 = 9;
-
-const PARAMETER_NAME: u32 = 2;
-
-const PARAMETER_TYPE: u32 = 3;
-
-const PARAMETER_TYPE_ID: u32 = 5;
-
-// A declaration's own type at its position. A type that isn't there has no descriptor.
+// A declaration's own type at its position. A type that isn't there has no descriptor. The slot's role is not looked at.
 fn type_part(
-    start: usize,
-    end: usize,
-    inline: u32,
-    indexed: u32,
+    msg: &[u8],
+    base: u32,
+    slot: TypeSlot,
     position: Position,
     payload: &[u8],
     d2: &[u16],
     ends: &[u32],
-    starts: &[u32],
-    stops: &[u32],
-    firsts: &[u64],
-    entry_starts: &[u32],
-    entry_ends: &[u32],
+    notes: &[u64],
     tables: Tables,
     area: &mut [u8],
     at: usize,
 ) -> Part
-    requires { ⌜ PartRoom (now payload) (now d2) start end partCost at ⌝ }
-    ensures { λ r. ⌜ PartOf (TypeGiven inline indexed) (typePart position) partCost (lent (now (payload .entry)) (now (d2 .entry)) (now (ends .entry)) (now (starts .entry)) (now (stops .entry)) (now (firsts .entry)) (now («entry_starts» .entry)) (now («entry_ends» .entry)) tables) start end at r (now (area .entry)) (now (area .exit)) ⌝ }
+    requires { ⌜ PartRoom (now payload) (now d2) (now msg) base partCost at ⌝ }
+    ensures { λ r. ⌜ PartOf (TypeGiven (slot .inline) (slot .indexed)) (typePart position) partCost (lent (now (payload .entry)) (now (d2 .entry)) (now (ends .entry)) (now (notes .entry)) tables) base (base + length (now (msg .entry))) at r (now (area .entry)) (now (area .exit)) ⌝ }
 {
-    let found = declared_place(
-        payload,
-        start,
-        end,
-        inline,
-        indexed,
-        entry_starts,
-        entry_ends,
-        tables,
-    );
-    let Found::Type {
+    let found = declared_place(msg, base, slot, payload, notes, tables);
+    let FoundType::Type {
         start: from,
         end: to,
         nullable,
@@ -94,20 +72,19 @@ fn type_part(
     else {
         return Part::Absent;
     };
-    put_erased(
-        from,
-        to,
+    let placed = Placement {
         nullable,
         left,
         position,
+    };
+    put_erased(
+        &payload[from..to],
+        from as u32,
+        placed,
         payload,
         d2,
         ends,
-        starts,
-        stops,
-        firsts,
-        entry_starts,
-        entry_ends,
+        notes,
         tables,
         area,
         at,
@@ -116,49 +93,42 @@ fn type_part(
 
 // A parameter's part. One without a name is skipped.
 fn parameter_part(
-    start: usize,
-    end: usize,
+    msg: &[u8],
+    base: u32,
     payload: &[u8],
     d2: &[u16],
     ends: &[u32],
-    starts: &[u32],
-    stops: &[u32],
-    firsts: &[u64],
-    entry_starts: &[u32],
-    entry_ends: &[u32],
+    notes: &[u64],
     tables: Tables,
     area: &mut [u8],
     at: usize,
 ) -> Part
-    requires { ⌜ PartRoom (now payload) (now d2) start end partCost at ⌝ }
-    ensures { λ r. ⌜ PartOf ParameterGiven parameterPart partCost (lent (now (payload .entry)) (now (d2 .entry)) (now (ends .entry)) (now (starts .entry)) (now (stops .entry)) (now (firsts .entry)) (now («entry_starts» .entry)) (now («entry_ends» .entry)) tables) start end at r (now (area .entry)) (now (area .exit)) ⌝ }
+    requires { ⌜ PartRoom (now payload) (now d2) (now msg) base partCost at ⌝ }
+    ensures { λ r. ⌜ PartOf ParameterGiven parameterPart partCost (lent (now (payload .entry)) (now (d2 .entry)) (now (ends .entry)) (now (notes .entry)) tables) base (base + length (now (msg .entry))) at r (now (area .entry)) (now (area .exit)) ⌝ }
 {
     let name = name_in(
-        &payload[start..end],
-        start as u32,
-        PARAMETER_NAME,
+        msg,
+        base,
+        VALUE_PARAMETER_NAME,
         payload,
         ends,
-        starts,
-        stops,
-        firsts,
+        notes,
         tables.records,
     );
     if is_there(name) {
         return type_part(
-            start,
-            end,
-            PARAMETER_TYPE,
-            PARAMETER_TYPE_ID,
+            msg,
+            base,
+            TypeSlot {
+                inline: VALUE_PARAMETER_TYPE,
+                indexed: VALUE_PARAMETER_TYPE_ID,
+                role: 0,
+            },
             Position::Parameter,
             payload,
             d2,
             ends,
-            starts,
-            stops,
-            firsts,
-            entry_starts,
-            entry_ends,
+            notes,
             tables,
             area,
             at,
@@ -169,47 +139,35 @@ fn parameter_part(
 
 // The parts of the kept parameters in a field, one after the other.
 pub fn parameter_parts(
-    start: usize,
-    end: usize,
+    msg: &[u8],
+    base: u32,
     number: u32,
     payload: &[u8],
     d2: &[u16],
     ends: &[u32],
-    starts: &[u32],
-    stops: &[u32],
-    firsts: &[u64],
-    entry_starts: &[u32],
-    entry_ends: &[u32],
+    notes: &[u64],
     tables: Tables,
     area: &mut [u8],
     at: usize,
 ) -> Part
-    requires { ⌜ PartRoom (now payload) (now d2) start end (partCost * (end - start)) at ⌝ }
-    ensures { λ r. ⌜ ParametersTold (lent (now (payload .entry)) (now (d2 .entry)) (now (ends .entry)) (now (starts .entry)) (now (stops .entry)) (now (firsts .entry)) (now («entry_starts» .entry)) (now («entry_ends» .entry)) tables) start end number at r (now (area .entry)) (now (area .exit)) ⌝ }
+    requires { ⌜ PartRoom (now payload) (now d2) (now msg) base (partCost * length (now msg)) at ⌝ }
+    ensures { λ r. ⌜ ParametersTold (lent (now (payload .entry)) (now (d2 .entry)) (now (ends .entry)) (now (notes .entry)) tables) base (base + length (now (msg .entry))) number at r (now (area .entry)) (now (area .exit)) ⌝ }
 {
     let mut from = 0;
     let mut size = 0;
     loop {
-        let piece = next_body(&payload[start..end], start as u32, number, from);
-        let Piece::Body {
-            start: first,
-            end: last,
-        } = piece
-        else {
+        let piece = next_body(msg, base, number, from);
+        let Piece::Body { start, end } = piece else {
             return Part::Written { size };
         };
-        from = last;
+        from = end;
         let part = parameter_part(
-            start + first,
-            start + last,
+            &msg[start..end],
+            base + start as u32,
             payload,
             d2,
             ends,
-            starts,
-            stops,
-            firsts,
-            entry_starts,
-            entry_ends,
+            notes,
             tables,
             area,
             at + size,
@@ -234,36 +192,28 @@ fn preceded(size: usize, part: Part) -> Part
 
 // The default descriptor of a constructor, which returns V.
 pub fn constructor_default(
-    start: usize,
-    end: usize,
+    msg: &[u8],
+    base: u32,
     payload: &[u8],
     d2: &[u16],
     ends: &[u32],
-    starts: &[u32],
-    stops: &[u32],
-    firsts: &[u64],
-    entry_starts: &[u32],
-    entry_ends: &[u32],
+    notes: &[u64],
     tables: Tables,
     area: &mut [u8],
     at: usize,
 ) -> Part
-    requires { ⌜ PartRoom (now payload) (now d2) start end (partCost * (4 + (end - start))) at ⌝ }
-    ensures { λ r. ⌜ ConstructorDefault (lent (now (payload .entry)) (now (d2 .entry)) (now (ends .entry)) (now (starts .entry)) (now (stops .entry)) (now (firsts .entry)) (now («entry_starts» .entry)) (now («entry_ends» .entry)) tables) start end at r (now (area .entry)) (now (area .exit)) ⌝ }
+    requires { ⌜ PartRoom (now payload) (now d2) (now msg) base (partCost * (4 + length (now msg))) at ⌝ }
+    ensures { λ r. ⌜ ConstructorDefault (lent (now (payload .entry)) (now (d2 .entry)) (now (ends .entry)) (now (notes .entry)) tables) base (base + length (now (msg .entry))) at r (now (area .entry)) (now (area .exit)) ⌝ }
 {
     put(area, at, b'(');
     let before = parameter_parts(
-        start,
-        end,
-        CONSTRUCTOR_PARAMETER,
+        msg,
+        base,
+        CONSTRUCTOR_VALUE_PARAMETER,
         payload,
         d2,
         ends,
-        starts,
-        stops,
-        firsts,
-        entry_starts,
-        entry_ends,
+        notes,
         tables,
         area,
         at + 1,
@@ -277,43 +227,33 @@ pub fn constructor_default(
 
 // The receiver's part. Without a receiver there is no text.
 fn receiver_part(
-    start: usize,
-    end: usize,
+    msg: &[u8],
+    base: u32,
     payload: &[u8],
     d2: &[u16],
     ends: &[u32],
-    starts: &[u32],
-    stops: &[u32],
-    firsts: &[u64],
-    entry_starts: &[u32],
-    entry_ends: &[u32],
+    notes: &[u64],
     tables: Tables,
     area: &mut [u8],
     at: usize,
 ) -> Part
-    requires { ⌜ PartRoom (now payload) (now d2) start end partCost at ⌝ }
-    ensures { λ r. ⌜ PartOf FunctionGiven receiverPart partCost (lent (now (payload .entry)) (now (d2 .entry)) (now (ends .entry)) (now (starts .entry)) (now (stops .entry)) (now (firsts .entry)) (now («entry_starts» .entry)) (now («entry_ends» .entry)) tables) start end at r (now (area .entry)) (now (area .exit)) ⌝ }
+    requires { ⌜ PartRoom (now payload) (now d2) (now msg) base partCost at ⌝ }
+    ensures { λ r. ⌜ PartOf FunctionGiven receiverPart partCost (lent (now (payload .entry)) (now (d2 .entry)) (now (ends .entry)) (now (notes .entry)) tables) base (base + length (now (msg .entry))) at r (now (area .entry)) (now (area .exit)) ⌝ }
 {
-    if has_receiver(
-        &payload[start..end],
-        start as u32,
-        RECEIVER_TYPE,
-        RECEIVER_TYPE_ID,
-    ) {
+    if has_receiver(msg, base, FUNCTION_RECEIVER_TYPE, FUNCTION_RECEIVER_TYPE_ID) {
         return type_part(
-            start,
-            end,
-            RECEIVER_TYPE,
-            RECEIVER_TYPE_ID,
+            msg,
+            base,
+            TypeSlot {
+                inline: FUNCTION_RECEIVER_TYPE,
+                indexed: FUNCTION_RECEIVER_TYPE_ID,
+                role: 0,
+            },
             Position::Parameter,
             payload,
             d2,
             ends,
-            starts,
-            stops,
-            firsts,
-            entry_starts,
-            entry_ends,
+            notes,
             tables,
             area,
             at,
@@ -324,53 +264,31 @@ fn receiver_part(
 
 // The parts of the types before the return: the receiver's and the kept parameters'.
 fn before_part(
-    start: usize,
-    end: usize,
+    msg: &[u8],
+    base: u32,
     payload: &[u8],
     d2: &[u16],
     ends: &[u32],
-    starts: &[u32],
-    stops: &[u32],
-    firsts: &[u64],
-    entry_starts: &[u32],
-    entry_ends: &[u32],
+    notes: &[u64],
     tables: Tables,
     area: &mut [u8],
     at: usize,
 ) -> Part
-    requires { ⌜ PartRoom (now payload) (now d2) start end (partCost * (1 + (end - start))) at ⌝ }
-    ensures { λ r. ⌜ PartOf FunctionGiven beforePart (partCost * (1 + (end - start))) (lent (now (payload .entry)) (now (d2 .entry)) (now (ends .entry)) (now (starts .entry)) (now (stops .entry)) (now (firsts .entry)) (now («entry_starts» .entry)) (now («entry_ends» .entry)) tables) start end at r (now (area .entry)) (now (area .exit)) ⌝ }
+    requires { ⌜ PartRoom (now payload) (now d2) (now msg) base (partCost * (1 + length (now msg))) at ⌝ }
+    ensures { λ r. ⌜ PartOf FunctionGiven beforePart (partCost * (1 + length (now (msg .entry)))) (lent (now (payload .entry)) (now (d2 .entry)) (now (ends .entry)) (now (notes .entry)) tables) base (base + length (now (msg .entry))) at r (now (area .entry)) (now (area .exit)) ⌝ }
 {
-    let receiver = receiver_part(
-        start,
-        end,
-        payload,
-        d2,
-        ends,
-        starts,
-        stops,
-        firsts,
-        entry_starts,
-        entry_ends,
-        tables,
-        area,
-        at,
-    );
+    let receiver = receiver_part(msg, base, payload, d2, ends, notes, tables, area, at);
     let Part::Written { size } = receiver else {
         return Part::Absent;
     };
     let parameters = parameter_parts(
-        start,
-        end,
-        FUNCTION_PARAMETER,
+        msg,
+        base,
+        FUNCTION_VALUE_PARAMETER,
         payload,
         d2,
         ends,
-        starts,
-        stops,
-        firsts,
-        entry_starts,
-        entry_ends,
+        notes,
         tables,
         area,
         at + size,
@@ -379,11 +297,10 @@ fn before_part(
 }
 
 // Does a function suspend? Bit 13 of its flags.
-fn suspends(payload: &[u8], start: usize, end: usize) -> bool
-    requires { ⌜ (start ≤ end) × (end ≤ length (now payload)) × (length (now payload) ≤ 32768) ⌝ }
-    ensures { λ r. ⌜ ((m : Message) → EntryAt (now (payload .entry)) start end m → bitOf 13 (flagsIn Function·flags m) ≡ r) ⌝ }
+fn suspends(msg: &[u8], base: u32) -> bool
+    ensures { λ r. ⌜ ((m : Message) → cut (_from_ base (now (msg .entry))) ≡ ok m → bitOf 13 (flagsIn Function·flags m) ≡ r) ⌝ }
 {
-    let flags = flags_in(&payload[start..end], start as u32, FUNCTION_FLAGS, OMITTED);
+    let flags = flags_in(msg, base, FUNCTION_FLAGS, OMITTED_FLAGS);
     flags / 8192 % 2 == 1
 }
 
@@ -400,42 +317,37 @@ fn put_suspended(area: &mut [u8], at: usize) -> usize
 
 // What stands after the parameters: ) and the return's part; a suspending function's continuation before it.
 fn after_part(
-    start: usize,
-    end: usize,
+    msg: &[u8],
+    base: u32,
     payload: &[u8],
     d2: &[u16],
     ends: &[u32],
-    starts: &[u32],
-    stops: &[u32],
-    firsts: &[u64],
-    entry_starts: &[u32],
-    entry_ends: &[u32],
+    notes: &[u64],
     tables: Tables,
     area: &mut [u8],
     at: usize,
 ) -> Part
-    requires { ⌜ PartRoom (now payload) (now d2) start end (partCost * 2) at ⌝ }
-    ensures { λ r. ⌜ PartOf FunctionGiven afterPart (partCost * 2) (lent (now (payload .entry)) (now (d2 .entry)) (now (ends .entry)) (now (starts .entry)) (now (stops .entry)) (now (firsts .entry)) (now («entry_starts» .entry)) (now («entry_ends» .entry)) tables) start end at r (now (area .entry)) (now (area .exit)) ⌝ }
+    requires { ⌜ PartRoom (now payload) (now d2) (now msg) base (partCost * 2) at ⌝ }
+    ensures { λ r. ⌜ PartOf FunctionGiven afterPart (partCost * 2) (lent (now (payload .entry)) (now (d2 .entry)) (now (ends .entry)) (now (notes .entry)) tables) base (base + length (now (msg .entry))) at r (now (area .entry)) (now (area .exit)) ⌝ }
 {
-    if suspends(payload, start, end) {
+    if suspends(msg, base) {
         let size = put_suspended(area, at);
         return Part::Written { size };
     }
     put(area, at, b')');
     let returned = type_part(
-        start,
-        end,
-        RETURN_TYPE,
-        RETURN_TYPE_ID,
+        msg,
+        base,
+        TypeSlot {
+            inline: FUNCTION_RETURN_TYPE,
+            indexed: FUNCTION_RETURN_TYPE_ID,
+            role: 0,
+        },
         Position::Return,
         payload,
         d2,
         ends,
-        starts,
-        stops,
-        firsts,
-        entry_starts,
-        entry_ends,
+        notes,
         tables,
         area,
         at + 1,
@@ -445,53 +357,31 @@ fn after_part(
 
 // The default descriptor of a function.
 pub fn function_default(
-    start: usize,
-    end: usize,
+    msg: &[u8],
+    base: u32,
     payload: &[u8],
     d2: &[u16],
     ends: &[u32],
-    starts: &[u32],
-    stops: &[u32],
-    firsts: &[u64],
-    entry_starts: &[u32],
-    entry_ends: &[u32],
+    notes: &[u64],
     tables: Tables,
     area: &mut [u8],
     at: usize,
 ) -> Part
-    requires { ⌜ PartRoom (now payload) (now d2) start end (partCost * (4 + (end - start))) at ⌝ }
-    ensures { λ r. ⌜ FunctionDefault (lent (now (payload .entry)) (now (d2 .entry)) (now (ends .entry)) (now (starts .entry)) (now (stops .entry)) (now (firsts .entry)) (now («entry_starts» .entry)) (now («entry_ends» .entry)) tables) start end at r (now (area .entry)) (now (area .exit)) ⌝ }
+    requires { ⌜ PartRoom (now payload) (now d2) (now msg) base (partCost * (4 + length (now msg))) at ⌝ }
+    ensures { λ r. ⌜ FunctionDefault (lent (now (payload .entry)) (now (d2 .entry)) (now (ends .entry)) (now (notes .entry)) tables) base (base + length (now (msg .entry))) at r (now (area .entry)) (now (area .exit)) ⌝ }
 {
     put(area, at, b'(');
-    let before = before_part(
-        start,
-        end,
-        payload,
-        d2,
-        ends,
-        starts,
-        stops,
-        firsts,
-        entry_starts,
-        entry_ends,
-        tables,
-        area,
-        at + 1,
-    );
+    let before = before_part(msg, base, payload, d2, ends, notes, tables, area, at + 1);
     let Part::Written { size } = before else {
         return Part::Absent;
     };
     let after = after_part(
-        start,
-        end,
+        msg,
+        base,
         payload,
         d2,
         ends,
-        starts,
-        stops,
-        firsts,
-        entry_starts,
-        entry_ends,
+        notes,
         tables,
         area,
         at + 1 + size,

@@ -1,12 +1,12 @@
-// The part of a type at its position, by the place of its message: its class name decides; an array goes on with its first kept argument.
+// The part of a type at its position, by its message: its class name decides; an array goes on with its first kept argument.
 // The definitions: erasure's specs/Erasure.antt; what is told: specs/ErasedTold.antt and `ErasedTold` in specs/DefaultsTold.antt.
 ghost use mathlib.Core.Path.{_≡_};
 ghost use mathlib.Core.Bool.{true, false};
 ghost use mathlib.Core.List.{[], _∷_, _++_};
-ghost use Prim.Native.Nat.{_^_, _≤_};
+ghost use Prim.Native.Nat.{_+_, _^_, _≤_};
 ghost use lib.ListN.{length};
 ghost use Rattle.names.specs.Stream.{nameBytes};
-ghost use Rattle.schema.specs.Told.{lent};
+ghost use Rattle.schema.specs.Told.{lent, Stands};
 ghost use Rattle.erasure.specs.Told.{Means, PutText};
 ghost use Rattle.descriptors.specs.ErasedTold.{PrintedPut, TypePartTold};
 ghost use Rattle.descriptors.specs.DefaultsTold.{ErasedTold};
@@ -25,7 +25,7 @@ use names::name::change_of;
 use names::name::character_of;
 use names::name::is_there;
 use names::stream::put_name;
-use schema::Found;
+use schema::FoundType;
 use schema::Tables;
 use schema::head::type_head;
 use schema::name::class_name_at;
@@ -33,6 +33,14 @@ use schema::places::first_argument;
 use schema::types::either;
 use schema::types::less;
 use sheet::put;
+
+// How a type is placed: whether it is nullable by its place in the type table, what is left of the depth there, and its position in the
+// descriptor.
+pub struct Placement {
+    pub nullable: bool,
+    pub left: usize,
+    pub position: Position,
+}
 
 // What one type comes to.
 pub enum TypePart {
@@ -118,89 +126,62 @@ fn put_printed(
 }
 
 // One type, by its class name.
-fn put_type(
-    start: usize,
-    end: usize,
-    nullable: bool,
-    position: Position,
+fn put_type_part(
+    msg: &[u8],
+    base: u32,
+    placed: Placement,
     payload: &[u8],
     d2: &[u16],
     ends: &[u32],
-    starts: &[u32],
-    stops: &[u32],
-    firsts: &[u64],
-    entry_starts: &[u32],
-    entry_ends: &[u32],
+    notes: &[u64],
     tables: Tables,
     area: &mut [u8],
     at: usize,
 ) -> TypePart
-    requires { ⌜ (start ≤ end) × (end ≤ length (now payload)) × (length (now payload) ≤ 32768) × (length (now d2) ≤ 32768) × (at ≤ 2 ^ 62) ⌝ }
-    ensures { λ r. ⌜ TypePartTold (lent (now (payload .entry)) (now (d2 .entry)) (now (ends .entry)) (now (starts .entry)) (now (stops .entry)) (now (firsts .entry)) (now («entry_starts» .entry)) (now («entry_ends» .entry)) tables) start end nullable position at r (now (area .entry)) (now (area .exit)) ⌝ }
+    requires { ⌜ Stands (now payload) (now msg) base × (length (now payload) ≤ 32768) × (length (now d2) ≤ 32768) × (at ≤ 2 ^ 62) ⌝ }
+    ensures { λ r. ⌜ TypePartTold (lent (now (payload .entry)) (now (d2 .entry)) (now (ends .entry)) (now (notes .entry)) tables) base (base + length (now (msg .entry))) (placed .nullable) (placed .position) at r (now (area .entry)) (now (area .exit)) ⌝ }
 {
-    let base = start as u32;
-    let head = type_head(&payload[start..end], base);
+    let head = type_head(msg, base);
     let found = head.name;
-    let name = class_name_at(
-        found,
-        payload,
-        d2,
-        ends,
-        starts,
-        stops,
-        firsts,
-        tables.records,
-    );
+    let name = class_name_at(found, payload, d2, ends, notes, tables.records);
     if !is_there(name) {
         return TypePart::Absent;
     }
     let meaning = name_meaning(payload, d2, name);
-    let printed = printed_as(meaning, either(nullable, head.nullable), position);
+    let position = placed.position;
+    let printed = printed_as(meaning, either(placed.nullable, head.nullable), position);
     put_printed(printed, payload, d2, name, area, at)
 }
 
-// The part of the type whose message stands from start to end: as many [ as arrays are nested, then what the innermost comes to.
+// The part of the type in a message: as many [ as arrays are nested, then what the innermost comes to.
 pub fn put_erased(
-    start: usize,
-    end: usize,
-    nullable: bool,
-    left: usize,
-    position: Position,
+    msg: &[u8],
+    base: u32,
+    placed: Placement,
     payload: &[u8],
     d2: &[u16],
     ends: &[u32],
-    starts: &[u32],
-    stops: &[u32],
-    firsts: &[u64],
-    entry_starts: &[u32],
-    entry_ends: &[u32],
+    notes: &[u64],
     tables: Tables,
     area: &mut [u8],
     at: usize,
 ) -> Part
-    requires { ⌜ (start ≤ end) × (end ≤ length (now payload)) × (left ≤ 64) × (length (now payload) ≤ 32768) × (length (now d2) ≤ 32768) × (at ≤ 2 ^ 61) ⌝ }
-    ensures { λ r. ⌜ ErasedTold (lent (now (payload .entry)) (now (d2 .entry)) (now (ends .entry)) (now (starts .entry)) (now (stops .entry)) (now (firsts .entry)) (now («entry_starts» .entry)) (now («entry_ends» .entry)) tables) start end left nullable position at r (now (area .entry)) (now (area .exit)) ⌝ }
+    requires { ⌜ Stands (now payload) (now msg) base × (placed .left ≤ 64) × (length (now payload) ≤ 32768) × (length (now d2) ≤ 32768) × (at ≤ 2 ^ 61) ⌝ }
+    ensures { λ r. ⌜ ErasedTold (lent (now (payload .entry)) (now (d2 .entry)) (now (ends .entry)) (now (notes .entry)) tables) base (base + length (now (msg .entry))) (placed .left) (placed .nullable) (placed .position) at r (now (area .entry)) (now (area .exit)) ⌝ }
 {
-    let mut first = start;
-    let mut last = end;
-    let mut said = nullable;
-    let mut deep = left;
-    let mut here = position;
+    let mut start = base as usize;
+    let mut end = start + msg.len();
+    let mut here = placed;
     let mut next = at;
     loop {
-        let one = put_type(
-            first,
-            last,
-            said,
+        let one = put_type_part(
+            &payload[start..end],
+            start as u32,
             here,
             payload,
             d2,
             ends,
-            starts,
-            stops,
-            firsts,
-            entry_starts,
-            entry_ends,
+            notes,
             tables,
             area,
             next,
@@ -215,28 +196,29 @@ pub fn put_erased(
             TypePart::Bracket => {}
         }
         let found = first_argument(
+            &payload[start..end],
+            start as u32,
+            less(here.left),
             payload,
-            first,
-            last,
-            less(deep),
-            entry_starts,
-            entry_ends,
+            notes,
             tables,
         );
-        let Found::Type {
-            start: a,
-            end: b,
-            nullable: c,
-            left: d,
+        let FoundType::Type {
+            start: first,
+            end: last,
+            nullable,
+            left,
         } = found
         else {
             return Part::Absent;
         };
-        first = a;
-        last = b;
-        said = c;
-        deep = d;
-        here = Position::Element;
+        start = first;
+        end = last;
+        here = Placement {
+            nullable,
+            left,
+            position: Position::Element,
+        };
         next += 1;
     }
 }

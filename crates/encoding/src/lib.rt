@@ -8,8 +8,8 @@ ghost use lib.Seq.{sets};
 ghost use Rattle.encoding.specs.Encoding.{lowSeven, unpacked, firstAbove255};
 ghost use Rattle.encoding.specs.Outcome.{aboveOf, limited, Told};
 
-// Above it d1 is refused.
-const UNIT_LIMIT: usize = 32768;
+// Above it d1 is refused, and so is d2: `unitLimit`.
+pub const UNIT_LIMIT: usize = 32768;
 
 // The first unit of the form whose other units are the bytes.
 const BYTE_STRING_MARKER: u16 = 0;

@@ -16,7 +16,7 @@ use Rattle.characters.specs.Characters.{utf8, utf8Of}
 use Rattle.characters.specs.WellFormed.{Characters}
 use Rattle.characters.proofs.TestLaws.{below}
 use Rattle.foundation.proofs.EveryLaws.{map-twice}
-use Rattle.rows.specs.Declarations.{Types, andType, Ty}
+use Rattle.declaration_rows.specs.Declarations.{Types, andType, Ty}
 use Rattle.erasure.specs.Erasure as erasure
 use Rattle.erasure.specs.Erasure.{Primitive, double, letter, box, primitive, primitiveArray, array, unit, nothing, mapped, Erased, base, class, arrayOf, kotlinUnit, erasedAs, void, value, print, printReturned, listed, lookUp, meaningOf, firstErased, erased, erasedReturn}
 use Rattle.erasure.specs.Told.{primitives, fixedClasses, primitiveAt, classAt, Means, fixedPart, rowText, PutText, PutPart, printedTold, partAt, PrintsAs, boxedAt}

@@ -9,7 +9,7 @@ use Rattle.foundation.specs.Choices.{if_then_else_, ifSome, mapOption}
 use Rattle.foundation.specs.Texts.{Text, ascii, same}
 use Rattle.characters.specs.Characters.{utf8}
 use Rattle.names.specs.Records.{substituted}
-use Rattle.rows.specs.Declarations.{Types, noTypes, andType, Ty}
+use Rattle.declaration_rows.specs.Declarations.{Types, noTypes, andType, Ty}
 
 -- JVMS 4.3.2's base types
 pub data Primitive : Type 0 where

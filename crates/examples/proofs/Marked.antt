@@ -3,7 +3,7 @@
 use lib.Dec.{T}
 use Rattle.line.specs.Input.{d1Count, d2Count, endsCount, given}
 use Rattle.line.specs.Line.{decimal, hexOf, partOf, lineOf}
-use Rattle.answers.specs.Program.{printed, zeros}
+use Rattle.answer_lines.specs.Program.{printed, zeros}
 use Rattle.examples.specs.Marked.{marked, allPass}
 use Rattle.examples.proofs.Computed.{computed}
 

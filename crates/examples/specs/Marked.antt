@@ -16,7 +16,7 @@ use Rattle.inputs.specs.Refusals.{numberOf}
 use Rattle.inputs.specs.Inputs.{Input}
 use Rattle.inputs.specs.Outcomes.{Answer}
 use Rattle.metadata.specs.Read.{read}
-use Rattle.answers.specs.Program.{printed, zeros}
+use Rattle.answer_lines.specs.Program.{printed, zeros}
 use Rattle.examples.specs.Cases.{Case, Expected, given, gives, hex, holds, area}
 
 pub record Marked : Type 0 where

@@ -3,3 +3,4 @@ pub mod EveryLaws
 pub mod ResultLaws
 pub mod DigitLaws
 pub mod OverlayLaws
+pub mod PresenceLaws

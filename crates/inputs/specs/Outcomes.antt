@@ -18,9 +18,9 @@ pub record Answer : Type 0 where
   pub text : List ℕ
 
 -- a refusal leaves both areas untouched
-abbrev pub refusal : List ℕ → List ℕ → Cause → Answer
-refusal sheet text c =
-    record { number = numberOf c; detail = detailOf c; sheetLength = 0; textLength = 0; types = 0; sheet = sheet; text = text }
+abbrev pub refusal : List ℕ → List ℕ → Cause → ℕ → Answer
+refusal sheet text c place =
+    record { number = numberOf c; detail = detailOf c place; sheetLength = 0; textLength = 0; types = 0; sheet = sheet; text = text }
 
 -- an answer, and what both areas hold afterwards
 abbrev pub told : Outcome → List ℕ → List ℕ → Answer
@@ -34,6 +34,6 @@ told r sheet text = record {
   text = text;
 }
 
--- The refusal of a cause, which leaves both areas as they are.
-abbrev pub RefusedAs : Cause → Outcome → Type 0
-RefusedAs c r = (sheet text : List ℕ) → refusal sheet text c ≡ told r sheet text
+-- The refusal of a cause at a place, which leaves both areas as they are.
+abbrev pub RefusedAs : Cause → ℕ → Outcome → Type 0
+RefusedAs c place r = (sheet text : List ℕ) → refusal sheet text c place ≡ told r sheet text

@@ -35,19 +35,19 @@ numberOf tooManyTypes = 10
 numberOf textTooLong = 11
 numberOf sheetTooLong = 12
 
--- the unit of 6, the type of 8, else 0
-unfoldable pub detailOf : Cause → ℕ
-detailOf d1TooLong = 0
-detailOf d2TooLong = 0
-detailOf stringEnds = 0
-detailOf newerVersion = 0
-detailOf emptyPayload = 0
-detailOf (notAByte unit) = unit
-detailOf varintCutShort = 0
-detailOf pastItsMessage = 0
-detailOf fieldTooLarge = 0
-detailOf (wireType type) = type
-detailOf oversizedVarint = 0
-detailOf tooManyTypes = 0
-detailOf textTooLong = 0
-detailOf sheetTooLong = 0
+-- The unit of 6, the type of 8, else 0. What a refusal tells may depend on its place among the decoded bytes too; none does so far.
+unfoldable pub detailOf : Cause → ℕ → ℕ
+detailOf d1TooLong place = 0
+detailOf d2TooLong place = 0
+detailOf stringEnds place = 0
+detailOf newerVersion place = 0
+detailOf emptyPayload place = 0
+detailOf (notAByte unit) place = unit
+detailOf varintCutShort place = 0
+detailOf pastItsMessage place = 0
+detailOf fieldTooLarge place = 0
+detailOf (wireType type) place = type
+detailOf oversizedVarint place = 0
+detailOf tooManyTypes place = 0
+detailOf textTooLong place = 0
+detailOf sheetTooLong place = 0

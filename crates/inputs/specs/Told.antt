@@ -8,15 +8,20 @@ use Rattle.foundation.specs.Results.{Cause, d1TooLong, d2TooLong, stringEnds, n
 use Rattle.inputs.specs.Inputs.{Input}
 use Rattle.inputs.specs.declared.Fault.{Fault}
 use Rattle.inputs.specs.declared.Fault.the-variants as fault
+use Rattle.inputs.specs.declared.Inspected.{Inspected}
+use Rattle.inputs.specs.declared.Inspected.the-variants as inspected
 
 -- an input by its parts
 abbrev pub input : ℤ → List ℤ → List ℕ → List ℕ → List ℕ → Input
 input k mv d1 d2 ends = record { k = k; mv = mv; d1 = d1; d2 = d2; ends = ends }
 
 -- document 01's cause of each, 1 to 4
-abbrev pub faultTold : Fault → Option Cause
-faultTold fault.D1TooLong = some d1TooLong
-faultTold fault.D2TooLong = some d2TooLong
-faultTold fault.StringEnds = some stringEnds
-faultTold fault.NewerVersion = some newerVersion
-faultTold fault.Nothing = none
+abbrev pub faultCause : Fault → Cause
+faultCause fault.D1TooLong = d1TooLong
+faultCause fault.D2TooLong = d2TooLong
+faultCause fault.StringEnds = stringEnds
+faultCause fault.NewerVersion = newerVersion
+
+abbrev pub faultTold : Inspected → Option Cause
+faultTold (inspected.Faulty f) = some (faultCause f)
+faultTold inspected.Sound = none

@@ -5,12 +5,10 @@ ghost use lib.IntN.{ℤ};
 ghost use Rattle.names.specs.Names.{endsFit};
 ghost use Rattle.inputs.specs.Inputs.{kindOf, faultOf};
 ghost use Rattle.inputs.specs.Told.{input, faultTold};
+use encoding::UNIT_LIMIT;
 use foundation::wide;
 
 pub mod outcome; // outcome.rt: numbers and details of refusals
-
-// Above it d1 is refused, and so is d2.
-const UNIT_LIMIT: usize = 32768;
 
 const STRING_LIMIT: usize = 4096;
 
@@ -22,7 +20,12 @@ pub enum Fault {
     D2TooLong,
     StringEnds,
     NewerVersion,
-    Nothing,
+}
+
+// What is found of an input before its payload is looked at.
+pub enum Inspected {
+    Faulty { fault: Fault },
+    Sound,
 }
 
 // The metadata kind, 1 to 5; another k counts as 1.
@@ -60,25 +63,35 @@ pub fn ends_fit(ends: &[u32], count: usize) -> bool
 }
 
 // The first of refusals 1 to 4 that is due.
-pub fn fault_of(d1: &[u16], d2: &[u16], ends: &[u32], version: [i32; 3]) -> Fault
+pub fn fault_of(d1: &[u16], d2: &[u16], ends: &[u32], version: [i32; 3]) -> Inspected
     ensures { λ r. ⌜ ((k : ℤ) → faultOf (input k version (now (d1 .entry)) (now (d2 .entry)) (now (ends .entry))) ≡ faultTold r) ⌝ }
 {
     if UNIT_LIMIT < d1.len() {
-        return Fault::D1TooLong;
+        return Inspected::Faulty {
+            fault: Fault::D1TooLong,
+        };
     }
     if UNIT_LIMIT < d2.len() {
-        return Fault::D2TooLong;
+        return Inspected::Faulty {
+            fault: Fault::D2TooLong,
+        };
     }
     if STRING_LIMIT < ends.len() {
-        return Fault::D2TooLong;
+        return Inspected::Faulty {
+            fault: Fault::D2TooLong,
+        };
     }
     if !ends_fit(&*ends, d2.len()) {
-        return Fault::StringEnds;
+        return Inspected::Faulty {
+            fault: Fault::StringEnds,
+        };
     }
     // compared as signed: a negative major is read
     let major = version[0];
     if SUPPORTED_MAJOR < major {
-        return Fault::NewerVersion;
+        return Inspected::Faulty {
+            fault: Fault::NewerVersion,
+        };
     }
-    Fault::Nothing
+    Inspected::Sound
 }

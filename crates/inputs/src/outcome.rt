@@ -1,10 +1,8 @@
 // An answer without the version: number, detail, both lengths and the types entered. The numbers: specs/Refusals.antt.
 ghost use mathlib.Core.Path.{_≡_};
-ghost use mathlib.Core.Option.{some};
-ghost use Rattle.foundation.specs.Results.{Cause};
 ghost use Rattle.wire.specs.Told as wire;
 ghost use Rattle.schema.specs.Told as schema;
-ghost use Rattle.inputs.specs.Told.{faultTold};
+ghost use Rattle.inputs.specs.Told.{faultCause};
 ghost use Rattle.inputs.specs.Outcomes.{RefusedAs};
 use crate::Fault;
 use schema::Stop;
@@ -33,7 +31,7 @@ pub fn refused(number: u64, detail: u64) -> Outcome
 
 // 7, 8 with the wire type, 9.
 pub fn wire_refusal(error: WireError) -> Outcome
-    ensures { λ r. ⌜ RefusedAs (wire.causeOf error) r ⌝ }
+    ensures { λ r. ⌜ RefusedAs (wire.causeOf error) (wire.placeOf error) r ⌝ }
 {
     match error {
         WireError::VarintCutShort { place: _ } => refused(7, 0),
@@ -46,7 +44,7 @@ pub fn wire_refusal(error: WireError) -> Outcome
 
 // 7 to 10.
 pub fn stop_refusal(stop: Stop) -> Outcome
-    ensures { λ r. ⌜ RefusedAs (schema.causeOf stop) r ⌝ }
+    ensures { λ r. ⌜ RefusedAs (schema.causeOf stop) (schema.placeOf stop) r ⌝ }
 {
     match stop {
         Stop::Wire { error } => wire_refusal(error),
@@ -56,13 +54,12 @@ pub fn stop_refusal(stop: Stop) -> Outcome
 
 // 1 to 4.
 pub fn fault_refusal(fault: Fault) -> Outcome
-    ensures { λ r. ⌜ ((c : Cause) → faultTold fault ≡ some c → RefusedAs c r) ⌝ }
+    ensures { λ r. ⌜ RefusedAs (faultCause fault) 0 r ⌝ }
 {
     match fault {
         Fault::D1TooLong => refused(1, 0),
         Fault::D2TooLong => refused(2, 0),
         Fault::StringEnds => refused(3, 0),
         Fault::NewerVersion => refused(4, 0),
-        Fault::Nothing => refused(0, 0),
     }
 }

@@ -4,23 +4,18 @@ use mathlib.Core.Path.{_≡_, refl, ap, sym, _∙_, subst}
 use mathlib.Core.Bool.{true}
 use mathlib.Core.List.{List, [], _∷_}
 use mathlib.Core.Option.{Option, none, some}
-use Prim.Native.Nat.{ℕ, zero, suc, _+_, _-_, _≤_, _<_}
+use Prim.Native.Nat.{ℕ, zero, suc, _+_, _-_, _*_, _/_, _≤_, _<_}
 use native.Mathlib.Nat.{le-refl, zero-add}
 use native.Mathlib.Omega.{arith}
 use borrow.Author.Tests.{lt-ltb, le-ltb, leb-true}
 use lib.Dec.{leb}
-use lib.ListN.{length, take, drop, getD, getElem?, length-take}
-use lib.Seq.{getD-take, drop-drop}
+use lib.ListN.{length, drop, getD, getElem?}
+use lib.Seq.{drop-drop}
 use Rattle.foundation.proofs.ChoiceLaws.{and-left, and-right}
 use Rattle.characters.specs.Characters.{partFrom}
 use Rattle.names.specs.Records.{Record}
 use Rattle.names.specs.Names.{recordAt, stringsFrom, endsFit}
-use Rattle.names.specs.Index.{sumsFrom, rangesOf, Sums}
-
-length-sums : (n : ℕ) (rs : List ℕ) → length (sumsFrom n rs) ≡ suc (length rs)
-unfolding sumsFrom
-length-sums n [] = refl
-length-sums n (r ∷ rs) = ap suc (length-sums (n + r) rs)
+use Rattle.names.specs.Index.{sumsFrom, rangesOf, firstOf, Sums}
 
 length-ranges : (rs : List Record) → length (rangesOf rs) ≡ length rs
 length-ranges [] = refl
@@ -55,43 +50,40 @@ served-none n i (r ∷ rs) l =
     let e : n + r .range + (i - r .range) ≡ n + i = omega arith in
     rw (le-ltb i (r .range) (omega arith)) (served-none (n + r .range) (i - r .range) rs (rw e l))
 
--- two different numbers of a list stand apart
-pub apart : (l : List ℕ) (count n : ℕ) → getD l 0 0 ≤ n → n < getD l count 0 → 0 < count
-apart l zero n a b = absurd (omega arith)
-apart l (suc k) n a b = omega arith
+-- where a record's indices begin, as the code reads it
+pub first-at : (notes : List ℕ) (k : ℕ) → 0 < k → firstOf notes k ≡ getD notes (3 * k - 1) 0
+unfolding firstOf
+first-at notes zero h = absurd (omega arith)
+first-at notes (suc k) h = let e : 3 * k + 2 ≡ 3 * suc k - 1 = omega arith in ap (λ (n : ℕ). getD notes n 0) e
 
-module _ (firsts : List ℕ) (count index : ℕ) (records : List Record) (sums : Sums firsts count records) where
-  sums-long : count + 1 ≤ length firsts
-  sums-long =
-      let e : length (take (count + 1) firsts) ≡ suc (length records) = ap length (sums .are) ∙ length-sums 0 (rangesOf records) ∙ ap suc (length-ranges records) in
-      omega (arith, length-take (count + 1) firsts, sums .many)
+pub first-least : (notes : List ℕ) (n : ℕ) → firstOf notes 0 ≤ n
+unfolding firstOf
+first-least notes n = omega arith
 
-  sum-at : (k : ℕ) → k ≤ count → getD (sumsFrom 0 (rangesOf records)) k 0 ≡ getD firsts k 0
-  sum-at k h = ap (λ (l : List ℕ). getD l k 0) (sym (sums .are)) ∙ getD-take (count + 1) firsts k 0 (omega arith)
+module _ (notes : List ℕ) (count index : ℕ) (records : List Record) (sums : Sums notes count records) where
+  pub no-sums : length notes / 3 < count → recordAt index records ≡ none
+  no-sums h = absurd (omega (arith, sums .long))
 
-  pub no-sums : length firsts ≤ count → recordAt index records ≡ none
-  no-sums h = absurd (omega (arith, sums-long))
-
-  pub before-all : index < getD firsts 0 0 → recordAt index records ≡ none
-  unfolding sumsFrom
-  before-all h = absurd (go (rangesOf records) (sum-at 0 (omega arith)))
+  pub no-records : count ≡ 0 → recordAt index records ≡ none
+  unfolding recordAt
+  no-records h = go records (sums .many ∙ h)
     where
-      go : (rs : List ℕ) → getD (sumsFrom 0 rs) 0 0 ≡ getD firsts 0 0 → ⊥
-      go [] e = omega arith
-      go (r ∷ rs) e = omega arith
+      go : (rs : List Record) → length rs ≡ 0 → recordAt index rs ≡ none
+      go [] e = refl
+      go (r ∷ rs) e = absurd (omega arith)
 
-  pub past-all : getD firsts count 0 ≤ index → recordAt index records ≡ none
+  pub past-all : firstOf notes count ≤ index → recordAt index records ≡ none
   past-all h =
       served-none 0 index records
-      (subst (λ (k : ℕ). getD (sumsFrom 0 (rangesOf records)) k 0 ≤ 0 + index) (sym (sums .many)) (rw (sum-at count (le-refl count), zero-add) h))
+      (subst (λ (k : ℕ). getD (sumsFrom 0 (rangesOf records)) k 0 ≤ 0 + index) (sym (sums .many)) (rw (← sums .are count (le-refl count), zero-add) h))
 
-  pub served-by : (k next : ℕ) → k < next → next ≤ count → getD firsts k 0 ≤ index → index < getD firsts next 0 → next - k ≤ 1
+  pub served-by : (k next : ℕ) → k < next → next ≤ count → firstOf notes k ≤ index → index < firstOf notes next → next - k ≤ 1
       → recordAt index records ≡ getElem? records k
   served-by k next m n l h o =
       let e : next ≡ suc k = omega arith in
       served-at 0 index records k
-      (rw (sum-at k (omega arith), zero-add) l)
-      (rw (sum-at (suc k) (omega arith), zero-add) (rw e at h))
+      (rw (← sums .are k (omega arith), zero-add) l)
+      (rw (← sums .are (suc k) (omega arith), zero-add) (rw e at h))
       (omega (arith, sums .many))
 
 -- Each string of d2 stands between two ends.

@@ -3,3 +3,5 @@ pub mod LookupLaws
 pub mod ShortLaws
 pub mod UnwrapLaws
 pub mod IndexLaws
+pub mod WordLaws
+pub mod ResolveLaws

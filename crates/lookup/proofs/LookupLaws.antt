@@ -3,7 +3,7 @@
 use mathlib.Core.Path.{_≡_, refl, ap, sym, _∙_, subst}
 use mathlib.Core.List.{List, [], _∷_}
 use mathlib.Core.Option.{Option, some}
-use Prim.Native.Nat.{ℕ, zero, suc, _+_, _-_, _≤_, _<_}
+use Prim.Native.Nat.{ℕ, zero, suc, _+_, _-_, _*_, _/_, _%_, _≤_, _<_}
 use native.Mathlib.Omega.{arith}
 use lib.ListN.{length, take, drop, getD, getElem?, length-take}
 use lib.Seq.{take-take}
@@ -16,13 +16,13 @@ use Rattle.names.specs.Records as definition
 use Rattle.names.specs.Records.{decides, operated, textOf}
 use Rattle.names.specs.Names.{Names, recordAt, stringsFrom, d2String, string}
 use Rattle.names.specs.Name.{sourceText, nameText, plain, absentName}
-use Rattle.names.specs.Index.{RecordAt, IndexOf}
-use Rattle.lookup.specs.Found.{foundIn, FoundBelow, FindTold, PlaceTold, NamedTold, DecidedIs, DecidedTold}
+use Rattle.names.specs.Index.{startOf, endOf, RecordAt, IndexOf}
+use Rattle.lookup.specs.Lookups.{foundIn, FoundBelow, FindTold, NamedIs, NoteTold, NotesOf, WordsAt, DecidedIs, DecidedTold}
 use Rattle.lookup.specs.Steps.{extentOf}
 use Rattle.names.specs.declared.name.Name.{Name}
 use Rattle.names.specs.declared.records.Record.{Record}
-use Rattle.lookup.specs.declared.Found.{Found}
-use Rattle.lookup.specs.declared.Found.the-variants as found
+use Rattle.lookup.specs.declared.Served.{Served}
+use Rattle.lookup.specs.declared.Served.the-variants as found
 use Rattle.lookup.specs.declared.Decided.{Decided}
 use Rattle.lookup.specs.declared.Decided.the-variants as decided
 use Rattle.lookup.specs.declared.steps.Extent.{Extent}
@@ -45,8 +45,8 @@ module _ (payload units ends : List ℕ) (index : ℕ) {r : Extent} (e : getElem
   d2-named {start} {end} g = rw (e, g) (ap (λ (t : Text). ok (some t)) (sym (same-substituted (fromUtf16 (partFrom start end units)))))
 
 -- The look-up.
-module _ (bytes starts ends firsts : List ℕ) (count : ℕ) (records : List definition.Record) (i : IndexOf bytes starts ends firsts count records) (d2 : ℕ → Res (Option Text))
-    (index : ℕ) {f : Found} (t : FindTold firsts count index f) where
+module _ (bytes notes : List ℕ) (count : ℕ) (records : List definition.Record) (i : NotesOf bytes notes count records) (d2 : ℕ → Res (Option Text))
+    (index : ℕ) {f : Served} (t : FindTold notes count index f) where
   abbrev names : Names
   names = record { records = records; d2 = d2 }
 
@@ -67,29 +67,24 @@ module _ (bytes starts ends firsts : List ℕ) (count : ℕ) (records : List def
     at : recordAt index records ≡ some the
     at = t .is records (i .sums) ∙ ap (foundIn records) g ∙ one .1
 
-    stands : RecordAt bytes (getD starts k 0) (getD ends k 0) the
+    stands : NoteTold bytes the (getD notes (3 * k) 0) (getD notes (3 * k + 1) 0)
     stands = i .each k the (one .1)
 
-    pub string-lost : {A : Type 0} → PlaceTold bytes starts ends k extent.Nothing → A
-    string-lost p =
+    named : (units : List ℕ) (r : Decided) → NamedIs bytes units the r → DecidedIs bytes units names index r
+    unfolding string
+    named units (decided.Yes name) h = rw (at, h .0) (ap ok (h .1))
+    named units decided.No h = rw (at, h)
+
+    pub string-noted : (units : List ℕ) {r : Decided} → WordsAt notes k r → DecidedIs bytes units names index r
+    string-noted units {r} w =
         let m = i .sums .many in
         let b = below in
-        absurd (p (omega (arith, i .starts-long)) (omega (arith, i .ends-long)) (stands .ordered) (stands .inside))
-
-    module _ {start end : ℕ} (p : PlaceTold bytes starts ends k (extent.Part start end)) (units : List ℕ) where
-      here : RecordAt bytes start end the
-      here = rw (p .0, p .1) stands
-
-      pub string-named : (r : Decided) → NamedTold bytes start end r → DecidedIs bytes units names index r
-      unfolding string
-      string-named (decided.Yes name) n =
-          let h = n .is (here .message) (here .cuts) units in
-          rw (at, ap decides (here .is) ∙ h .0) (ap ok (ap textOf (here .is) ∙ h .1))
-      string-named decided.No n = rw (at, ap decides (here .is) ∙ n .is (here .message) (here .cuts) units)
+        let e = w .0 (omega (arith, i .sums .long)) in
+        named units r (subst (NamedIs bytes units the) (sym e) (stands .is units))
 
 -- By whether a record decides.
-module _ (bytes starts ends firsts : List ℕ) (count index : ℕ) (r : Decided) (t : DecidedTold bytes starts ends firsts count index r)
-    (units : List ℕ) (records : List definition.Record) (d2 : ℕ → Res (Option Text)) (i : IndexOf bytes starts ends firsts count records) where
+module _ (bytes notes : List ℕ) (count index : ℕ) (r : Decided) (t : DecidedTold bytes notes count index r)
+    (units : List ℕ) (records : List definition.Record) (d2 : ℕ → Res (Option Text)) (i : NotesOf bytes notes count records) where
   pub decided-no : r ≡ decided.No → string (record { records = records; d2 = d2 }) index ≡ d2 index
   decided-no g = subst (DecidedIs bytes units (record { records = records; d2 = d2 }) index) g (t .is units records d2 i)
 
@@ -105,11 +100,9 @@ part-longer bytes n start end h i =
     ∙ ap (take (end - start)) (drop-take start (n - start) bytes)
     ∙ take-take (end - start) (n - start) (drop start bytes) (omega arith)
 
-pub index-longer : (bytes : List ℕ) (n : ℕ) (starts ends firsts : List ℕ) (count : ℕ) (records : List definition.Record)
-    → IndexOf (take n bytes) starts ends firsts count records → IndexOf bytes starts ends firsts count records
-index-longer bytes n starts ends firsts count records i = record {
-  starts-long = i .starts-long;
-  ends-long = i .ends-long;
+pub index-longer : (bytes : List ℕ) (n : ℕ) (notes : List ℕ) (count : ℕ) (records : List definition.Record)
+    → IndexOf (take n bytes) notes count records → IndexOf bytes notes count records
+index-longer bytes n notes count records i = record {
   sums = i .sums;
   each = λ k r e.
       let a = i .each k r e in
@@ -118,7 +111,7 @@ index-longer bytes n starts ends firsts count records i = record {
         inside = omega (arith, a .inside, length-take n bytes);
         message = a .message;
         cuts =
-            ap (λ (bs : List ℕ). cut (_from_ (getD starts k 0) bs)) (sym (part-longer bytes n (getD starts k 0) (getD ends k 0) (a .ordered) (a .inside)))
+            ap (λ (bs : List ℕ). cut (_from_ (startOf (getD notes (3 * k) 0)) bs)) (sym (part-longer bytes n (startOf (getD notes (3 * k) 0)) (endOf (getD notes (3 * k) 0)) (a .ordered) (a .inside)))
             ∙ a .cuts;
         is = a .is;
       };

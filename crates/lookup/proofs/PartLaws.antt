@@ -6,13 +6,14 @@ use mathlib.Core.List.{List, [], _∷_, _++_}
 use mathlib.Core.Option.{Option, none, some}
 use Prim.Native.Nat.{ℕ, _+_, _-_, _^_, _≤_, _<_}
 use native.Mathlib.Omega.{arith}
-use borrow.Author.Tests.{eq-eqb, ne-eqb, lt-ltb, le-ltb, le-leb, eqb-true}
+use borrow.Author.Tests.{eq-eqb, ne-eqb, lt-ltb, le-ltb, le-leb, eqb-true, ltb-true, leb-true}
 use types.Run.{OneOf, miss}
 use denote.Enum.Declared.{tagOf}
-use lib.Dec.{eqb, leb}
+use lib.Dec.{eqb, leb, ltb}
 use lib.ListN.{length, drop, length-drop}
 use Rattle.foundation.specs.Choices.{if_then_else_, ifSome, isSome, mapOption, IfSome}
 use Rattle.foundation.specs.Texts.{Text, ascii}
+use Rattle.foundation.proofs.ChoiceLaws.{and-left, and-right}
 use Rattle.messages.specs.Asked.{pieceTold, PieceInside, indexTold}
 use Rattle.wire.specs.declared.Piece.{Piece}
 use Rattle.wire.specs.declared.Piece.the-variants as piece
@@ -36,8 +37,8 @@ use Rattle.names.specs.Stream.{listedText, baseOf}
 use Rattle.lookup.specs.Steps.{SubstringTold, PieceFits, textIn, OfBytes, BaseTold, PartTold, known, withSteps}
 use Rattle.names.specs.declared.name.Name.{Name}
 use Rattle.names.specs.declared.records.Record.{Record}
-use Rattle.names.specs.declared.name.Listed.{Listed}
-use Rattle.names.specs.declared.name.Listed.the-variants as listed
+use Rattle.names.specs.declared.name.PredefinedPart.{PredefinedPart}
+use Rattle.names.specs.declared.name.PredefinedPart.the-variants as listed
 use Rattle.lookup.specs.declared.steps.Extent.the-variants as extent
 use Rattle.lookup.specs.declared.steps.Base.{Base}
 use Rattle.lookup.specs.declared.steps.Base.the-variants as base
@@ -66,6 +67,27 @@ known-two n h = rw (ne-eqb n 1 (λ z. omega arith), eq-eqb n 2 h)
 
 pub known-none : (n : ℕ) → (n ≡ 1 → ⊥) → (n ≡ 2 → ⊥) → 0 ≡ known n
 known-none n h g = rw (ne-eqb n 1 h, ne-eqb n 2 g)
+
+pub known-low : (n : ℕ) {k : ℕ} → k ≡ known n → k < 4
+known-low n {k} e = rw e (go (eqb n 1) (eqb n 2))
+  where
+    go : (a b : Bool) → (if a then 1 else if b then 2 else 0) < 4
+    go true b = omega arith
+    go false true = omega arith
+    go false false = omega arith
+
+scalar-least : (c : ℕ) → isScalar c ≡ true → c < 2097152
+unfolding isScalar
+scalar-least c h = go (ltb c 0xd800) refl
+  where
+    go : (b : Bool) → ltb c 0xd800 ≡ b → c < 2097152
+    go true e = omega (arith, ltb-true c 0xd800 e)
+    go false e = omega (arith, leb-true c 0x10ffff (and-right (leb 0xe000 c) (leb c 0x10ffff) (rw e at h)))
+
+pub scalars-low : (a b : ℕ) {t : Bool} → t ≡ isScalar a && isScalar b → t ≡ true → (a < 2097152) × (b < 2097152)
+scalars-low a b e h =
+    let g = sym e ∙ h in
+    (scalar-least a (and-left (isScalar a) (isScalar b) g), scalar-least b (and-right (isScalar a) (isScalar b) g))
 
 -- The part that a substring is.
 module _ (s : List ℕ) (first last : ℕ) where
@@ -121,7 +143,7 @@ module _ (from : ℕ) (index : Indexed) {string : Piece} where
     pub base-nothing : index ≡ indexed.Nothing → BaseTold from string index base.Nothing
     base-nothing i = record { bytes = tt; is = λ payload d2 end h. rw (g, i) }
 
-    module _ {n : ℕ} (i : index ≡ indexed.At n) (r : Listed) (e : listedText r ≡ predefinedText n) where
+    module _ {n : ℕ} (i : index ≡ indexed.At n) (r : PredefinedPart) (e : listedText r ≡ predefinedText n) where
       pub base-past : r ≡ listed.Nothing → BaseTold from string index base.Nothing
       base-past q = record { bytes = tt; is = λ payload d2 end h. rw (g, i, ← e, q) }
 

@@ -24,10 +24,10 @@ use Rattle.names.specs.RecordTold.{RecordTold}
 use Rattle.names.specs.Name.{sourceText, nameText, plain, absentName}
 use Rattle.names.specs.Stream.{listedText}
 use Rattle.lookup.specs.Steps.{BuiltTold}
-use Rattle.lookup.specs.Found.{ListedTold, NamedTold}
+use Rattle.lookup.specs.Lookups.{PredefinedTold, NamedTold}
 use Rattle.names.specs.declared.name.Name.{Name}
-use Rattle.names.specs.declared.name.Listed.{Listed}
-use Rattle.names.specs.declared.name.Listed.the-variants as listed
+use Rattle.names.specs.declared.name.PredefinedPart.{PredefinedPart}
+use Rattle.names.specs.declared.name.PredefinedPart.the-variants as listed
 use Rattle.names.specs.declared.records.Record.{Record}
 use Rattle.lookup.specs.declared.Decided.the-variants as decided
 use Rattle.lookup.proofs.PartLaws.{same-substituted}
@@ -48,15 +48,15 @@ module _ (bytes : List ℕ) (start end : ℕ) (read : Record) (r : RecordTold st
   named-undecided c = record { made = tt; is = λ m w units. by-it m w ∙ c }
 
 -- A predefined string as a name.
-module _ {index : ℕ} {l : Listed} (e : listedText l ≡ predefinedText index) where
-  pub listed-absent : l ≡ listed.Nothing → {n : Name} → n ≡ absentName → ListedTold index n
+module _ {index : ℕ} {l : PredefinedPart} (e : listedText l ≡ predefinedText index) where
+  pub listed-absent : l ≡ listed.Nothing → {n : Name} → n ≡ absentName → PredefinedTold index n
   unfolding nameText sourceText
-  listed-absent g q = subst (ListedTold index) (sym q) record { bytes = (omega arith, refl); is = λ payload units. ap listedText (sym g) ∙ e }
+  listed-absent g q = subst (PredefinedTold index) (sym q) record { bytes = (omega arith, refl, omega arith, omega arith, omega arith); is = λ payload units. ap listedText (sym g) ∙ e }
 
-  pub listed-named : {a b : ℕ} → l ≡ listed.Part a b → ListedTold index (plain 2 a b)
+  pub listed-named : {a b : ℕ} → l ≡ listed.Part a b → PredefinedTold index (plain 2 a b)
   unfolding nameText sourceText operated
   listed-named {a} {b} g = record {
-    bytes = (omega arith, refl);
+    bytes = (omega arith, refl, omega arith, omega arith, omega arith);
     is = λ payload units. ap some (same-substituted _) ∙ ap listedText (sym g) ∙ e;
   }
 
@@ -140,7 +140,7 @@ module _ (bytes : List ℕ) (start end : ℕ) where
       is = λ m w units. ap (λ (x : Message). decides (recordOf x)) (message-is n f h m w) ∙ without-one n v g;
     }
 
-    pub short-predefined : t ≡ 16 → {name : Name} → ListedTold v name → NamedTold bytes start end (decided.Yes name)
+    pub short-predefined : t ≡ 16 → {name : Name} → PredefinedTold v name → NamedTold bytes start end (decided.Yes name)
     short-predefined f l = record {
       made = l .bytes;
       is = λ m w units.

@@ -1,3 +1,5 @@
+pub mod Note
 pub mod Steps
-pub mod Found
+pub mod Lookups
 pub mod Qualified
+pub mod Resolved

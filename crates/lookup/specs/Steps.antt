@@ -73,7 +73,7 @@ withSteps replaced operation text = ifSome text none λ t. mapOption (operated o
 
 -- a name that is made of bytes, not of units, and is no class name yet
 abbrev pub BytesName : Name → Type 0
-BytesName n = (n .source ≤ 2) × (n .qualified ≡ false)
+BytesName n = (n .source ≤ 2) × (n .qualified ≡ false) × (n .operation < 4) × (n .from < 2097152) × (n .to < 2097152)
 
 pub record StepsTold (source start end : ℕ) (replaced : Option (ℕ × ℕ)) (operation : ℕ) (r : Name) : Type 0 where
   pub bytes : source ≤ 2 → BytesName r

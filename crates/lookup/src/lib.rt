@@ -1,4 +1,4 @@
-// Names by their index. The definitions: names' specs/Names.antt and specs/Index.antt; what look-ups tell: specs/Found.antt.
+// Names by their index. The definitions: names' specs/Names.antt and specs/Index.antt; what look-ups tell: specs/Lookups.antt.
 ghost use mathlib.Core.Path.{_≡_};
 ghost use mathlib.Core.Bool.{true};
 ghost use mathlib.Core.List.{List};
@@ -8,54 +8,60 @@ ghost use Rattle.names.specs.Records.{Record};
 ghost use Rattle.foundation.specs.Results.{ok};
 ghost use Rattle.names.specs.Name.{nameText};
 ghost use Rattle.names.specs.Names.{stringsFrom, endsFit, d2String, string};
-ghost use Rattle.names.specs.Index.{IndexOf};
-ghost use Rattle.lookup.specs.Found.{FindTold, PlaceTold, ListedTold, NamedTold, DecidedTold};
+ghost use Rattle.lookup.specs.Lookups.{FindTold, PlaceTold, PredefinedTold, NamedTold, NotesOf, WordsAt, DecidedTold};
 ghost use Rattle.lookup.specs.Steps.{extentOf};
 
+pub mod note; // note.rt: what a record builds, in two words
 pub mod steps; // steps.rt: the name that a record builds
+pub mod resolve; // resolve.rt: each record worked out once
 pub mod qualified; // qualified.rt: class names by their index
 
+use crate::note::noted;
 use crate::steps::Extent;
 use crate::steps::decides;
 use crate::steps::record_name;
+use fields::RECORD_OPERATION;
+use fields::RECORD_PREDEFINED_INDEX;
+use fields::RECORD_RANGE;
 use foundation::wide;
-use names::name::Listed;
 use names::name::Name;
+use names::name::PredefinedPart;
 use names::name::absent;
 use names::name::predefined;
+use names::records::RECORD_WORDS;
 use names::records::record_in;
 
-pub enum Found {
+pub enum Served {
     Record { at: usize },
     Nothing,
 }
 
 // The record that serves an index, by the first index that each of `count` records serves and the first that none does.
-pub fn find_record(firsts: &[u64], count: usize, index: u32) -> Found
-    ensures { λ r. ⌜ FindTold (now (firsts .entry)) count index r ⌝ }
+pub fn find_record(notes: &[u64], count: usize, index: u32) -> Served
+    ensures { λ r. ⌜ FindTold (now (notes .entry)) count index r ⌝ }
 {
-    if firsts.len() <= count {
-        return Found::Nothing;
+    if notes.len() / RECORD_WORDS < count {
+        return Served::Nothing;
+    }
+    if count == 0 {
+        return Served::Nothing;
     }
     let wanted = index as u64;
-    if wanted < firsts[0] {
-        return Found::Nothing;
-    }
-    if firsts[count] <= wanted {
-        return Found::Nothing;
+    if notes[RECORD_WORDS * count - 1] <= wanted {
+        return Served::Nothing;
     }
     // it serves no index below that of `low`, and that of `high` is past it
     let mut low = 0;
     let mut high = count;
     while 1 < high - low {
         let middle = low + (high - low) / 2;
-        if firsts[middle] <= wanted {
+        if notes[RECORD_WORDS * middle - 1] <= wanted {
             low = middle;
         } else {
             high = middle;
         }
     }
-    Found::Record { at: low }
+    Served::Record { at: low }
 }
 
 // A string of d2, by where its strings end.
@@ -94,17 +100,15 @@ fn d2_name(ends: &[u32], index: u32) -> Name
 }
 
 // Where the message of record `at` stands, by the index.
-fn place_of(bytes: &[u8], starts: &[u32], ends: &[u32], at: usize) -> Extent
-    ensures { λ r. ⌜ PlaceTold (now (bytes .entry)) (now (starts .entry)) (now (ends .entry)) at r ⌝ }
+pub fn place_of(bytes: &[u8], notes: &[u64], at: usize) -> Extent
+    ensures { λ r. ⌜ PlaceTold (now (bytes .entry)) (now (notes .entry)) at r ⌝ }
 {
-    if starts.len() <= at {
+    if notes.len() / RECORD_WORDS <= at {
         return Extent::Nothing;
     }
-    if ends.len() <= at {
-        return Extent::Nothing;
-    }
-    let start = wide(starts[at]);
-    let end = wide(ends[at]);
+    let place = notes[RECORD_WORDS * at];
+    let start = (place % 4294967296) as usize;
+    let end = (place / 4294967296) as usize;
     if end < start {
         return Extent::Nothing;
     }
@@ -136,10 +140,10 @@ fn read_record(bytes: &[u8], start: usize, end: usize) -> Decided
 
 // A predefined string as a name, with no step.
 fn listed_name(index: u32) -> Name
-    ensures { λ r. ⌜ ListedTold index r ⌝ }
+    ensures { λ r. ⌜ PredefinedTold index r ⌝ }
 {
     let listed = predefined(index);
-    let Listed::Part { start, end } = listed else {
+    let PredefinedPart::Part { start, end } = listed else {
         return absent();
     };
     Name {
@@ -154,14 +158,14 @@ fn listed_name(index: u32) -> Name
 }
 
 // The tags of a record's fields 1 to 3, which are varints.
-const RANGE: u32 = 8;
+const RANGE_TAG: u32 = RECORD_RANGE * 8;
 
-const PREDEFINED_INDEX: u32 = 16;
+const PREDEFINED_INDEX_TAG: u32 = RECORD_PREDEFINED_INDEX * 8;
 
-const OPERATION: u32 = 24;
+const OPERATION_TAG: u32 = RECORD_OPERATION * 8;
 
 // The same as `read_record`. Most records have no field, or one of two bytes: its tag and its number.
-fn record_at(bytes: &[u8], start: usize, end: usize) -> Decided
+pub fn record_at(bytes: &[u8], start: usize, end: usize) -> Decided
     requires { ⌜ (start ≤ end) × (end ≤ length (now bytes)) × (start < 2 ^ 32) ⌝ }
     ensures { λ r. ⌜ NamedTold (now (bytes .entry)) start end r ⌝ }
 {
@@ -173,15 +177,15 @@ fn record_at(bytes: &[u8], start: usize, end: usize) -> Decided
         let tag = characters::wide(bytes[start]);
         let number = characters::wide(bytes[start + 1]);
         if number < 128 {
-            if tag == PREDEFINED_INDEX {
+            if tag == PREDEFINED_INDEX_TAG {
                 return Decided::Yes {
                     name: listed_name(number),
                 };
             }
-            if tag == RANGE {
+            if tag == RANGE_TAG {
                 return Decided::No;
             }
-            if tag == OPERATION {
+            if tag == OPERATION_TAG {
                 return Decided::No;
             }
         }
@@ -189,43 +193,34 @@ fn record_at(bytes: &[u8], start: usize, end: usize) -> Decided
     read_record(&*bytes, start, end)
 }
 
-// The name that the record of an index builds, if it decides: it has a string or a predefined index, even if its text can't be built.
-pub fn by_record(
-    bytes: &[u8],
-    starts: &[u32],
-    ends: &[u32],
-    firsts: &[u64],
-    count: usize,
-    index: u32,
-) -> Decided
-    ensures { λ r. ⌜ DecidedTold (now (bytes .entry)) (now (starts .entry)) (now (ends .entry)) (now (firsts .entry)) count index r ⌝ }
+// What is noted of record `at`.
+fn noted_at(notes: &[u64], at: usize) -> Decided
+    ensures { λ r. ⌜ WordsAt (now (notes .entry)) at r ⌝ }
 {
-    let found = find_record(&*firsts, count, index);
-    let Found::Record { at } = found else {
+    if notes.len() / RECORD_WORDS <= at {
         return Decided::No;
-    };
-    let place = place_of(&*bytes, &*starts, &*ends, at);
-    let Extent::Part { start, end } = place else {
-        return Decided::No;
-    };
-    record_at(&*bytes, start, end)
+    }
+    noted(notes[RECORD_WORDS * at], notes[RECORD_WORDS * at + 1])
 }
 
-// The string with an index, of the name table whose index stands in `starts`, `ends` and `firsts`; d2's strings end at `d2ends`.
-pub fn string(
-    bytes: &[u8],
-    starts: &[u32],
-    ends: &[u32],
-    firsts: &[u64],
-    count: usize,
-    d2ends: &[u32],
-    index: u32,
-) -> Name
-    ensures { λ r. ⌜ ((units : List ℕ) (records : List Record) → endsFit 0 (now (d2ends .entry)) (length units) ≡ true → IndexOf (now (bytes .entry)) (now (starts .entry)) (now (ends .entry)) (now (firsts .entry)) count records → string (record { records = records; d2 = d2String (stringsFrom 0 (now (d2ends .entry)) units) }) index ≡ ok (nameText (now (bytes .entry)) units r)) ⌝ }
+// The name that the record of an index builds, if it decides: it has a string or a predefined index, even if its text can't be built.
+pub fn by_record(bytes: &[u8], notes: &[u64], count: usize, index: u32) -> Decided
+    ensures { λ r. ⌜ DecidedTold (now (bytes .entry)) (now (notes .entry)) count index r ⌝ }
 {
-    let answer = by_record(&*bytes, &*starts, &*ends, &*firsts, count, index);
+    let found = find_record(&*notes, count, index);
+    let Served::Record { at } = found else {
+        return Decided::No;
+    };
+    noted_at(&*notes, at)
+}
+
+// The string with an index, of the name table whose index stands in `notes`; d2's strings end at `ends`.
+pub fn string(bytes: &[u8], notes: &[u64], count: usize, ends: &[u32], index: u32) -> Name
+    ensures { λ r. ⌜ ((units : List ℕ) (records : List Record) → endsFit 0 (now (ends .entry)) (length units) ≡ true → NotesOf (now (bytes .entry)) (now (notes .entry)) count records → string (record { records = records; d2 = d2String (stringsFrom 0 (now (ends .entry)) units) }) index ≡ ok (nameText (now (bytes .entry)) units r)) ⌝ }
+{
+    let answer = by_record(&*bytes, &*notes, count, index);
     let Decided::Yes { name } = answer else {
-        return d2_name(&*d2ends, index);
+        return d2_name(&*ends, index);
     };
     name
 }

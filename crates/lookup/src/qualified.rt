@@ -9,7 +9,7 @@ ghost use Rattle.foundation.specs.Results.{ok};
 ghost use Rattle.names.specs.Records.{Record};
 ghost use Rattle.names.specs.Names.{stringsFrom, endsFit, d2String, qualifiedName};
 ghost use Rattle.names.specs.Name.{nameText};
-ghost use Rattle.names.specs.Index.{IndexOf};
+ghost use Rattle.lookup.specs.Lookups.{NotesOf};
 ghost use Rattle.lookup.specs.Steps.{BytesName};
 ghost use Rattle.lookup.specs.Qualified.{LastTold, UnwrapTold, qualifiedPart, QualifiedTold, ClippedTold, WrappedTold, QualifiedUnits};
 use crate::Decided;
@@ -159,19 +159,17 @@ fn qualified_units(units: &[u16], ends: &[u32], index: u32) -> Name
 // The class name with an index; as `string`, with the units of d2.
 pub fn qualified_name(
     bytes: &[u8],
-    starts: &[u32],
-    ends: &[u32],
-    firsts: &[u64],
+    notes: &[u64],
     count: usize,
     units: &[u16],
-    d2ends: &[u32],
+    ends: &[u32],
     index: u32,
 ) -> Name
-    ensures { λ r. ⌜ ((records : List Record) → endsFit 0 (now (d2ends .entry)) (length (now (units .entry))) ≡ true → IndexOf (now (bytes .entry)) (now (starts .entry)) (now (ends .entry)) (now (firsts .entry)) count records → qualifiedName (record { records = records; d2 = d2String (stringsFrom 0 (now (d2ends .entry)) (now (units .entry))) }) index ≡ ok (nameText (now (bytes .entry)) (now (units .entry)) r)) ⌝ }
+    ensures { λ r. ⌜ ((records : List Record) → endsFit 0 (now (ends .entry)) (length (now (units .entry))) ≡ true → NotesOf (now (bytes .entry)) (now (notes .entry)) count records → qualifiedName (record { records = records; d2 = d2String (stringsFrom 0 (now (ends .entry)) (now (units .entry))) }) index ≡ ok (nameText (now (bytes .entry)) (now (units .entry)) r)) ⌝ }
 {
-    let answer = by_record(&*bytes, &*starts, &*ends, &*firsts, count, index);
+    let answer = by_record(&*bytes, &*notes, count, index);
     let Decided::Yes { name } = answer else {
-        return qualified_units(&*units, &*d2ends, index);
+        return qualified_units(&*units, &*ends, index);
     };
     qualified_bytes(&*bytes, name)
 }

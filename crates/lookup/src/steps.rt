@@ -16,9 +16,9 @@ use characters::find_place;
 use foundation::wide;
 use messages::Indexed;
 use messages::repeated::Two;
-use names::name::Listed;
 use names::name::Name;
 use names::name::PREDEFINED;
+use names::name::PredefinedPart;
 use names::name::absent;
 use names::name::base_part;
 use names::name::predefined;
@@ -78,7 +78,7 @@ fn base_of(string: Piece, index: Indexed, from: usize) -> Base
         return Base::Nothing;
     };
     let listed = predefined(i);
-    let Listed::Part { start, end } = listed else {
+    let PredefinedPart::Part { start, end } = listed else {
         return Base::Nothing;
     };
     Base::Part {

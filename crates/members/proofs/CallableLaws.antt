@@ -13,6 +13,7 @@ use Rattle.foundation.specs.Digits.{little}
 use Rattle.foundation.specs.Results as Results
 use Rattle.foundation.specs.Results.{Res, ok, refused, Cause, _from_}
 use Rattle.foundation.specs.Texts.{Text, ascii}
+use Rattle.fields.specs.Fields.{Constructor·flags, Constructor·value-parameter, Constructor·constructor-signature, Function·name, Function·return-type, Function·receiver-type, Function·value-parameter, Function·return-type-id, Function·receiver-type-id, Function·flags, Function·method-signature}
 use Rattle.wire.specs.Wire.{Message, cut}
 use Rattle.wire.specs.declared.WireError.{WireError}
 use Rattle.wire.proofs.WalkLaws.{ok-same}
@@ -21,47 +22,33 @@ use Rattle.names.specs.declared.name.Name.{Name}
 use Rattle.sheet.specs.Put.{PutHead, past}
 use Rattle.sheet.specs.declared.State.{State}
 use Rattle.sheet.proofs.PutLaws.{put-types, rows-then}
-use Rattle.schema.specs.Fields.{
-  Constructor·flags,
-  Constructor·value-parameter,
-  Constructor·constructor-signature,
-  Function·name,
-  Function·return-type,
-  Function·receiver-type,
-  Function·value-parameter,
-  Function·return-type-id,
-  Function·receiver-type-id,
-  Function·flags,
-  Function·method-signature,
-}
-use Rattle.rows.specs.Declarations.{Ty, Signature, Parameter, Constructor, Function, signed}
+use Rattle.declaration_rows.specs.Declarations.{Ty, Signature, Parameter, Constructor, Function, signed}
 use Rattle.schema.specs.Reading.{pure, _>>=_, Scope, nameIn}
 use Rattle.schema.specs.Members.{flagsIn, parameterIn, listIn, signatureIn, constructorIn, receiverIn, functionIn}
 use Rattle.schema.specs.Types.{declaredType}
-use Rattle.rows.specs.Rows.{receiverRole, returnRole, typeRows, parameterRows, constructorRows, functionRows}
-use Rattle.rows.specs.Written.{cellLimit, signatureBy, initBy, constructorCells, functionCells}
+use Rattle.declaration_rows.specs.Rows.{receiverRole, returnRole, typeRows, parameterRows, constructorRows, functionRows}
+use Rattle.declaration_rows.specs.Written.{cellLimit, signatureBy, initBy, constructorCells, functionCells}
 use Rattle.schema.specs.Told.{Lent, NamesOf, Scoped, WalkedSpends, WalkedTold}
-use Rattle.schema.specs.TypesTold.{pickedOf}
 use Rattle.schema.specs.MembersTold.{Affords, Within, ListedTold, parameterCost, memberCost, MemberTold, ListTold}
 use Rattle.type_references.specs.OptionalTold.{OptionalTold}
-use Rattle.signatures.specs.SignaturesTold.{SignedTold}
-use Rattle.signatures.specs.ReceiversTold.{ReceiverTold}
+use Rattle.members.specs.SignaturesTold.{SignedTold}
+use Rattle.schema.specs.ReceiversTold.{ReceiverTold}
 use Rattle.members.specs.CallablesTold.{functionHeadCost, FunctionHead, functionTypes, FunctionTypesAre, FunctionTypesTold}
-use Rattle.rows.specs.declared.SignatureNames.{SignatureNames}
-use Rattle.signatures.specs.declared.signatures.Signed.{Signed}
-use Rattle.signatures.specs.declared.signatures.Signed.the-variants as answer
+use Rattle.declaration_rows.specs.declared.SignatureNames.{SignatureNames}
+use Rattle.members.specs.declared.signatures.Signed.{Signed}
+use Rattle.members.specs.declared.signatures.Signed.the-variants as answer
 use Rattle.schema.specs.declared.Stop.{Stop}
 use Rattle.schema.specs.declared.Stop.the-variants as stop
 use Rattle.schema.specs.declared.Listed.{Listed}
 use Rattle.schema.specs.declared.Listed.the-variants as listed
-use Rattle.schema.specs.declared.Picked.{Picked}
 use Rattle.schema.specs.declared.Picked.the-variants as picked
 use Rattle.schema.specs.declared.Walked.{Walked}
 use Rattle.schema.specs.declared.Walked.the-variants as walked
-use Rattle.rows.proofs.WrittenLaws.{constructor-small, function-small}
-use Rattle.rows.proofs.RecordLaws.{constructor-put, function-put}
+use Rattle.declaration_rows.proofs.WrittenLaws.{constructor-small, function-small}
+use Rattle.declaration_rows.proofs.RecordLaws.{constructor-put, function-put}
 use Rattle.schema.proofs.CountLaws.{within-then, within-both, spends-within, past-within, affords-after, affords-places, head-within, listed-within}
-use Rattle.members.proofs.ParameterLaws.{none-is, some-is, walked-spends}
+use Rattle.members.proofs.ParameterLaws.{walked-spends}
+use Rattle.foundation.proofs.PresenceLaws.{none-is, some-is}
 
 -- What an answer holds, and what it cannot.
 pub names-same : {a : Signed} {x y : SignatureNames} → a ≡ answer.Names x → a ≡ answer.Names y → x ≡ y
@@ -69,12 +56,6 @@ names-same e f = cc
 
 pub names-never : {a : Signed} {x : WireError} {n r : SignatureNames} → a ≡ answer.Refused x → a ≡ answer.Names n → r ≡ n
 names-never e f = let z : _≡_ {A = ℕ} 0 1 = cc in absurd (omega arith)
-
-pub list-same : {a : Listed} {x y : Stop} → a ≡ listed.Refused x → a ≡ listed.Refused y → picked.Refused x ≡ picked.Refused y
-list-same e f = cc
-
-pub list-never : {a : Listed} {s : State} {n : ℕ} {x : Stop} {r : Picked} → a ≡ listed.Done s n → a ≡ listed.Refused x → r ≡ picked.Refused x
-list-never e f = let z : _≡_ {A = ℕ} 0 1 = cc in absurd (omega arith)
 
 -- A constructor: its parameters, then its signature.
 constructorOf : Message → List Parameter → Option Signature → Constructor
@@ -120,15 +101,12 @@ module _ (e : Lent) (msg : List ℕ) (base : ℕ) (s : State) (afford : Affords 
         subst (λ (l : ℕ). ListedTold (listIn (parameterIn c) Constructor·value-parameter m l) parameterRows (past 2 s₁) y S₁ S₂ T₁ T₂) (put-types p)
         (subst (λ (z : Listed). ListedTold (listIn (parameterIn c) Constructor·value-parameter m (s₁ .types)) parameterRows (past 2 s₁) z S₁ S₂ T₁ T₂) w (t .is c o m k))
 
-    pub constructor-refused : {x : Stop} → r ≡ listed.Refused x → {y : Picked} → y ≡ picked.Refused x
-        → MemberTold constructorIn constructorRows (memberCost (length msg)) e msg base s y S S₂ T T₂
-    constructor-refused {x} w z =
-        let told : MemberTold constructorIn constructorRows (memberCost (length msg)) e msg base s (picked.Refused x) S S₂ T T₂ =
-        record { spends = tt; is = λ c o m k. constructor-stops c m (s .types) (listed-is c o m k w) } in
-        subst (λ (v : Picked). MemberTold constructorIn constructorRows (memberCost (length msg)) e msg base s v S S₂ T T₂) (sym z) told
+    pub constructor-refused : {x : Stop} → r ≡ listed.Refused x
+        → MemberTold constructorIn constructorRows (memberCost (length msg)) e msg base s (picked.Refused x) S S₂ T T₂
+    constructor-refused w = record { spends = tt; is = λ c o m k. constructor-stops c m (s .types) (listed-is c o m k w) }
 
     module _ {s₂ : State} {count : ℕ} (w : r ≡ listed.Done s₂ count) (a : Signed)
-        (g : (units : List ℕ) (c : Scope) → NamesOf (e .payload) units (e .ends) (e .starts) (e .stops) (e .firsts) (e .tables .records) (c .names)
+        (g : (units : List ℕ) (c : Scope) → NamesOf (e .payload) units (e .ends) (e .notes) (e .tables .records) (c .names)
         → (m : Message) → cut (_from_ base msg) ≡ ok m → SignedTold (e .payload) units c Constructor·constructor-signature m a) where
       signed-is : (c : Scope) → Scoped e c → (m : Message) → cut (_from_ base msg) ≡ ok m → {y : Signed} → a ≡ y
           → SignedTold (e .payload) (e .d2) c Constructor·constructor-signature m y
@@ -294,7 +272,7 @@ head-same {n} {n′} {f} {f′} {g} {g′} {r} {r′} {b} {s} {s′} {S} {S′} 
     subst (λ (x : Bool). PutHead 3 (functionCells n′ f′ g′ x) b s s′ S S′ T T′) v h₃
 
 module _ (e : Lent) (msg : List ℕ) (base : ℕ) (s : State) (name : Name)
-    (i : (units : List ℕ) (c : Scope) → NamesOf (e .payload) units (e .ends) (e .starts) (e .stops) (e .firsts) (e .tables .records) (c .names)
+    (i : (units : List ℕ) (c : Scope) → NamesOf (e .payload) units (e .ends) (e .notes) (e .tables .records) (c .names)
     → (m : Message) → cut (_from_ base msg) ≡ ok m → (l : ℕ) → nameIn c Function·name m l ≡ ok (nameText (e .payload) units name, l))
     {there : Bool} (h : (payload d2 : List ℕ) → isSome (nameText payload d2 name) ≡ there) where
   pub function-nameless : there ≡ false → {S T : List ℕ} → MemberTold functionIn functionRows (memberCost (length msg)) e msg base s picked.Dropped S S T T
@@ -331,14 +309,12 @@ module _ (e : Lent) (msg : List ℕ) (base : ℕ) (s : State) (name : Name)
           → nameIn c Function·name m (s .types) ≡ ok (nameText (e .payload) (e .d2) name, s .types)
       name-is c o m k = i (e .d2) c (o .names) m k (s .types)
 
-      pub function-unlisted : {x : Stop} → r ≡ listed.Refused x → {y : Picked} → y ≡ picked.Refused x
-          → MemberTold functionIn functionRows (memberCost (length msg)) e msg base s y S S₂ T T₂
-      function-unlisted {x} w z =
-          let told : MemberTold functionIn functionRows (memberCost (length msg)) e msg base s (picked.Refused x) S S₂ T T₂ = record {
-            spends = tt;
-            is = λ c o m k. function-stops c m (s .types) (name-is c o m k) (named-so .1) (parameters-are c o m k w);
-          } in
-          subst (λ (v : Picked). MemberTold functionIn functionRows (memberCost (length msg)) e msg base s v S S₂ T T₂) (sym z) told
+      pub function-unlisted : {x : Stop} → r ≡ listed.Refused x
+          → MemberTold functionIn functionRows (memberCost (length msg)) e msg base s (picked.Refused x) S S₂ T T₂
+      function-unlisted w = record {
+        spends = tt;
+        is = λ c o m k. function-stops c m (s .types) (name-is c o m k) (named-so .1) (parameters-are c o m k w);
+      }
 
       module _ {s₂ : State} {count : ℕ} (w : r ≡ listed.Done s₂ count) where
         parameters-take : Within (functionHeadCost + 2 + parameterCost * length msg) s s₂
@@ -348,7 +324,7 @@ module _ (e : Lent) (msg : List ℕ) (base : ℕ) (s : State) (name : Name)
         pub types-afford : Affords (e .payload) (e .d2) 0 s₂
         types-afford = affords-after afford 0 parameters-take (omega arith)
 
-        module _ (g : (units : List ℕ) (c : Scope) → NamesOf (e .payload) units (e .ends) (e .starts) (e .stops) (e .firsts) (e .tables .records) (c .names)
+        module _ (g : (units : List ℕ) (c : Scope) → NamesOf (e .payload) units (e .ends) (e .notes) (e .tables .records) (c .names)
             → (m : Message) → cut (_from_ base msg) ≡ ok m → SignedTold (e .payload) units c Function·method-signature m a)
             {v : Walked} {S₃ T₃ : List ℕ} (u : FunctionTypesTold e msg base a s₂ v S₂ S₃ T₂ T₃) where
           types-are : (c : Scope) → Scoped e c → (m : Message) → cut (_from_ base msg) ≡ ok m → {y : Walked} → v ≡ y
@@ -357,9 +333,9 @@ module _ (e : Lent) (msg : List ℕ) (base : ℕ) (s : State) (name : Name)
               subst (λ (x : Walked). FunctionTypesAre c (some (named-so .0)) m s₂ x S₂ S₃ T₂ T₃) z
               (u .is c o m k (g (e .d2) c (o .names) m k) (named-so .0))
 
-          untyped : {x : Stop} → v ≡ walked.Refused x
+          pub function-untyped : {x : Stop} → v ≡ walked.Refused x
               → MemberTold functionIn functionRows (memberCost (length msg)) e msg base s (picked.Refused x) S S₃ T T₃
-          untyped z = record {
+          function-untyped z = record {
             spends = tt;
             is = λ c o m k.
                 let ps = parameters-are c o m k w in
@@ -367,12 +343,6 @@ module _ (e : Lent) (msg : List ℕ) (base : ℕ) (s : State) (name : Name)
                 ∙ types-are c o m k z (functionOf (named-so .0) m (ps .0)) in
                 function-refused c m (s .types) (name-is c o m k) (named-so .1) (ps .2) stops;
           }
-
-          pub function-untyped : {x : Stop} → v ≡ walked.Refused x → {y : Picked} → y ≡ pickedOf v
-              → MemberTold functionIn functionRows (memberCost (length msg)) e msg base s y S S₃ T T₃
-          function-untyped {x} z {y} q′ =
-              let told : MemberTold functionIn functionRows (memberCost (length msg)) e msg base s (picked.Refused x) S S₃ T T₃ = untyped z in
-              subst (λ (n : Picked). MemberTold functionIn functionRows (memberCost (length msg)) e msg base s n S S₃ T T₃) (sym (q′ ∙ ap pickedOf z)) told
 
           pub function-told : {s₃ : State} → v ≡ walked.Done s₃ → {S₄ : List ℕ} → S₄ ≡ sets S₃ (s₁ .sheet) (little 2 count)
               → MemberTold functionIn functionRows (memberCost (length msg)) e msg base s (picked.Kept s₃) S S₄ T T₃

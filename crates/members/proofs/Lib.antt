@@ -1,3 +1,6 @@
 pub mod PropertyLaws
 pub mod ParameterLaws
 pub mod CallableLaws
+pub mod ClosedLaws
+pub mod MemberLists
+pub mod SignatureLaws

@@ -11,6 +11,8 @@ use Rattle.foundation.specs.Choices.{isSome}
 use Rattle.foundation.specs.Results as Results
 use Rattle.foundation.specs.Results.{Res, ok, refused, _from_}
 use Rattle.foundation.specs.Texts.{Text}
+use Rattle.foundation.proofs.PresenceLaws.{none-is, some-is}
+use Rattle.fields.specs.Fields.{ValueParameter·flags, ValueParameter·name, ValueParameter·type, ValueParameter·vararg-element-type, ValueParameter·type-id, ValueParameter·vararg-element-type-id}
 use Rattle.wire.specs.Wire.{Message, cut}
 use Rattle.names.specs.Name.{nameText}
 use Rattle.names.specs.declared.name.Name.{Name}
@@ -19,20 +21,12 @@ use Rattle.sheet.specs.Put.{PutHead, PutRows}
 use Rattle.sheet.specs.declared.State.{State}
 use Rattle.sheet.proofs.PutLaws.{put-sheet, put-text, put-types, put-same, rows-then}
 use Rattle.sheet.proofs.RowLaws.{bodyLength, body-length}
-use Rattle.schema.specs.Fields.{
-  ValueParameter·flags,
-  ValueParameter·name,
-  ValueParameter·type,
-  ValueParameter·type-id,
-  ValueParameter·vararg-element-type,
-  ValueParameter·vararg-element-type-id,
-}
-use Rattle.rows.specs.Declarations.{Ty, Parameter}
+use Rattle.declaration_rows.specs.Declarations.{Ty, Parameter}
 use Rattle.schema.specs.Reading.{Read, pure, _>>=_, Scope, nameIn}
 use Rattle.schema.specs.Types.{declaredType}
 use Rattle.schema.specs.Members.{bitOf, smallFlagsIn, parameterIn}
-use Rattle.rows.specs.Rows.{named, parameterRole, varargRole, typeRows, parameterRows}
-use Rattle.rows.specs.Written.{parameterCells}
+use Rattle.declaration_rows.specs.Rows.{named, parameterRole, varargRole, typeRows, parameterRows}
+use Rattle.declaration_rows.specs.Written.{parameterCells}
 use Rattle.schema.specs.Told.{Lent, NamesOf, Scoped, nameLimit, Spends, WalkedSpends, WalkedTold, PickedTold}
 use Rattle.schema.specs.TypesTold.{pickedOf}
 use Rattle.schema.specs.MembersTold.{Affords, Within, PickedWithin, parameterCost, MemberTold}
@@ -45,17 +39,8 @@ use Rattle.schema.specs.declared.Walked.{Walked}
 use Rattle.schema.specs.declared.Walked.the-variants as walked
 use Rattle.schema.proofs.TypeLaws.{spends-then}
 use Rattle.schema.proofs.NamedLaws.{cell-length}
-use Rattle.rows.proofs.RecordLaws.{parameter-put}
+use Rattle.declaration_rows.proofs.RecordLaws.{parameter-put}
 use Rattle.schema.proofs.CountLaws.{within-both, spends-within}
-
--- What may be absent, by whether it is there.
-pub none-is : {A : Type 0} (o : Option A) → isSome o ≡ false → o ≡ none
-none-is none e = refl
-none-is (some a) e = let z : _≡_ {A = ℕ} 0 1 = cc in absurd (omega arith)
-
-pub some-is : {A : Type 0} (o : Option A) → isSome o ≡ true → (a : A) × (o ≡ some a)
-some-is none e = let z : _≡_ {A = ℕ} 0 1 = cc in absurd (omega arith)
-some-is (some a) e = (a, refl)
 
 -- Readings one after the other, and what is written of them.
 pub walked-spends : (s s₁ : State) (w : Walked) → Spends s s₁ → WalkedSpends s₁ w → WalkedSpends s w
@@ -169,7 +154,7 @@ module _ (c : Scope) (m : Message) (l : ℕ) {o : Option Text} (i : nameIn c Val
       (declaredType c ValueParameter·vararg-element-type ValueParameter·vararg-element-type-id m) (λ type vararg. parameterOf t m (type, vararg)) l)
 
 module _ (e : Lent) (msg : List ℕ) (base : ℕ) (s : State) (name : Name)
-    (i : (units : List ℕ) (c : Scope) → NamesOf (e .payload) units (e .ends) (e .starts) (e .stops) (e .firsts) (e .tables .records) (c .names)
+    (i : (units : List ℕ) (c : Scope) → NamesOf (e .payload) units (e .ends) (e .notes) (e .tables .records) (c .names)
     → (m : Message) → cut (_from_ base msg) ≡ ok m → (l : ℕ) → nameIn c ValueParameter·name m l ≡ ok (nameText (e .payload) units name, l))
     {there : Bool} (h : (payload d2 : List ℕ) → isSome (nameText payload d2 name) ≡ there) where
   pub parameter-nameless : there ≡ false → {S T : List ℕ} → MemberTold parameterIn parameterRows parameterCost e msg base s picked.Dropped S S T T

@@ -11,6 +11,7 @@ use lib.ListN.{length, length-append}
 use Rattle.foundation.specs.Choices.{isSome, All}
 use Rattle.foundation.specs.Results.{ok, _from_}
 use Rattle.foundation.specs.Texts.{Text}
+use Rattle.fields.specs.Fields.{Property·name, Property·return-type, Property·receiver-type, Property·getter-flags, Property·setter-flags, Property·return-type-id, Property·receiver-type-id, Property·flags, Property·property-signature, JvmPropertySignature·getter, JvmPropertySignature·setter}
 use Rattle.wire.specs.Wire.{Message, cut}
 use Rattle.wire.specs.Messages.{message}
 use Rattle.wire.specs.Told as wire
@@ -24,29 +25,16 @@ use Rattle.sheet.specs.Put.{PutHead, PutRows}
 use Rattle.sheet.specs.declared.State.{State}
 use Rattle.sheet.proofs.RowLaws.{cell-length}
 use Rattle.sheet.proofs.PutLaws.{put-sheet, put-text, put-types, put-same, rows-then}
-use Rattle.schema.specs.Fields.{
-  Property·name,
-  Property·return-type,
-  Property·receiver-type,
-  Property·getter-flags,
-  Property·setter-flags,
-  Property·return-type-id,
-  Property·receiver-type-id,
-  Property·flags,
-  Property·property-signature,
-  JvmPropertySignature·getter,
-  JvmPropertySignature·setter,
-}
-use Rattle.rows.specs.Declarations.{Ty, Signature, Property}
+use Rattle.declaration_rows.specs.Declarations.{Ty, Signature, Property}
 use Rattle.schema.specs.Reading.{Scope, nameIn}
 use Rattle.schema.specs.Types.{declaredType}
 use Rattle.schema.specs.Members.{flagsIn, fieldIn, signatureIn, ofSignature, receiverIn, accessorIsDefault, propertyIn}
-use Rattle.rows.specs.Rows.{returnRole, receiverRole, typeRows, propertyRows}
-use Rattle.rows.specs.Written.{Room, cellLimit, signatureBy, propertyCells}
+use Rattle.declaration_rows.specs.Rows.{returnRole, receiverRole, typeRows, propertyRows}
+use Rattle.declaration_rows.specs.Written.{RecordRoom, cellLimit, signatureBy, propertyCells}
 use Rattle.schema.specs.Told.{Lent, Scoped, Ready, refusal, WalkedSpends, WalkedTold}
 use Rattle.schema.specs.MembersTold.{Affords, Within, memberCost, MemberTold}
 use Rattle.type_references.specs.OptionalTold.{OptionalTold}
-use Rattle.signatures.specs.SignaturesTold.{AccessorTold, PropertySignedTold, AccessorsDue}
+use Rattle.members.specs.SignaturesTold.{AccessorTold, PropertySignedTold, AccessorsDue}
 use Rattle.members.specs.PropertiesTold.{recordCost, RecordTold, NamedPropertyTold}
 use Rattle.schema.specs.declared.Stop.{Stop}
 use Rattle.schema.specs.declared.Stop.the-variants as stop
@@ -54,14 +42,14 @@ use Rattle.schema.specs.declared.Walked.{Walked}
 use Rattle.schema.specs.declared.Walked.the-variants as walked
 use Rattle.schema.specs.declared.Picked.{Picked}
 use Rattle.schema.specs.declared.Picked.the-variants as picked
-use Rattle.rows.specs.declared.SignatureNames.{SignatureNames}
-use Rattle.signatures.specs.declared.signatures.Signed.{Signed}
-use Rattle.signatures.specs.declared.signatures.Signed.the-variants as answer
-use Rattle.signatures.specs.declared.signatures.PropertyNames.{PropertyNames}
-use Rattle.signatures.specs.declared.signatures.PropertySigned.{PropertySigned}
-use Rattle.signatures.specs.declared.signatures.PropertySigned.the-variants as property
-use Rattle.rows.proofs.WrittenLaws.{Small, property-small}
-use Rattle.rows.proofs.RecordLaws.{property-put}
+use Rattle.declaration_rows.specs.declared.SignatureNames.{SignatureNames}
+use Rattle.members.specs.declared.signatures.Signed.{Signed}
+use Rattle.members.specs.declared.signatures.Signed.the-variants as answer
+use Rattle.members.specs.declared.signatures.PropertyNames.{PropertyNames}
+use Rattle.members.specs.declared.signatures.PropertySigned.{PropertySigned}
+use Rattle.members.specs.declared.signatures.PropertySigned.the-variants as property
+use Rattle.declaration_rows.proofs.WrittenLaws.{Small, property-small}
+use Rattle.declaration_rows.proofs.RecordLaws.{property-put}
 use Rattle.schema.proofs.CountLaws.{within-both, spends-within, affords-after, affords-ready}
 use Rattle.schema.proofs.TypeLaws.{ready-after}
 
@@ -104,7 +92,7 @@ pub property-ready : {payload d2 : List ℕ} (n : ℕ) {s s₁ s₂ : State} {x 
 property-ready n {s₁ = s₁} h p q e = ready-after (affords-ready (affords-after h 0 p (omega arith))) (subst (WalkedSpends s₁) e q)
 
 -- A property's record by what was looked up for it.
-module _ (payload d2 msg : List ℕ) (base : ℕ) (name : Name) (n : PropertyNames) {s s′ : State} {S S′ T T′ : List ℕ} (room : Room (2 ^ 61) payload d2 s) where
+module _ (payload d2 msg : List ℕ) (base : ℕ) (name : Name) (n : PropertyNames) {s s′ : State} {S S′ T T′ : List ℕ} (room : RecordRoom (2 ^ 61) payload d2 s) where
   pub record-told : {flags : ℕ} {receiver getterDefault setterDefault : Bool} (g′ h′ : SignatureNames)
       → ((m : Message) → cut (_from_ base msg) ≡ ok m → flagsIn Property·flags m ≡ flags)
       → ((c : Scope) (m : Message) (l : ℕ) (o : Option Ty) (b : ℕ) → cut (_from_ base msg) ≡ ok m

@@ -8,32 +8,25 @@ use Prim.Native.Nat.{ℕ, _+_, _*_}
 use Rattle.foundation.specs.Choices.{orElse, bothOf}
 use Rattle.foundation.specs.Results.{ok, _from_}
 use Rattle.foundation.specs.Texts.{Text}
+use Rattle.fields.specs.Fields.{Function·return-type, Function·receiver-type, Function·return-type-id, Function·receiver-type-id, Function·flags, Function·method-signature}
 use Rattle.wire.specs.Wire.{Message, cut}
 use Rattle.names.specs.Name.{nameText}
 use Rattle.names.specs.declared.name.Name.{Name}
 use Rattle.sheet.specs.Put.{PutHead, PutRows}
 use Rattle.sheet.specs.declared.State.{State}
-use Rattle.schema.specs.Fields.{
-  Function·return-type,
-  Function·receiver-type,
-  Function·return-type-id,
-  Function·receiver-type-id,
-  Function·flags,
-  Function·method-signature,
-}
-use Rattle.rows.specs.Declarations.{Ty, Signature, Function, signed}
+use Rattle.declaration_rows.specs.Declarations.{Ty, Signature, Function, signed}
 use Rattle.schema.specs.Reading.{Read, pure, _>>=_, Scope}
 use Rattle.schema.specs.Types.{declaredType}
 use Rattle.schema.specs.Members.{flagsIn, signatureIn}
-use Rattle.rows.specs.Rows.{receiverRole, returnRole, typeRows}
-use Rattle.rows.specs.Written.{cellLimit, functionCells}
+use Rattle.declaration_rows.specs.Rows.{receiverRole, returnRole, typeRows}
+use Rattle.declaration_rows.specs.Written.{cellLimit, functionCells}
 use Rattle.schema.specs.Told.{Lent, Scoped, WalkedSpends, refusal}
 use Rattle.schema.specs.MembersTold.{Within}
-use Rattle.signatures.specs.SignaturesTold.{SignedTold}
-use Rattle.signatures.specs.ReceiversTold.{ReceiverTold}
-use Rattle.rows.specs.declared.SignatureNames.{SignatureNames}
-use Rattle.signatures.specs.declared.signatures.Signed.{Signed}
-use Rattle.signatures.specs.declared.signatures.Signed.the-variants as answer
+use Rattle.members.specs.SignaturesTold.{SignedTold}
+use Rattle.schema.specs.ReceiversTold.{ReceiverTold}
+use Rattle.declaration_rows.specs.declared.SignatureNames.{SignatureNames}
+use Rattle.members.specs.declared.signatures.Signed.{Signed}
+use Rattle.members.specs.declared.signatures.Signed.the-variants as answer
 use Rattle.schema.specs.declared.Walked.{Walked}
 use Rattle.schema.specs.declared.Walked.the-variants as walked
 

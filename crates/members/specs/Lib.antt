@@ -1,3 +1,6 @@
 pub mod CallablesTold
 pub mod PropertiesTold
 pub mod ParametersTold
+pub mod ClosedTold
+pub mod Lists
+pub mod SignaturesTold

@@ -5,14 +5,14 @@ use mathlib.Core.List.{List, _++_}
 use mathlib.Core.Option.{Option}
 use Prim.Native.Nat.{ℕ}
 use Rattle.foundation.specs.Results.{ok, _from_}
+use Rattle.fields.specs.Fields.{ValueParameter·type, ValueParameter·vararg-element-type, ValueParameter·type-id, ValueParameter·vararg-element-type-id}
 use Rattle.wire.specs.Wire.{Message, cut}
 use Rattle.sheet.specs.Rows.{Row}
 use Rattle.sheet.specs.declared.State.{State}
-use Rattle.schema.specs.Fields.{ValueParameter·type, ValueParameter·type-id, ValueParameter·vararg-element-type, ValueParameter·vararg-element-type-id}
-use Rattle.rows.specs.Declarations.{Ty}
+use Rattle.declaration_rows.specs.Declarations.{Ty}
 use Rattle.schema.specs.Reading.{Read, pure, _>>=_, Scope}
 use Rattle.schema.specs.Types.{declaredType}
-use Rattle.rows.specs.Rows.{parameterRole, varargRole, typeRows}
+use Rattle.declaration_rows.specs.Rows.{parameterRole, varargRole, typeRows}
 use Rattle.schema.specs.Told.{Lent, Scoped, WalkedSpends, WalkedTold}
 use Rattle.schema.specs.declared.Walked.{Walked}
 

@@ -7,34 +7,27 @@ use Prim.Native.Nat.{ℕ, _^_}
 use lib.ListN.{length}
 use Rattle.foundation.specs.Results.{ok, _from_}
 use Rattle.foundation.specs.Texts.{Text}
+use Rattle.fields.specs.Fields.{Property·name, Property·receiver-type, Property·getter-flags, Property·setter-flags, Property·receiver-type-id, Property·flags}
 use Rattle.wire.specs.Wire.{Message, cut}
 use Rattle.names.specs.Name.{nameText}
 use Rattle.names.specs.declared.name.Name.{Name}
 use Rattle.sheet.specs.Rows.{row}
 use Rattle.sheet.specs.Put.{PutRows}
 use Rattle.sheet.specs.declared.State.{State}
-use Rattle.schema.specs.Fields.{
-  Property·name,
-  Property·receiver-type,
-  Property·getter-flags,
-  Property·setter-flags,
-  Property·receiver-type-id,
-  Property·flags,
-}
-use Rattle.rows.specs.Declarations.{Ty}
+use Rattle.declaration_rows.specs.Declarations.{Ty}
 use Rattle.schema.specs.Reading.{Scope, nameIn}
 use Rattle.schema.specs.Types.{declaredType}
 use Rattle.schema.specs.Members.{flagsIn, receiverIn, accessorIsDefault, propertyIn}
-use Rattle.rows.specs.Rows.{propertyRows}
-use Rattle.rows.specs.Written.{signatureBy, propertyCells}
+use Rattle.declaration_rows.specs.Rows.{propertyRows}
+use Rattle.declaration_rows.specs.Written.{signatureBy, propertyCells}
 use Rattle.schema.specs.Told.{Lent, Scoped, PickedTold}
 use Rattle.schema.specs.MembersTold.{Within, PickedWithin, memberCost}
-use Rattle.signatures.specs.SignaturesTold.{PropertySignedTold}
+use Rattle.members.specs.SignaturesTold.{PropertySignedTold}
 use Rattle.schema.specs.declared.Picked.{Picked}
-use Rattle.rows.specs.declared.SignatureNames.{SignatureNames}
-use Rattle.signatures.specs.declared.signatures.Signed.the-variants as answer
-use Rattle.signatures.specs.declared.signatures.PropertyNames.{PropertyNames}
-use Rattle.signatures.specs.declared.signatures.PropertySigned.the-variants as property
+use Rattle.declaration_rows.specs.declared.SignatureNames.{SignatureNames}
+use Rattle.members.specs.declared.signatures.Signed.the-variants as answer
+use Rattle.members.specs.declared.signatures.PropertyNames.{PropertyNames}
+use Rattle.members.specs.declared.signatures.PropertySigned.the-variants as property
 
 -- A property's record takes no more than this.
 abbrev pub recordCost : ℕ

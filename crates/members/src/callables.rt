@@ -3,61 +3,47 @@ ghost use mathlib.Core.Path.{_≡_};
 ghost use Prim.Native.Nat.{_+_, _≤_};
 ghost use lib.ListN.{length};
 ghost use Rattle.schema.specs.Members.{constructorIn, functionIn};
-ghost use Rattle.rows.specs.Rows.{constructorRows, functionRows};
+ghost use Rattle.declaration_rows.specs.Rows.{constructorRows, functionRows};
 ghost use Rattle.schema.specs.Told.{lent, Ready};
 ghost use Rattle.schema.specs.MembersTold.{Affords, memberCost, MemberTold};
 ghost use Rattle.members.specs.CallablesTold.{functionHeadCost, FunctionHead, FunctionTypesTold};
-ghost use Rattle.signatures.specs.declared.signatures.Signed.the-variants as answer;
-ghost use Rattle.schema.specs.declared.Listed.the-variants as listed;
-ghost use Rattle.schema.specs.declared.Picked.the-variants as picked;
+ghost use Rattle.members.specs.declared.signatures.Signed.the-variants as answer;
 use crate::parameters::parameters_in;
+use crate::signatures::Signed;
+use crate::signatures::or_name;
+use crate::signatures::signature_in;
+use declaration_rows::RECEIVER_ROLE;
+use declaration_rows::RETURN_ROLE;
+use declaration_rows::SignatureNames;
+use declaration_rows::put_constructor;
+use declaration_rows::put_count;
+use declaration_rows::put_function;
+use fields::CONSTRUCTOR_CONSTRUCTOR_SIGNATURE;
+use fields::CONSTRUCTOR_FLAGS;
+use fields::CONSTRUCTOR_VALUE_PARAMETER;
+use fields::FUNCTION_FLAGS;
+use fields::FUNCTION_METHOD_SIGNATURE;
+use fields::FUNCTION_NAME;
+use fields::FUNCTION_RECEIVER_TYPE;
+use fields::FUNCTION_RECEIVER_TYPE_ID;
+use fields::FUNCTION_RETURN_TYPE;
+use fields::FUNCTION_RETURN_TYPE_ID;
+use fields::FUNCTION_VALUE_PARAMETER;
+use fields::OMITTED_FLAGS;
 use names::name::Name;
 use names::name::absent;
 use names::name::is_there;
-use rows::SignatureNames;
-use rows::put_constructor;
-use rows::put_count;
-use rows::put_function;
 use schema::Listed;
 use schema::Picked;
 use schema::Stop;
 use schema::Tables;
+use schema::TypeSlot;
 use schema::Walked;
+use schema::flags::flags_in;
 use schema::name::name_in;
-use schema::types::picked;
+use schema::receiver::has_receiver;
 use sheet::State;
-use signatures::flags::OMITTED;
-use signatures::flags::flags_in;
-use signatures::receiver::has_receiver;
-use signatures::signatures::Signed;
-use signatures::signatures::or_name;
-use signatures::signatures::signature_in;
 use type_references::declared_type;
-
-// Field numbers of metadata.proto's Constructor and Function, and of jvm_metadata.proto's extensions of both.
-const CONSTRUCTOR_FLAGS: u32 = 1;
-
-const CONSTRUCTOR_PARAMETER: u32 = 2;
-
-const FUNCTION_NAME: u32 = 2;
-
-const RETURN_TYPE: u32 = 3;
-
-const RECEIVER_TYPE: u32 = 5;
-
-const FUNCTION_PARAMETER: u32 = 6;
-
-const RETURN_TYPE_ID: u32 = 7;
-
-const RECEIVER_TYPE_ID: u32 = 8;
-
-const FUNCTION_FLAGS: u32 = 9;
-
-const SIGNATURE: u32 = 100;
-
-const RETURN_ROLE: u8 = 1;
-
-const RECEIVER_ROLE: u8 = 2;
 
 // The names of a signature. One that is refused has none, and its refusal is due later.
 fn names_of(signed: Signed) -> SignatureNames
@@ -72,16 +58,6 @@ fn names_of(signed: Signed) -> SignatureNames
     }
 }
 
-// What owns a list that is refused is refused so.
-fn refused_list(list: Listed) -> Picked
-    ensures { λ r. ⌜ ((x : Stop) → list ≡ listed.Refused x → r ≡ picked.Refused x) ⌝ }
-{
-    match list {
-        Listed::Refused { stop } => Picked::Refused { stop },
-        Listed::Done { state: _, count: _ } => Picked::Dropped,
-    }
-}
-
 // A constructor. Its signature is looked up first, since it stands in its record; its refusal is due after the parameters.
 pub fn constructor_in(
     msg: &[u8],
@@ -89,29 +65,23 @@ pub fn constructor_in(
     payload: &[u8],
     d2: &[u16],
     ends: &[u32],
-    starts: &[u32],
-    stops: &[u32],
-    firsts: &[u64],
-    entry_starts: &[u32],
-    entry_ends: &[u32],
+    notes: &[u64],
     tables: Tables,
     state: State,
     sheet: &mut [u8],
     text: &mut [u8],
 ) -> Picked
     requires { ⌜ Affords (now payload) (now d2) (memberCost (length (now msg))) state × (base + length (now msg) ≤ length (now payload)) ⌝ }
-    ensures { λ r. ⌜ MemberTold constructorIn constructorRows (memberCost (length (now (msg .entry)))) (lent (now (payload .entry)) (now (d2 .entry)) (now (ends .entry)) (now (starts .entry)) (now (stops .entry)) (now (firsts .entry)) (now («entry_starts» .entry)) (now («entry_ends» .entry)) tables) (now (msg .entry)) base state r (now (sheet .entry)) (now (sheet .exit)) (now (text .entry)) (now (text .exit)) ⌝ }
+    ensures { λ r. ⌜ MemberTold constructorIn constructorRows (memberCost (length (now (msg .entry)))) (lent (now (payload .entry)) (now (d2 .entry)) (now (ends .entry)) (now (notes .entry)) tables) (now (msg .entry)) base state r (now (sheet .entry)) (now (sheet .exit)) (now (text .entry)) (now (text .exit)) ⌝ }
 {
-    let flags = flags_in(msg, base, CONSTRUCTOR_FLAGS, OMITTED);
+    let flags = flags_in(msg, base, CONSTRUCTOR_FLAGS, OMITTED_FLAGS);
     let signed = signature_in(
         msg,
         base,
-        SIGNATURE,
+        CONSTRUCTOR_CONSTRUCTOR_SIGNATURE,
         payload,
         ends,
-        starts,
-        stops,
-        firsts,
+        notes,
         tables.records,
     );
     let names = names_of(signed);
@@ -126,30 +96,28 @@ pub fn constructor_in(
     let parameters = parameters_in(
         msg,
         base,
-        CONSTRUCTOR_PARAMETER,
+        CONSTRUCTOR_VALUE_PARAMETER,
         payload,
         d2,
         ends,
-        starts,
-        stops,
-        firsts,
-        entry_starts,
-        entry_ends,
+        notes,
         tables,
         after,
         sheet,
         text,
     );
-    let Listed::Done { state: last, count } = parameters else {
-        return refused_list(parameters);
-    };
-    if let Signed::Refused { error } = signed {
-        return Picked::Refused {
-            stop: Stop::Wire { error },
-        };
+    match parameters {
+        Listed::Refused { stop } => Picked::Refused { stop },
+        Listed::Done { state: last, count } => match signed {
+            Signed::Refused { error } => Picked::Refused {
+                stop: Stop::Wire { error },
+            },
+            Signed::Names { names: _ } => {
+                put_count(sheet, counted, count);
+                Picked::Kept { state: last }
+            }
+        },
     }
-    put_count(sheet, counted, count);
-    Picked::Kept { state: last }
 }
 
 // A function's record up to its parameter count. The name of its signature falls back to the function's own.
@@ -167,7 +135,7 @@ fn function_head(
     requires { ⌜ Affords (now payload) (now d2) functionHeadCost state ⌝ }
     ensures { λ r. ⌜ FunctionHead (now (payload .entry)) (now (d2 .entry)) (now (msg .entry)) base name signed state r (now (sheet .entry)) (now (sheet .exit)) (now (text .entry)) (now (text .exit)) ⌝ }
 {
-    let flags = flags_in(msg, base, FUNCTION_FLAGS, OMITTED);
+    let flags = flags_in(msg, base, FUNCTION_FLAGS, OMITTED_FLAGS);
     let own = names_of(signed);
     let own_name = own.name;
     let descriptor = own.descriptor;
@@ -176,7 +144,7 @@ fn function_head(
         name: either,
         descriptor,
     };
-    let receiver = has_receiver(msg, base, RECEIVER_TYPE, RECEIVER_TYPE_ID);
+    let receiver = has_receiver(msg, base, FUNCTION_RECEIVER_TYPE, FUNCTION_RECEIVER_TYPE_ID);
     put_function(
         payload,
         d2,
@@ -198,33 +166,28 @@ fn function_types(
     payload: &[u8],
     d2: &[u16],
     ends: &[u32],
-    starts: &[u32],
-    stops: &[u32],
-    firsts: &[u64],
-    entry_starts: &[u32],
-    entry_ends: &[u32],
+    notes: &[u64],
     tables: Tables,
     state: State,
     sheet: &mut [u8],
     text: &mut [u8],
 ) -> Walked
     requires { ⌜ Ready (now payload) (now d2) state × (base + length (now msg) ≤ length (now payload)) ⌝ }
-    ensures { λ r. ⌜ FunctionTypesTold (lent (now (payload .entry)) (now (d2 .entry)) (now (ends .entry)) (now (starts .entry)) (now (stops .entry)) (now (firsts .entry)) (now («entry_starts» .entry)) (now («entry_ends» .entry)) tables) (now (msg .entry)) base signed state r (now (sheet .entry)) (now (sheet .exit)) (now (text .entry)) (now (text .exit)) ⌝ }
+    ensures { λ r. ⌜ FunctionTypesTold (lent (now (payload .entry)) (now (d2 .entry)) (now (ends .entry)) (now (notes .entry)) tables) (now (msg .entry)) base signed state r (now (sheet .entry)) (now (sheet .exit)) (now (text .entry)) (now (text .exit)) ⌝ }
 {
+    let received = TypeSlot {
+        inline: FUNCTION_RECEIVER_TYPE,
+        indexed: FUNCTION_RECEIVER_TYPE_ID,
+        role: RECEIVER_ROLE,
+    };
     let receiver = declared_type(
         msg,
         base,
-        RECEIVER_TYPE,
-        RECEIVER_TYPE_ID,
-        RECEIVER_ROLE,
+        received,
         payload,
         d2,
         ends,
-        starts,
-        stops,
-        firsts,
-        entry_starts,
-        entry_ends,
+        notes,
         tables,
         state,
         sheet,
@@ -238,20 +201,19 @@ fn function_types(
             stop: Stop::Wire { error },
         };
     }
+    let returned = TypeSlot {
+        inline: FUNCTION_RETURN_TYPE,
+        indexed: FUNCTION_RETURN_TYPE_ID,
+        role: RETURN_ROLE,
+    };
     declared_type(
         msg,
         base,
-        RETURN_TYPE,
-        RETURN_TYPE_ID,
-        RETURN_ROLE,
+        returned,
         payload,
         d2,
         ends,
-        starts,
-        stops,
-        firsts,
-        entry_starts,
-        entry_ends,
+        notes,
         tables,
         next,
         sheet,
@@ -267,18 +229,14 @@ pub fn function_in(
     payload: &[u8],
     d2: &[u16],
     ends: &[u32],
-    starts: &[u32],
-    stops: &[u32],
-    firsts: &[u64],
-    entry_starts: &[u32],
-    entry_ends: &[u32],
+    notes: &[u64],
     tables: Tables,
     state: State,
     sheet: &mut [u8],
     text: &mut [u8],
 ) -> Picked
     requires { ⌜ Affords (now payload) (now d2) (memberCost (length (now msg))) state × (base + length (now msg) ≤ length (now payload)) ⌝ }
-    ensures { λ r. ⌜ MemberTold functionIn functionRows (memberCost (length (now (msg .entry)))) (lent (now (payload .entry)) (now (d2 .entry)) (now (ends .entry)) (now (starts .entry)) (now (stops .entry)) (now (firsts .entry)) (now («entry_starts» .entry)) (now («entry_ends» .entry)) tables) (now (msg .entry)) base state r (now (sheet .entry)) (now (sheet .exit)) (now (text .entry)) (now (text .exit)) ⌝ }
+    ensures { λ r. ⌜ MemberTold functionIn functionRows (memberCost (length (now (msg .entry)))) (lent (now (payload .entry)) (now (d2 .entry)) (now (ends .entry)) (now (notes .entry)) tables) (now (msg .entry)) base state r (now (sheet .entry)) (now (sheet .exit)) (now (text .entry)) (now (text .exit)) ⌝ }
 {
     let name = name_in(
         msg,
@@ -286,9 +244,7 @@ pub fn function_in(
         FUNCTION_NAME,
         payload,
         ends,
-        starts,
-        stops,
-        firsts,
+        notes,
         tables.records,
     );
     if !is_there(name) {
@@ -297,12 +253,10 @@ pub fn function_in(
     let signed = signature_in(
         msg,
         base,
-        SIGNATURE,
+        FUNCTION_METHOD_SIGNATURE,
         payload,
         ends,
-        starts,
-        stops,
-        firsts,
+        notes,
         tables.records,
     );
     let head = function_head(msg, base, name, signed, payload, d2, state, sheet, text);
@@ -316,43 +270,39 @@ pub fn function_in(
     let parameters = parameters_in(
         msg,
         base,
-        FUNCTION_PARAMETER,
+        FUNCTION_VALUE_PARAMETER,
         payload,
         d2,
         ends,
-        starts,
-        stops,
-        firsts,
-        entry_starts,
-        entry_ends,
+        notes,
         tables,
         after,
         sheet,
         text,
     );
-    let Listed::Done { state: next, count } = parameters else {
-        return refused_list(parameters);
-    };
-    let types = function_types(
-        msg,
-        base,
-        signed,
-        payload,
-        d2,
-        ends,
-        starts,
-        stops,
-        firsts,
-        entry_starts,
-        entry_ends,
-        tables,
-        next,
-        sheet,
-        text,
-    );
-    let Walked::Done { state: last } = types else {
-        return picked(types);
-    };
-    put_count(sheet, place, count);
-    Picked::Kept { state: last }
+    match parameters {
+        Listed::Refused { stop } => Picked::Refused { stop },
+        Listed::Done { state: next, count } => {
+            let types = function_types(
+                msg,
+                base,
+                signed,
+                payload,
+                d2,
+                ends,
+                notes,
+                tables,
+                next,
+                sheet,
+                text,
+            );
+            match types {
+                Walked::Refused { stop } => Picked::Refused { stop },
+                Walked::Done { state: last } => {
+                    put_count(sheet, place, count);
+                    Picked::Kept { state: last }
+                }
+            }
+        }
+    }
 }

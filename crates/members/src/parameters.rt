@@ -4,54 +4,46 @@ ghost use mathlib.Core.Path.{_≡_};
 ghost use Prim.Native.Nat.{_+_, _*_, _≤_};
 ghost use lib.ListN.{length};
 ghost use Rattle.foundation.specs.Results.{ok, _from_};
+ghost use Rattle.fields.specs.Fields.{ValueParameter·flags};
 ghost use Rattle.wire.specs.Wire.{cut, Message};
-ghost use Rattle.schema.specs.Fields.{ValueParameter·flags};
 ghost use Rattle.schema.specs.Members.{bitOf, smallFlagsIn, parameterIn};
-ghost use Rattle.rows.specs.Rows.{parameterRows};
+ghost use Rattle.declaration_rows.specs.Rows.{parameterRows};
 ghost use Rattle.schema.specs.Told.{lent, Ready};
 ghost use Rattle.schema.specs.MembersTold.{Affords, parameterCost, MemberTold, ListTold};
 ghost use Rattle.schema.specs.ListsTold.{ListAtTold};
 ghost use Rattle.members.specs.ParametersTold.{ParameterTypesTold};
+use declaration_rows::PARAMETER_ROLE;
+use declaration_rows::VARARG_ROLE;
+use declaration_rows::put_parameter;
+use fields::OMITTED_SMALL_FLAGS;
+use fields::VALUE_PARAMETER_FLAGS;
+use fields::VALUE_PARAMETER_NAME;
+use fields::VALUE_PARAMETER_TYPE;
+use fields::VALUE_PARAMETER_TYPE_ID;
+use fields::VALUE_PARAMETER_VARARG_ELEMENT_TYPE;
+use fields::VALUE_PARAMETER_VARARG_ELEMENT_TYPE_ID;
 use messages::Checked;
 use messages::check_messages;
 use messages::next_body;
 use names::name::is_there;
-use rows::put_parameter;
 use schema::Listed;
 use schema::Picked;
 use schema::Stop;
 use schema::Tables;
+use schema::TypeSlot;
 use schema::Walked;
+use schema::flags::flags_in;
 use schema::name::name_in;
 use schema::types::picked;
 use sheet::State;
-use signatures::flags::OMITTED_SMALL;
-use signatures::flags::flags_in;
 use type_references::declared_type;
 use wire::Piece;
-
-// Field numbers of metadata.proto's ValueParameter.
-const FLAGS: u32 = 1;
-
-const NAME: u32 = 2;
-
-const TYPE: u32 = 3;
-
-const VARARG_TYPE: u32 = 4;
-
-const TYPE_ID: u32 = 5;
-
-const VARARG_TYPE_ID: u32 = 6;
-
-const PARAMETER_ROLE: u8 = 3;
-
-const VARARG_ROLE: u8 = 4;
 
 // Does a parameter declare a default?
 fn declares_default(msg: &[u8], base: u32) -> bool
     ensures { λ r. ⌜ ((m : Message) → cut (_from_ base (now (msg .entry))) ≡ ok m → bitOf 1 (smallFlagsIn ValueParameter·flags m) ≡ r) ⌝ }
 {
-    let flags = flags_in(msg, base, FLAGS, OMITTED_SMALL);
+    let flags = flags_in(msg, base, VALUE_PARAMETER_FLAGS, OMITTED_SMALL_FLAGS);
     flags / 2 % 2 == 1
 }
 
@@ -62,33 +54,28 @@ fn parameter_types(
     payload: &[u8],
     d2: &[u16],
     ends: &[u32],
-    starts: &[u32],
-    stops: &[u32],
-    firsts: &[u64],
-    entry_starts: &[u32],
-    entry_ends: &[u32],
+    notes: &[u64],
     tables: Tables,
     state: State,
     sheet: &mut [u8],
     text: &mut [u8],
 ) -> Walked
     requires { ⌜ Ready (now payload) (now d2) state × (base + length (now msg) ≤ length (now payload)) ⌝ }
-    ensures { λ r. ⌜ ParameterTypesTold (lent (now (payload .entry)) (now (d2 .entry)) (now (ends .entry)) (now (starts .entry)) (now (stops .entry)) (now (firsts .entry)) (now («entry_starts» .entry)) (now («entry_ends» .entry)) tables) (now (msg .entry)) base state r (now (sheet .entry)) (now (sheet .exit)) (now (text .entry)) (now (text .exit)) ⌝ }
+    ensures { λ r. ⌜ ParameterTypesTold (lent (now (payload .entry)) (now (d2 .entry)) (now (ends .entry)) (now (notes .entry)) tables) (now (msg .entry)) base state r (now (sheet .entry)) (now (sheet .exit)) (now (text .entry)) (now (text .exit)) ⌝ }
 {
+    let slot = TypeSlot {
+        inline: VALUE_PARAMETER_TYPE,
+        indexed: VALUE_PARAMETER_TYPE_ID,
+        role: PARAMETER_ROLE,
+    };
     let own = declared_type(
         msg,
         base,
-        TYPE,
-        TYPE_ID,
-        PARAMETER_ROLE,
+        slot,
         payload,
         d2,
         ends,
-        starts,
-        stops,
-        firsts,
-        entry_starts,
-        entry_ends,
+        notes,
         tables,
         state,
         sheet,
@@ -97,20 +84,19 @@ fn parameter_types(
     let Walked::Done { state: next } = own else {
         return own;
     };
+    let vararg = TypeSlot {
+        inline: VALUE_PARAMETER_VARARG_ELEMENT_TYPE,
+        indexed: VALUE_PARAMETER_VARARG_ELEMENT_TYPE_ID,
+        role: VARARG_ROLE,
+    };
     declared_type(
         msg,
         base,
-        VARARG_TYPE,
-        VARARG_TYPE_ID,
-        VARARG_ROLE,
+        vararg,
         payload,
         d2,
         ends,
-        starts,
-        stops,
-        firsts,
-        entry_starts,
-        entry_ends,
+        notes,
         tables,
         next,
         sheet,
@@ -125,28 +111,22 @@ pub fn parameter_in(
     payload: &[u8],
     d2: &[u16],
     ends: &[u32],
-    starts: &[u32],
-    stops: &[u32],
-    firsts: &[u64],
-    entry_starts: &[u32],
-    entry_ends: &[u32],
+    notes: &[u64],
     tables: Tables,
     state: State,
     sheet: &mut [u8],
     text: &mut [u8],
 ) -> Picked
     requires { ⌜ Affords (now payload) (now d2) parameterCost state × (base + length (now msg) ≤ length (now payload)) ⌝ }
-    ensures { λ r. ⌜ MemberTold parameterIn parameterRows parameterCost (lent (now (payload .entry)) (now (d2 .entry)) (now (ends .entry)) (now (starts .entry)) (now (stops .entry)) (now (firsts .entry)) (now («entry_starts» .entry)) (now («entry_ends» .entry)) tables) (now (msg .entry)) base state r (now (sheet .entry)) (now (sheet .exit)) (now (text .entry)) (now (text .exit)) ⌝ }
+    ensures { λ r. ⌜ MemberTold parameterIn parameterRows parameterCost (lent (now (payload .entry)) (now (d2 .entry)) (now (ends .entry)) (now (notes .entry)) tables) (now (msg .entry)) base state r (now (sheet .entry)) (now (sheet .exit)) (now (text .entry)) (now (text .exit)) ⌝ }
 {
     let name = name_in(
         msg,
         base,
-        NAME,
+        VALUE_PARAMETER_NAME,
         payload,
         ends,
-        starts,
-        stops,
-        firsts,
+        notes,
         tables.records,
     );
     if !is_there(name) {
@@ -160,11 +140,7 @@ pub fn parameter_in(
         payload,
         d2,
         ends,
-        starts,
-        stops,
-        firsts,
-        entry_starts,
-        entry_ends,
+        notes,
         tables,
         head,
         sheet,
@@ -180,18 +156,14 @@ fn parameters_at(
     payload: &[u8],
     d2: &[u16],
     ends: &[u32],
-    starts: &[u32],
-    stops: &[u32],
-    firsts: &[u64],
-    entry_starts: &[u32],
-    entry_ends: &[u32],
+    notes: &[u64],
     tables: Tables,
     state: State,
     sheet: &mut [u8],
     text: &mut [u8],
 ) -> Listed
     requires { ⌜ Affords (now payload) (now d2) (parameterCost * length (now msg)) state × (base + length (now msg) ≤ length (now payload)) ⌝ }
-    ensures { λ r. ⌜ ListAtTold parameterIn parameterRows (parameterCost * length (now (msg .entry))) (lent (now (payload .entry)) (now (d2 .entry)) (now (ends .entry)) (now (starts .entry)) (now (stops .entry)) (now (firsts .entry)) (now («entry_starts» .entry)) (now («entry_ends» .entry)) tables) (now (msg .entry)) base number state r (now (sheet .entry)) (now (sheet .exit)) (now (text .entry)) (now (text .exit)) ⌝ }
+    ensures { λ r. ⌜ ListAtTold parameterIn parameterRows (parameterCost * length (now (msg .entry))) (lent (now (payload .entry)) (now (d2 .entry)) (now (ends .entry)) (now (notes .entry)) tables) (now (msg .entry)) base number state r (now (sheet .entry)) (now (sheet .exit)) (now (text .entry)) (now (text .exit)) ⌝ }
 {
     let mut at = 0;
     let mut count: usize = 0;
@@ -208,11 +180,7 @@ fn parameters_at(
             payload,
             d2,
             ends,
-            starts,
-            stops,
-            firsts,
-            entry_starts,
-            entry_ends,
+            notes,
             tables,
             next,
             sheet,
@@ -237,18 +205,14 @@ pub fn parameters_in(
     payload: &[u8],
     d2: &[u16],
     ends: &[u32],
-    starts: &[u32],
-    stops: &[u32],
-    firsts: &[u64],
-    entry_starts: &[u32],
-    entry_ends: &[u32],
+    notes: &[u64],
     tables: Tables,
     state: State,
     sheet: &mut [u8],
     text: &mut [u8],
 ) -> Listed
     requires { ⌜ Affords (now payload) (now d2) (parameterCost * length (now msg)) state × (base + length (now msg) ≤ length (now payload)) ⌝ }
-    ensures { λ r. ⌜ ListTold parameterIn parameterRows (parameterCost * length (now (msg .entry))) (lent (now (payload .entry)) (now (d2 .entry)) (now (ends .entry)) (now (starts .entry)) (now (stops .entry)) (now (firsts .entry)) (now («entry_starts» .entry)) (now («entry_ends» .entry)) tables) (now (msg .entry)) base number state r (now (sheet .entry)) (now (sheet .exit)) (now (text .entry)) (now (text .exit)) ⌝ }
+    ensures { λ r. ⌜ ListTold parameterIn parameterRows (parameterCost * length (now (msg .entry))) (lent (now (payload .entry)) (now (d2 .entry)) (now (ends .entry)) (now (notes .entry)) tables) (now (msg .entry)) base number state r (now (sheet .entry)) (now (sheet .exit)) (now (text .entry)) (now (text .exit)) ⌝ }
 {
     let checked = check_messages(msg, base, number);
     let Checked::Whole = checked else {
@@ -265,11 +229,7 @@ pub fn parameters_in(
         payload,
         d2,
         ends,
-        starts,
-        stops,
-        firsts,
-        entry_starts,
-        entry_ends,
+        notes,
         tables,
         state,
         sheet,

@@ -5,63 +5,55 @@ ghost use lib.ListN.{length};
 ghost use Rattle.foundation.specs.Results.{ok, _from_};
 ghost use Rattle.wire.specs.Wire.{cut, Message};
 ghost use Rattle.schema.specs.Members.{accessorIsDefault, propertyIn};
-ghost use Rattle.rows.specs.Rows.{propertyRows};
+ghost use Rattle.declaration_rows.specs.Rows.{propertyRows};
 ghost use Rattle.schema.specs.Told.{lent};
-ghost use Rattle.rows.specs.Written.{Room};
-ghost use Rattle.schema.specs.MembersTold.{Affords, memberCost, MemberTold, ListTold};
-ghost use Rattle.schema.specs.ListsTold.{ListAtTold};
+ghost use Rattle.declaration_rows.specs.Written.{RecordRoom};
+ghost use Rattle.schema.specs.MembersTold.{Affords, memberCost, MemberTold};
 ghost use Rattle.members.specs.PropertiesTold.{RecordTold, NamedPropertyTold};
+use crate::signatures::PropertyNames;
+use crate::signatures::PropertySigned;
+use crate::signatures::check_accessors;
+use crate::signatures::property_signatures;
+use declaration_rows::PropertyFlags;
+use declaration_rows::RECEIVER_ROLE;
+use declaration_rows::RETURN_ROLE;
+use declaration_rows::put_property;
+use fields::OMITTED_FLAGS;
+use fields::OMITTED_SMALL_FLAGS;
+use fields::PROPERTY_FLAGS;
+use fields::PROPERTY_GETTER_FLAGS;
+use fields::PROPERTY_NAME;
+use fields::PROPERTY_RECEIVER_TYPE;
+use fields::PROPERTY_RECEIVER_TYPE_ID;
+use fields::PROPERTY_RETURN_TYPE;
+use fields::PROPERTY_RETURN_TYPE_ID;
+use fields::PROPERTY_SETTER_FLAGS;
 use messages::Checked;
-use messages::check_messages;
-use messages::next_body;
 use names::name::Name;
 use names::name::is_there;
-use rows::put_property;
-use schema::Listed;
 use schema::Picked;
 use schema::Stop;
 use schema::Tables;
+use schema::TypeSlot;
 use schema::Walked;
+use schema::flags::flags_in;
 use schema::name::name_in;
+use schema::receiver::has_receiver;
 use sheet::State;
-use signatures::flags::OMITTED;
-use signatures::flags::OMITTED_SMALL;
-use signatures::flags::flags_in;
-use signatures::receiver::has_receiver;
-use signatures::signatures::PropertyNames;
-use signatures::signatures::PropertySigned;
-use signatures::signatures::check_accessors;
-use signatures::signatures::property_signatures;
 use type_references::declared_type;
-use wire::Piece;
-
-// Field numbers of metadata.proto's Property.
-const NAME: u32 = 2;
-
-const RETURN_TYPE: u32 = 3;
-
-const RECEIVER_TYPE: u32 = 5;
-
-const GETTER_FLAGS: u32 = 7;
-
-const SETTER_FLAGS: u32 = 8;
-
-const RETURN_TYPE_ID: u32 = 9;
-
-const RECEIVER_TYPE_ID: u32 = 10;
-
-const FLAGS: u32 = 11;
-
-const RETURN_ROLE: u8 = 1;
-
-const RECEIVER_ROLE: u8 = 2;
 
 // An accessor is default unless bit 6 of its flags says otherwise.
 fn is_default(msg: &[u8], base: u32, number: u32) -> bool
     ensures { λ r. ⌜ ((m : Message) → cut (_from_ base (now (msg .entry))) ≡ ok m → accessorIsDefault number m ≡ r) ⌝ }
 {
-    let flags = flags_in(msg, base, number, OMITTED_SMALL);
+    let flags = flags_in(msg, base, number, OMITTED_SMALL_FLAGS);
     flags / 64 % 2 != 1
+}
+
+// A property's own name and those of its signatures.
+struct Named {
+    name: Name,
+    names: PropertyNames,
 }
 
 // Kind 4.
@@ -70,19 +62,22 @@ fn put_record(
     base: u32,
     payload: &[u8],
     d2: &[u16],
-    name: Name,
-    names: PropertyNames,
+    own: Named,
     state: State,
     sheet: &mut [u8],
     text: &mut [u8],
 ) -> State
-    requires { ⌜ Room (2 ^ 61) (now payload) (now d2) state ⌝ }
-    ensures { λ r. ⌜ RecordTold (now (payload .entry)) (now (d2 .entry)) (now (msg .entry)) base name names state r (now (sheet .entry)) (now (sheet .exit)) (now (text .entry)) (now (text .exit)) ⌝ }
+    requires { ⌜ RecordRoom (2 ^ 61) (now payload) (now d2) state ⌝ }
+    ensures { λ r. ⌜ RecordTold (now (payload .entry)) (now (d2 .entry)) (now (msg .entry)) base (own .name) (own .names) state r (now (sheet .entry)) (now (sheet .exit)) (now (text .entry)) (now (text .exit)) ⌝ }
 {
-    let flags = flags_in(msg, base, FLAGS, OMITTED);
-    let receiver = has_receiver(msg, base, RECEIVER_TYPE, RECEIVER_TYPE_ID);
-    let getter_default = is_default(msg, base, GETTER_FLAGS);
-    let setter_default = is_default(msg, base, SETTER_FLAGS);
+    let flags = PropertyFlags {
+        word: flags_in(msg, base, PROPERTY_FLAGS, OMITTED_FLAGS),
+        receiver: has_receiver(msg, base, PROPERTY_RECEIVER_TYPE, PROPERTY_RECEIVER_TYPE_ID),
+        getter: is_default(msg, base, PROPERTY_GETTER_FLAGS),
+        setter: is_default(msg, base, PROPERTY_SETTER_FLAGS),
+    };
+    let name = own.name;
+    let names = own.names;
     let field = names.field;
     let getter = names.getter;
     let setter = names.setter;
@@ -91,9 +86,6 @@ fn put_record(
         d2,
         name,
         flags,
-        receiver,
-        getter_default,
-        setter_default,
         field,
         getter.names(),
         setter.names(),
@@ -108,39 +100,33 @@ fn put_record(
 fn named_property(
     msg: &[u8],
     base: u32,
-    name: Name,
-    names: PropertyNames,
+    own: Named,
     payload: &[u8],
     d2: &[u16],
     ends: &[u32],
-    starts: &[u32],
-    stops: &[u32],
-    firsts: &[u64],
-    entry_starts: &[u32],
-    entry_ends: &[u32],
+    notes: &[u64],
     tables: Tables,
     state: State,
     sheet: &mut [u8],
     text: &mut [u8],
 ) -> Picked
     requires { ⌜ Affords (now payload) (now d2) (memberCost (length (now msg))) state × (base + length (now msg) ≤ length (now payload)) ⌝ }
-    ensures { λ r. ⌜ NamedPropertyTold (lent (now (payload .entry)) (now (d2 .entry)) (now (ends .entry)) (now (starts .entry)) (now (stops .entry)) (now (firsts .entry)) (now («entry_starts» .entry)) (now («entry_ends» .entry)) tables) (now (msg .entry)) base name names state r (now (sheet .entry)) (now (sheet .exit)) (now (text .entry)) (now (text .exit)) ⌝ }
+    ensures { λ r. ⌜ NamedPropertyTold (lent (now (payload .entry)) (now (d2 .entry)) (now (ends .entry)) (now (notes .entry)) tables) (now (msg .entry)) base (own .name) (own .names) state r (now (sheet .entry)) (now (sheet .exit)) (now (text .entry)) (now (text .exit)) ⌝ }
 {
-    let written = put_record(msg, base, payload, d2, name, names, state, sheet, text);
+    let written = put_record(msg, base, payload, d2, own, state, sheet, text);
+    let receiver = TypeSlot {
+        inline: PROPERTY_RECEIVER_TYPE,
+        indexed: PROPERTY_RECEIVER_TYPE_ID,
+        role: RECEIVER_ROLE,
+    };
     let received = declared_type(
         msg,
         base,
-        RECEIVER_TYPE,
-        RECEIVER_TYPE_ID,
-        RECEIVER_ROLE,
+        receiver,
         payload,
         d2,
         ends,
-        starts,
-        stops,
-        firsts,
-        entry_starts,
-        entry_ends,
+        notes,
         tables,
         written,
         sheet,
@@ -149,26 +135,25 @@ fn named_property(
     match received {
         Walked::Refused { stop } => Picked::Refused { stop },
         Walked::Done { state: next } => {
-            let due = check_accessors(names);
+            let due = check_accessors(own.names);
             match due {
                 Checked::Refused { error } => Picked::Refused {
                     stop: Stop::Wire { error },
                 },
                 Checked::Whole => {
+                    let returned = TypeSlot {
+                        inline: PROPERTY_RETURN_TYPE,
+                        indexed: PROPERTY_RETURN_TYPE_ID,
+                        role: RETURN_ROLE,
+                    };
                     let typed = declared_type(
                         msg,
                         base,
-                        RETURN_TYPE,
-                        RETURN_TYPE_ID,
-                        RETURN_ROLE,
+                        returned,
                         payload,
                         d2,
                         ends,
-                        starts,
-                        stops,
-                        firsts,
-                        entry_starts,
-                        entry_ends,
+                        notes,
                         tables,
                         next,
                         sheet,
@@ -191,161 +176,40 @@ pub fn property_in(
     payload: &[u8],
     d2: &[u16],
     ends: &[u32],
-    starts: &[u32],
-    stops: &[u32],
-    firsts: &[u64],
-    entry_starts: &[u32],
-    entry_ends: &[u32],
+    notes: &[u64],
     tables: Tables,
     state: State,
     sheet: &mut [u8],
     text: &mut [u8],
 ) -> Picked
     requires { ⌜ Affords (now payload) (now d2) (memberCost (length (now msg))) state × (base + length (now msg) ≤ length (now payload)) ⌝ }
-    ensures { λ r. ⌜ MemberTold propertyIn propertyRows (memberCost (length (now (msg .entry)))) (lent (now (payload .entry)) (now (d2 .entry)) (now (ends .entry)) (now (starts .entry)) (now (stops .entry)) (now (firsts .entry)) (now («entry_starts» .entry)) (now («entry_ends» .entry)) tables) (now (msg .entry)) base state r (now (sheet .entry)) (now (sheet .exit)) (now (text .entry)) (now (text .exit)) ⌝ }
+    ensures { λ r. ⌜ MemberTold propertyIn propertyRows (memberCost (length (now (msg .entry)))) (lent (now (payload .entry)) (now (d2 .entry)) (now (ends .entry)) (now (notes .entry)) tables) (now (msg .entry)) base state r (now (sheet .entry)) (now (sheet .exit)) (now (text .entry)) (now (text .exit)) ⌝ }
 {
     let records = tables.records;
-    let name = name_in(
-        msg,
-        base,
-        NAME,
-        payload,
-        ends,
-        starts,
-        stops,
-        firsts,
-        records,
-    );
+    let name = name_in(msg, base, PROPERTY_NAME, payload, ends, notes, records);
     if !is_there(name) {
         return Picked::Dropped;
     }
-    let signed = property_signatures(msg, base, payload, ends, starts, stops, firsts, records);
+    let signed = property_signatures(msg, base, payload, ends, notes, records);
     match signed {
         PropertySigned::Refused { error } => Picked::Refused {
             stop: Stop::Wire { error },
         },
-        PropertySigned::Names { names } => named_property(
-            msg,
-            base,
-            name,
-            names,
-            payload,
-            d2,
-            ends,
-            starts,
-            stops,
-            firsts,
-            entry_starts,
-            entry_ends,
-            tables,
-            state,
-            sheet,
-            text,
-        ),
-    }
-}
-
-// The properties in a field, one after the other. All of them are cut.
-fn properties_at(
-    msg: &[u8],
-    base: u32,
-    number: u32,
-    payload: &[u8],
-    d2: &[u16],
-    ends: &[u32],
-    starts: &[u32],
-    stops: &[u32],
-    firsts: &[u64],
-    entry_starts: &[u32],
-    entry_ends: &[u32],
-    tables: Tables,
-    state: State,
-    sheet: &mut [u8],
-    text: &mut [u8],
-) -> Listed
-    requires { ⌜ Affords (now payload) (now d2) (2 ^ 20 * length (now msg)) state × (base + length (now msg) ≤ length (now payload)) ⌝ }
-    ensures { λ r. ⌜ ListAtTold propertyIn propertyRows (2 ^ 20 * length (now (msg .entry))) (lent (now (payload .entry)) (now (d2 .entry)) (now (ends .entry)) (now (starts .entry)) (now (stops .entry)) (now (firsts .entry)) (now («entry_starts» .entry)) (now («entry_ends» .entry)) tables) (now (msg .entry)) base number state r (now (sheet .entry)) (now (sheet .exit)) (now (text .entry)) (now (text .exit)) ⌝ }
-{
-    let mut at = 0;
-    let mut count: usize = 0;
-    let mut next = state;
-    loop {
-        let piece = next_body(msg, base, number, at);
-        let Piece::Body { start, end } = piece else {
-            return Listed::Done { state: next, count };
-        };
-        at = end;
-        let property = property_in(
-            &msg[start..end],
-            base + start as u32,
-            payload,
-            d2,
-            ends,
-            starts,
-            stops,
-            firsts,
-            entry_starts,
-            entry_ends,
-            tables,
-            next,
-            sheet,
-            text,
-        );
-        match property {
-            Picked::Kept { state: after } => {
-                next = after;
-                count += 1;
-            }
-            Picked::Dropped => {}
-            Picked::Refused { stop } => return Listed::Refused { stop },
+        PropertySigned::Names { names } => {
+            let own = Named { name, names };
+            named_property(
+                msg,
+                base,
+                own,
+                payload,
+                d2,
+                ends,
+                notes,
+                tables,
+                state,
+                sheet,
+                text,
+            )
         }
     }
-}
-
-// The properties in a field, all cut before the first is read.
-pub fn properties_in(
-    msg: &[u8],
-    base: u32,
-    number: u32,
-    payload: &[u8],
-    d2: &[u16],
-    ends: &[u32],
-    starts: &[u32],
-    stops: &[u32],
-    firsts: &[u64],
-    entry_starts: &[u32],
-    entry_ends: &[u32],
-    tables: Tables,
-    state: State,
-    sheet: &mut [u8],
-    text: &mut [u8],
-) -> Listed
-    requires { ⌜ Affords (now payload) (now d2) (2 ^ 20 * length (now msg)) state × (base + length (now msg) ≤ length (now payload)) ⌝ }
-    ensures { λ r. ⌜ ListTold propertyIn propertyRows (2 ^ 20 * length (now (msg .entry))) (lent (now (payload .entry)) (now (d2 .entry)) (now (ends .entry)) (now (starts .entry)) (now (stops .entry)) (now (firsts .entry)) (now («entry_starts» .entry)) (now («entry_ends» .entry)) tables) (now (msg .entry)) base number state r (now (sheet .entry)) (now (sheet .exit)) (now (text .entry)) (now (text .exit)) ⌝ }
-{
-    let checked = check_messages(msg, base, number);
-    let Checked::Whole = checked else {
-        return Listed::Refused {
-            stop: Stop::Wire {
-                error: checked.error(),
-            },
-        };
-    };
-    properties_at(
-        msg,
-        base,
-        number,
-        payload,
-        d2,
-        ends,
-        starts,
-        stops,
-        firsts,
-        entry_starts,
-        entry_ends,
-        tables,
-        state,
-        sheet,
-        text,
-    )
 }

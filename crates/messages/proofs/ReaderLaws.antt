@@ -21,7 +21,7 @@ use Rattle.messages.specs.Reader.{
   refuses,
   reads,
   partsOf,
-  OpenedTold,
+  SplitTold,
 }
 use Rattle.wire.specs.declared.WireError.{WireError}
 use Rattle.wire.specs.declared.WireValue.{WireValue}
@@ -31,7 +31,7 @@ use Rattle.wire.specs.declared.Delimited.{Delimited}
 use Rattle.wire.specs.declared.Delimited.the-variants as delimited
 use Rattle.wire.specs.declared.FieldStep.the-variants as step
 use Rattle.messages.specs.declared.reader.NextField.the-variants as nextField
-use Rattle.messages.specs.declared.reader.Opened.{Opened}
+use Rattle.messages.specs.declared.reader.Split.{Split}
 use Rattle.wire.proofs.FieldLaws.{varint-inside}
 use Rattle.wire.proofs.WalkLaws.{whole, field-inside, cut-end, cut-field, cut-refused}
 
@@ -76,14 +76,14 @@ module _ (s : List ℕ) where
 
 -- what a reader at the start of a payload reads opens it
 module _ (s : List ℕ) where
-  opened-by : (r : Res (Got Part)) (d : Delimited) (rest : ℕ) → rest ≡ afterDelimited 0 d → DelimitedTold 0 s r d → OpenedTold s r (partsOf d rest)
+  opened-by : (r : Res (Got Part)) (d : Delimited) (rest : ℕ) → rest ≡ afterDelimited 0 d → DelimitedTold 0 s r d → SplitTold s r (partsOf d rest)
   opened-by r (delimited.Body start end) rest e h =
       (h .0 ∙ ap (λ (n : ℕ). got (bodyOf 0 s start end) (restOf 0 s n)) (sym e), h .3, h .1, omega (arith, e), omega (arith, e, h .2))
   opened-by r (delimited.Refused error) rest e h = h
 
-  pub opened-told : (at rest : ℕ) (d : Delimited) (o : Opened) → at ≡ 0 → DelimitedRead s at d rest → o ≡ partsOf d rest
-      → OpenedTold s (readDelimited (_from_ 0 s)) o
+  pub opened-told : (at rest : ℕ) (d : Delimited) (o : Split) → at ≡ 0 → DelimitedRead s at d rest → o ≡ partsOf d rest
+      → SplitTold s (readDelimited (_from_ 0 s)) o
   opened-told at rest d o z h e =
       let k : DelimitedRead s 0 d rest = subst (λ (n : ℕ). DelimitedRead s n d rest) z h in
       let t : DelimitedTold 0 s (readDelimited (_from_ 0 s)) d = subst (λ (p : Part). DelimitedTold 0 s (readDelimited p) d) (whole 0 s) (k .1 zero-le) in
-      subst (OpenedTold s (readDelimited (_from_ 0 s))) (sym e) (opened-by (readDelimited (_from_ 0 s)) d rest (k .0) t)
+      subst (SplitTold s (readDelimited (_from_ 0 s))) (sym e) (opened-by (readDelimited (_from_ 0 s)) d rest (k .0) t)

@@ -17,8 +17,8 @@ use Rattle.wire.specs.declared.Delimited.{Delimited}
 use Rattle.wire.specs.declared.Delimited.the-variants as delimited
 use Rattle.messages.specs.declared.reader.NextField.{NextField}
 use Rattle.messages.specs.declared.reader.NextField.the-variants as nextField
-use Rattle.messages.specs.declared.reader.Opened.{Opened}
-use Rattle.messages.specs.declared.reader.Opened.the-variants as opened
+use Rattle.messages.specs.declared.reader.Split.{Split}
+use Rattle.messages.specs.declared.reader.Split.the-variants as split
 
 abbrev pub emptyAt : List ℕ → ℕ → Bool
 emptyAt s at = leb (length s) at
@@ -62,11 +62,11 @@ pub data ReadAll (s : List ℕ) : ℕ → Res Message → Type 0 where
       → ReadAll s at (m >>= λ fs. ok (field n (valueOf 0 s v) ∷ fs))
 
 -- a payload's parts, by the answer to its name table and the place after it
-abbrev pub partsOf : Delimited → ℕ → Opened
-partsOf (delimited.Body start end) rest = opened.Parts start end rest
-partsOf (delimited.Refused error) rest = opened.Refused error
+abbrev pub partsOf : Delimited → ℕ → Split
+partsOf (delimited.Body start end) rest = split.Parts start end rest
+partsOf (delimited.Refused error) rest = split.Refused error
 
-abbrev pub OpenedTold : List ℕ → Res (Got Part) → Opened → Type 0
-OpenedTold s r (opened.Parts start end rest) =
+abbrev pub SplitTold : List ℕ → Res (Got Part) → Split → Type 0
+SplitTold s r (split.Parts start end rest) =
     (r ≡ got (bodyOf 0 s start end) (restOf 0 s rest)) × (0 < start) × (start ≤ end) × (end ≤ rest) × (rest ≤ length s)
-OpenedTold s r (opened.Refused error) = r ≡ refusal error
+SplitTold s r (split.Refused error) = r ≡ refusal error

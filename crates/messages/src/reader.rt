@@ -4,7 +4,7 @@ ghost use mathlib.Core.Path.{_≡_};
 ghost use lib.ListN.{drop};
 ghost use Rattle.foundation.specs.Results.{_from_};
 ghost use Rattle.wire.specs.Wire.{readDelimited};
-ghost use Rattle.messages.specs.Reader.{emptyAt, afterVarint, VarintRead, afterDelimited, DelimitedRead, NextTold, afterNext, NextRead, partsOf, OpenedTold};
+ghost use Rattle.messages.specs.Reader.{emptyAt, afterVarint, VarintRead, afterDelimited, DelimitedRead, NextTold, afterNext, NextRead, partsOf, SplitTold};
 use wire::Delimited;
 use wire::FieldStep;
 use wire::Varint;
@@ -151,7 +151,7 @@ impl<'a> WireReader<'a> {
 }
 
 // A payload's two parts, by their places: the name table from `start` to `end`, the declarations from `rest` on.
-pub enum Opened {
+pub enum Split {
     Parts {
         start: usize,
         end: usize,
@@ -162,33 +162,33 @@ pub enum Opened {
     },
 }
 
-impl Opened {
+impl Split {
     pub fn error(self) -> WireError
-        ensures { λ r. ⌜ ((e : WireError) → self ≡ Opened.Refused e → r ≡ e) ⌝ }
+        ensures { λ r. ⌜ ((e : WireError) → self ≡ Split.Refused e → r ≡ e) ⌝ }
     {
         match self {
-            Opened::Parts {
+            Split::Parts {
                 start: _,
                 end: _,
                 rest,
             } => WireError::VarintCutShort { place: rest },
-            Opened::Refused { error } => error,
+            Split::Refused { error } => error,
         }
     }
 }
 
-fn parts(table: Delimited, rest: usize) -> Opened
+fn parts(table: Delimited, rest: usize) -> Split
     ensures { λ r. ⌜ r ≡ partsOf table rest ⌝ }
 {
     match table {
-        Delimited::Body { start, end } => Opened::Parts { start, end, rest },
-        Delimited::Refused { error } => Opened::Refused { error },
+        Delimited::Body { start, end } => Split::Parts { start, end, rest },
+        Delimited::Refused { error } => Split::Refused { error },
     }
 }
 
 // Opens a payload: a length-delimited name table, then the declarations. Who calls this needs no proof by hand.
-pub fn open_payload(bytes: &[u8]) -> Opened
-    ensures { λ r. ⌜ OpenedTold (now (bytes .entry)) (readDelimited (_from_ 0 (now (bytes .entry)))) r ⌝ }
+pub fn split_payload(bytes: &[u8]) -> Split
+    ensures { λ r. ⌜ SplitTold (now (bytes .entry)) (readDelimited (_from_ 0 (now (bytes .entry)))) r ⌝ }
 {
     let mut reader = WireReader::new(bytes);
     let table = reader.delimited();

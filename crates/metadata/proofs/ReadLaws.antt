@@ -7,16 +7,11 @@ use mathlib.Core.Option.{Option, none, some}
 use Prim.Native.Nat.{ℕ, _+_, _-_, _^_, _≤_, _<_, min}
 use native.Mathlib.Omega.{arith}
 use borrow.Author.Tests.{ltb-false, leb-true, lt-ltb, le-ltb, eq-eqb}
-use denote.Enum.Declared.{tagOf}
-use types.Run.{OneOf, miss}
 use lib.Dec.{eqb, leb, ltb}
 use lib.IntN.{ℤ, pos, negsuc}
 use lib.ListN.{length}
 use lib.Seq.{sets}
 use lib.Signed.{ltZ}
-use mir.Facts.{toZ-ofZ}
-use mir.Syntax.{w32}
-use mir.Val.{SFits, ofZ, toZ}
 use Rattle.foundation.specs.Choices.{if_then_else_}
 use Rattle.foundation.specs.Results.{Res, Cause, d1TooLong, d2TooLong, stringEnds, newerVersion, sheetTooLong}
 use Rattle.foundation.proofs.ChoiceLaws.{if-ind, and-left, and-right}
@@ -30,32 +25,32 @@ use Rattle.sheet.specs.Put.{PutHead, PutRows, past}
 use Rattle.sheet.specs.declared.State.{State}
 use Rattle.sheet.proofs.PutLaws.{put-none, put-front}
 use Rattle.sheet.proofs.RowLaws.{rowsLength, bodyLength, sheet-length}
-use Rattle.rows.specs.Declarations.{Declarations}
+use Rattle.declaration_rows.specs.Declarations.{Declarations}
 use Rattle.schema.specs.Reading.{allowance}
-use Rattle.rows.specs.Written as written
-use Rattle.rows.specs.Written.{headCells, headCounts}
-use Rattle.rows.proofs.RecordLaws.{head-put}
-use Rattle.rows.proofs.WrittenLaws.{head-room, head-small}
+use Rattle.declaration_rows.specs.Written as written
+use Rattle.declaration_rows.specs.Written.{headCells, headCounts}
+use Rattle.declaration_rows.proofs.RecordLaws.{head-put}
+use Rattle.declaration_rows.proofs.WrittenLaws.{head-room, head-small}
 use Rattle.declarations.specs.Payload.{declarationRows}
 use Rattle.declarations.proofs.BodyLaws.{no-name}
 use Rattle.inputs.specs.Refusals.{numberOf, detailOf}
 use Rattle.inputs.specs.Inputs.{Input, kindOf, carriesDeclarations, stringLimit, supportedMajor, major, laterFault, faultOf}
-use Rattle.inputs.specs.Told.{input, faultTold}
+use Rattle.inputs.specs.Told.{input, faultCause, faultTold}
 use Rattle.inputs.specs.Outcomes as definition
 use Rattle.inputs.specs.Outcomes.{told, RefusedAs}
 use Rattle.inputs.specs.declared.Fault.{Fault}
-use Rattle.inputs.specs.declared.Fault.the-variants as fault
+use Rattle.inputs.specs.declared.Inspected.{Inspected}
+use Rattle.inputs.specs.declared.Inspected.the-variants as inspected
 use Rattle.inputs.specs.declared.outcome.Outcome.{Outcome}
-use Rattle.areas.specs.Answered as answers
-use Rattle.areas.specs.Answered.{headAlone, nothingRead, sheetWritten, answered}
-use Rattle.areas.specs.AreaTold.{Kept, start}
-use Rattle.decoding.specs.DecodeTold.{CoreTold, readingOf, readingBy}
-use Rattle.decoding.specs.declared.Core.{Core}
-use Rattle.decoding.specs.declared.Core.the-variants as core
+use Rattle.passes.specs.Answered as answers
+use Rattle.passes.specs.Answered.{headAlone, nothingRead, sheetWritten, answered}
+use Rattle.passes.specs.AreaTold.{InLimits, start}
+use Rattle.passes.specs.PassTold.{PassedTold, readingOf, readingBy}
+use Rattle.passes.specs.declared.Passed.{Passed}
+use Rattle.passes.specs.declared.Passed.the-variants as passed
 use Rattle.metadata.specs.Read.{reading, read}
-use Rattle.metadata.specs.ReadTold.{toldBy, toldIn}
+use Rattle.metadata.specs.ReadTold.{toldBy}
 use Rattle.metadata.specs.declared.Answer.{Answer}
-use Rattle.inputs.proofs.Fault.{the-type}
 use Rattle.inputs.proofs.OutcomeLaws.{refused-as}
 
 kind-bounds : (k : ℤ) → (1 ≤ kindOf k) × (kindOf k ≤ 5)
@@ -92,7 +87,7 @@ or-false true b e = let z : _≡_ {A = ℕ} 0 1 = cc in absurd (omega arith)
 or-false false b e = refl
 
 -- without a fault the host has kept to its limits
-pub fault-kept : (i : Input) → faultOf i ≡ none → Kept (i .d1) (i .d2) (i .ends)
+pub fault-kept : (i : Input) → faultOf i ≡ none → InLimits (i .d1) (i .d2) (i .ends)
 unfolding faultOf laterFault
 fault-kept i e =
     let version = if ltZ supportedMajor (major i) then some newerVersion else none in
@@ -105,25 +100,17 @@ fault-kept i e =
       fit = else-none (endsFit 0 (i .ends) (length (i .d2))) stringEnds version (b .1);
     }
 
--- the `else` of no fault
-pub fault-some : (f : Fault) → OneOf (0 ∷ 1 ∷ 2 ∷ 3 ∷ []) (tagOf the-type f) → (c : Cause) × (faultTold f ≡ some c)
-fault-some fault.D1TooLong h = (_, refl)
-fault-some fault.D2TooLong h = (_, refl)
-fault-some fault.StringEnds h = (_, refl)
-fault-some fault.NewerVersion h = (_, refl)
-fault-some fault.Nothing h = absurd (miss (0 ∷ 1 ∷ 2 ∷ 3 ∷ []) 4 tt h)
-
 module _ (S T : List ℕ) (k : ℤ) (mv : List ℤ) (d1 d2 ends : List ℕ) where
-  pub read-fault : (f : Fault) {r : Outcome} → faultOf (input k mv d1 d2 ends) ≡ faultTold f → OneOf (0 ∷ 1 ∷ 2 ∷ 3 ∷ []) (tagOf the-type f)
-      → ((c : Cause) → faultTold f ≡ some c → RefusedAs c r) → read S T (input k mv d1 d2 ends) ≡ told r S T
+  pub read-fault : (f : Inspected) {fault : Fault} {r : Outcome} → faultOf (input k mv d1 d2 ends) ≡ faultTold f → f ≡ inspected.Faulty fault
+      → RefusedAs (faultCause fault) 0 r → read S T (input k mv d1 d2 ends) ≡ told r S T
   unfolding read reading
-  read-fault f e h g = let s = fault-some f h in rw (e, s .1) (g (s .0) (s .1) S T)
+  read-fault f e g h = rw (e ∙ ap faultTold g) (h S T)
 
-  module _ (f : Fault) (e : faultOf (input k mv d1 d2 ends) ≡ faultTold f) (g : f ≡ fault.Nothing) where
+  module _ (f : Inspected) (e : faultOf (input k mv d1 d2 ends) ≡ faultTold f) (g : f ≡ inspected.Sound) where
     no-fault-is : faultOf (input k mv d1 d2 ends) ≡ none
     no-fault-is = e ∙ ap faultTold g
 
-    pub kept-is : Kept d1 d2 ends
+    pub kept-is : InLimits d1 d2 ends
     kept-is = fault-kept (input k mv d1 d2 ends) no-fault-is
 
     pub read-kind-is : {kind : ℕ} → kind ≡ kindOf k → {r : Outcome} (S′ T′ : List ℕ) → answered S T kind (readingBy kind d1 d2 ends) ≡ told r S′ T′
@@ -170,7 +157,7 @@ module _ (kind : ℕ) (S T : List ℕ) where
   pub alone-over : length S < 20 → {r : Outcome} → r ≡ record { number = 12; detail = 0; sheet = 0; text = 0; types = 0 }
       → answered S T kind nothingRead ≡ told r S T
   unfolding sheetWritten numberOf detailOf
-  alone-over h e = alone-answer ∙ rw (alone-length kind, lt-ltb (length S) 20 h) (refused-as e sheetTooLong refl refl S T)
+  alone-over h e = alone-answer ∙ rw (alone-length kind, lt-ltb (length S) 20 h) (refused-as e sheetTooLong 0 refl refl S T)
 
   pub alone-done : (n : Name) → n ≡ absentName → (payload d2 : List ℕ) {s s₁ : State} → s ≡ start → {S₁ S₂ T₁ : List ℕ}
       → PutHead 1 (headCells kind (nameText payload d2 n) 6) (s .types) s s₁ S S₁ T T₁
@@ -195,44 +182,24 @@ module _ (kind : ℕ) (S T : List ℕ) where
 pub alone-ends : (kind : ℕ) (n : Name) (payload d2 : List ℕ) → length payload ≤ 32768 → length d2 ≤ 32768 → {s s₁ : State} {S S₁ T T₁ : List ℕ} → s ≡ start
     → PutHead 1 (headCells kind (nameText payload d2 n) 6) (s .types) s s₁ S S₁ T T₁ → s₁ .sheet ≤ 2 ^ 63
 alone-ends kind n payload d2 a b {s} e p =
-    let r : written.Room 0 payload d2 s = subst (written.Room 0 payload d2) (sym e) (record { payload = a; d2 = b; places = omega arith }) in
+    let r : written.RecordRoom 0 payload d2 s = subst (written.RecordRoom 0 payload d2) (sym e) (record { payload = a; d2 = b; places = omega arith }) in
     omega (arith, head-room (headCells kind (nameText payload d2 n) 6) (head-small r kind n 6) r 1 p .places)
 
-pub start-room : (payload d2 : List ℕ) → length payload ≤ 32768 → length d2 ≤ 32768 → {s : State} → s ≡ start → written.Room (2 ^ 61) payload d2 s
-start-room payload d2 a b e = subst (written.Room (2 ^ 61) payload d2) (sym e) (record { payload = a; d2 = b; places = omega arith })
+pub start-room : (payload d2 : List ℕ) → length payload ≤ 32768 → length d2 ≤ 32768 → {s : State} → s ≡ start → written.RecordRoom (2 ^ 61) payload d2 s
+start-room payload d2 a b e = subst (written.RecordRoom (2 ^ 61) payload d2) (sym e) (record { payload = a; d2 = b; places = omega arith })
 
 -- An answer from a frame.
-module _ (kind : ℕ) (x : Res (Declarations × ℕ)) (room : Type 0) (y : Core) (S S′ T T′ : List ℕ) (t : CoreTold kind x room y S S′ T T′) where
-  pub core-answered : {r : Outcome} → y ≡ core.Answered r → answered S T kind x ≡ told r S′ T′
-  core-answered e = subst (λ (z : Core). CoreTold kind x room z S S′ T T′) e t
+module _ (kind : ℕ) (x : Res (Declarations × ℕ)) (room : Type 0) (y : Passed) (S S′ T T′ : List ℕ) (t : PassedTold kind x room y S S′ T T′) where
+  pub pass-answered : {r : Outcome} → y ≡ passed.Answered r → answered S T kind x ≡ told r S′ T′
+  pass-answered e = subst (λ (z : Passed). PassedTold kind x room z S S′ T T′) e t
 
-  core-lacks : y ≡ core.NoRoom → (room → ⊥) × (S′ ≡ S) × (T′ ≡ T)
-  core-lacks e = subst (λ (z : Core). CoreTold kind x room z S S′ T T′) e t
+  pass-lacks : y ≡ passed.NoRoom → (room → ⊥) × (S′ ≡ S) × (T′ ≡ T)
+  pass-lacks e = subst (λ (z : Passed). PassedTold kind x room z S S′ T T′) e t
 
-  pub core-never : {A : Type 0} → room → y ≡ core.NoRoom → A
-  core-never h e = absurd (core-lacks e .0 h)
-
-  -- as if nothing had been done
-  pub core-again : y ≡ core.NoRoom → {r : Outcome} (S₁ T₁ : List ℕ) → answered S′ T′ kind x ≡ told r S₁ T₁ → answered S T kind x ≡ told r S₁ T₁
-  core-again e S₁ T₁ h =
-      let c = core-lacks e in
-      ap (λ (l : List ℕ). answered l T kind x) (sym (c .1)) ∙ ap (λ (l : List ℕ). answered S′ l kind x) (sym (c .2)) ∙ h
+  pub pass-never : {A : Type 0} → room → y ≡ passed.NoRoom → A
+  pass-never h e = absurd (pass-lacks e .0 h)
 
 -- The answer with its version.
 pub answer-is : (a : definition.Answer) (r : Outcome) (b : Answer) (S T : List ℕ) → a ≡ told r S T → b .number ≡ r .number → b .detail ≡ r .detail
     → b .sheet ≡ r .sheet → b .text ≡ r .text → b .types ≡ r .types → a ≡ toldBy b S T
 answer-is a r b S T e n d s t y = e ∙ rw (n, d, s, t, y)
-
--- The answer as five numbers, of signed ones that came as bits.
-abbrev back : ℤ → ℤ
-back z = toZ w32 (ofZ w32 z)
-
-pub exported-is : (S T : List ℕ) (k major minor patch : ℤ) (d1 d2 ends : List ℕ) → SFits w32 k → SFits w32 major → SFits w32 minor → SFits w32 patch
-    → (r : Answer) (S′ T′ : List ℕ)
-    → read S T (input (back k) (back major ∷ back minor ∷ back patch ∷ []) d1 d2 ends) ≡ toldBy r S′ T′
-    → read S T (input k (major ∷ minor ∷ patch ∷ []) d1 d2 ends)
-    ≡ toldIn (r .number ∷ r .detail ∷ r .sheet ∷ r .text ∷ r .types ∷ []) S′ T′
-exported-is S T k major minor patch d1 d2 ends f g h i r S′ T′ e =
-    let p : input k (major ∷ minor ∷ patch ∷ []) d1 d2 ends ≡ input (back k) (back major ∷ back minor ∷ back patch ∷ []) d1 d2 ends =
-    rw (toZ-ofZ f, toZ-ofZ g, toZ-ofZ h, toZ-ofZ i) in
-    ap (read S T) p ∙ e

@@ -6,11 +6,11 @@ use Rattle.foundation.specs.Choices.{if_then_else_, ifSome}
 use Rattle.foundation.specs.Results.{Res, refused, _>>=_}
 use Rattle.encoding.specs.Encoding.{decoded}
 use Rattle.names.specs.Names.{stringsFrom, d2String}
-use Rattle.rows.specs.Declarations.{Declarations}
+use Rattle.declaration_rows.specs.Declarations.{Declarations}
 use Rattle.inputs.specs.Inputs.{Input, kindOf, carriesDeclarations, faultOf}
 use Rattle.inputs.specs.Outcomes.{Answer}
 use Rattle.declarations.specs.Payload.{payload}
-use Rattle.areas.specs.Answered.{nothingRead, answered}
+use Rattle.passes.specs.Answered.{nothingRead, answered}
 
 -- The declarations, and how many types might still be entered.
 unfoldable pub reading : Input → Res (Declarations × ℕ)

@@ -5,25 +5,24 @@ ghost use Prim.Native.Nat.{_≤_};
 ghost use lib.ListN.{length};
 ghost use Rattle.inputs.specs.Told.{input};
 ghost use Rattle.inputs.specs.Outcomes.{told};
-ghost use Rattle.areas.specs.Answered.{nothingRead, answered};
-ghost use Rattle.areas.specs.AreaTold.{Kept};
-ghost use Rattle.decoding.specs.DecodeTold.{readingOf, readingBy};
+ghost use Rattle.passes.specs.Answered.{nothingRead, answered};
+ghost use Rattle.passes.specs.AreaTold.{InLimits};
+ghost use Rattle.passes.specs.PassTold.{readingOf, readingBy};
 ghost use Rattle.metadata.specs.Read.{read};
 ghost use Rattle.metadata.specs.ReadTold.{toldBy};
-use areas::start;
-use decoding::Core;
-use decoding::decode_in;
-use inputs::Fault;
+use declaration_rows::put_head;
+use declaration_rows::put_head_counts;
+use fields::OMITTED_FLAGS;
+use inputs::Inspected;
 use inputs::fault_of;
 use inputs::kind_of;
 use inputs::outcome::Outcome;
 use inputs::outcome::fault_refusal;
 use inputs::outcome::refused;
 use names::name::absent;
-use rows::put_head;
-use rows::put_head_counts;
-
-pub mod exported; // exported.rt: the function of the static library
+use passes::Passed;
+use passes::decode_in;
+use passes::start;
 
 // Number and detail of a refusal (0 and 0: accepted), both lengths, the types entered, and the version as it came.
 pub struct Answer {
@@ -44,7 +43,16 @@ pub fn head_alone(kind: u8, sheet: &mut [u8], text: &mut [u8]) -> Outcome
     }
     let payload = [0u8; 0];
     let d2 = [0u16; 0];
-    let head = put_head(&payload, &d2, kind, absent(), 6, start(), sheet, text);
+    let head = put_head(
+        &payload,
+        &d2,
+        kind,
+        absent(),
+        OMITTED_FLAGS,
+        start(),
+        sheet,
+        text,
+    );
     put_head_counts(sheet, head.sheet, 0, 0, 0);
     Outcome {
         number: 0,
@@ -64,36 +72,28 @@ fn read_small(
     sheet: &mut [u8],
     text: &mut [u8],
 ) -> Outcome
-    requires { ⌜ Kept (now d1) (now d2) (now ends) × (length (now d1) ≤ 256) ⌝ }
+    requires { ⌜ InLimits (now d1) (now d2) (now ends) × (length (now d1) ≤ 256) ⌝ }
     ensures { λ r. ⌜ answered (now (sheet .entry)) (now (text .entry)) kind (readingOf kind (now (d1 .entry)) (now (d2 .entry)) (now (ends .entry))) ≡ told r (now (sheet .exit)) (now (text .exit)) ⌝ }
 {
     let mut bytes = [0u8; 256];
-    let mut starts = [0u32; 128];
-    let mut stops = [0u32; 128];
-    let mut firsts = [0u64; 129];
-    let mut entry_starts = [0u32; 128];
-    let mut entry_ends = [0u32; 128];
+    let mut notes = [0u64; 384];
     let mut scratch_sheet = [0u8; 512];
     let mut scratch_text = [0u8; 1024];
-    let core = decode_in(
+    let passed = decode_in(
         kind,
         &*d1,
         &*d2,
         &*ends,
         &mut bytes,
-        &mut starts,
-        &mut stops,
-        &mut firsts,
-        &mut entry_starts,
-        &mut entry_ends,
+        &mut notes,
         &mut scratch_sheet,
         &mut scratch_text,
         sheet,
         text,
     );
-    match core {
-        Core::Answered { outcome } => outcome,
-        Core::NoRoom => refused(0, 0),
+    match passed {
+        Passed::Answered { outcome } => outcome,
+        Passed::NoRoom => refused(0, 0),
     }
 }
 
@@ -106,36 +106,28 @@ fn read_medium(
     sheet: &mut [u8],
     text: &mut [u8],
 ) -> Outcome
-    requires { ⌜ Kept (now d1) (now d2) (now ends) × (length (now d1) ≤ 1024) ⌝ }
+    requires { ⌜ InLimits (now d1) (now d2) (now ends) × (length (now d1) ≤ 1024) ⌝ }
     ensures { λ r. ⌜ answered (now (sheet .entry)) (now (text .entry)) kind (readingOf kind (now (d1 .entry)) (now (d2 .entry)) (now (ends .entry))) ≡ told r (now (sheet .exit)) (now (text .exit)) ⌝ }
 {
     let mut bytes = [0u8; 1024];
-    let mut starts = [0u32; 512];
-    let mut stops = [0u32; 512];
-    let mut firsts = [0u64; 513];
-    let mut entry_starts = [0u32; 512];
-    let mut entry_ends = [0u32; 512];
+    let mut notes = [0u64; 1536];
     let mut scratch_sheet = [0u8; 2048];
     let mut scratch_text = [0u8; 6144];
-    let core = decode_in(
+    let passed = decode_in(
         kind,
         &*d1,
         &*d2,
         &*ends,
         &mut bytes,
-        &mut starts,
-        &mut stops,
-        &mut firsts,
-        &mut entry_starts,
-        &mut entry_ends,
+        &mut notes,
         &mut scratch_sheet,
         &mut scratch_text,
         sheet,
         text,
     );
-    match core {
-        Core::Answered { outcome } => outcome,
-        Core::NoRoom => refused(0, 0),
+    match passed {
+        Passed::Answered { outcome } => outcome,
+        Passed::NoRoom => refused(0, 0),
     }
 }
 
@@ -148,36 +140,28 @@ fn read_big(
     sheet: &mut [u8],
     text: &mut [u8],
 ) -> Outcome
-    requires { ⌜ Kept (now d1) (now d2) (now ends) × (length (now d1) ≤ 8192) ⌝ }
+    requires { ⌜ InLimits (now d1) (now d2) (now ends) × (length (now d1) ≤ 8192) ⌝ }
     ensures { λ r. ⌜ answered (now (sheet .entry)) (now (text .entry)) kind (readingOf kind (now (d1 .entry)) (now (d2 .entry)) (now (ends .entry))) ≡ told r (now (sheet .exit)) (now (text .exit)) ⌝ }
 {
     let mut bytes = [0u8; 8192];
-    let mut starts = [0u32; 4096];
-    let mut stops = [0u32; 4096];
-    let mut firsts = [0u64; 4097];
-    let mut entry_starts = [0u32; 4096];
-    let mut entry_ends = [0u32; 4096];
+    let mut notes = [0u64; 12288];
     let mut scratch_sheet = [0u8; 12288];
     let mut scratch_text = [0u8; 45056];
-    let core = decode_in(
+    let passed = decode_in(
         kind,
         &*d1,
         &*d2,
         &*ends,
         &mut bytes,
-        &mut starts,
-        &mut stops,
-        &mut firsts,
-        &mut entry_starts,
-        &mut entry_ends,
+        &mut notes,
         &mut scratch_sheet,
         &mut scratch_text,
         sheet,
         text,
     );
-    match core {
-        Core::Answered { outcome } => outcome,
-        Core::NoRoom => refused(0, 0),
+    match passed {
+        Passed::Answered { outcome } => outcome,
+        Passed::NoRoom => refused(0, 0),
     }
 }
 
@@ -190,36 +174,28 @@ fn read_large(
     sheet: &mut [u8],
     text: &mut [u8],
 ) -> Outcome
-    requires { ⌜ Kept (now d1) (now d2) (now ends) ⌝ }
+    requires { ⌜ InLimits (now d1) (now d2) (now ends) ⌝ }
     ensures { λ r. ⌜ answered (now (sheet .entry)) (now (text .entry)) kind (readingOf kind (now (d1 .entry)) (now (d2 .entry)) (now (ends .entry))) ≡ told r (now (sheet .exit)) (now (text .exit)) ⌝ }
 {
     let mut bytes = [0u8; 32768];
-    let mut starts = [0u32; 16384];
-    let mut stops = [0u32; 16384];
-    let mut firsts = [0u64; 16385];
-    let mut entry_starts = [0u32; 16384];
-    let mut entry_ends = [0u32; 16384];
+    let mut notes = [0u64; 49152];
     let mut scratch_sheet = [0u8; 49152];
     let mut scratch_text = [0u8; 65536];
-    let core = decode_in(
+    let passed = decode_in(
         kind,
         &*d1,
         &*d2,
         &*ends,
         &mut bytes,
-        &mut starts,
-        &mut stops,
-        &mut firsts,
-        &mut entry_starts,
-        &mut entry_ends,
+        &mut notes,
         &mut scratch_sheet,
         &mut scratch_text,
         sheet,
         text,
     );
-    match core {
-        Core::Answered { outcome } => outcome,
-        Core::NoRoom => refused(0, 0),
+    match passed {
+        Passed::Answered { outcome } => outcome,
+        Passed::NoRoom => refused(0, 0),
     }
 }
 
@@ -232,7 +208,7 @@ fn read_longer(
     sheet: &mut [u8],
     text: &mut [u8],
 ) -> Outcome
-    requires { ⌜ Kept (now d1) (now d2) (now ends) ⌝ }
+    requires { ⌜ InLimits (now d1) (now d2) (now ends) ⌝ }
     ensures { λ r. ⌜ answered (now (sheet .entry)) (now (text .entry)) kind (readingOf kind (now (d1 .entry)) (now (d2 .entry)) (now (ends .entry))) ≡ told r (now (sheet .exit)) (now (text .exit)) ⌝ }
 {
     if d1.len() <= 8192 {
@@ -252,7 +228,7 @@ pub fn read_any(
     sheet: &mut [u8],
     text: &mut [u8],
 ) -> Outcome
-    requires { ⌜ Kept (now d1) (now d2) (now ends) ⌝ }
+    requires { ⌜ InLimits (now d1) (now d2) (now ends) ⌝ }
     ensures { λ r. ⌜ answered (now (sheet .entry)) (now (text .entry)) kind (readingOf kind (now (d1 .entry)) (now (d2 .entry)) (now (ends .entry))) ≡ told r (now (sheet .exit)) (now (text .exit)) ⌝ }
 {
     if d1.len() <= 256 {
@@ -276,7 +252,7 @@ fn read_kind(
     sheet: &mut [u8],
     text: &mut [u8],
 ) -> Outcome
-    requires { ⌜ Kept (now d1) (now d2) (now ends) × (1 ≤ kind) × (kind ≤ 5) ⌝ }
+    requires { ⌜ InLimits (now d1) (now d2) (now ends) × (1 ≤ kind) × (kind ≤ 5) ⌝ }
     ensures { λ r. ⌜ answered (now (sheet .entry)) (now (text .entry)) kind (readingBy kind (now (d1 .entry)) (now (d2 .entry)) (now (ends .entry))) ≡ told r (now (sheet .exit)) (now (text .exit)) ⌝ }
 {
     if kind == 3 {
@@ -300,11 +276,11 @@ fn outcome_of(
 ) -> Outcome
     ensures { λ r. ⌜ read (now (sheet .entry)) (now (text .entry)) (input k version (now (d1 .entry)) (now (d2 .entry)) (now (ends .entry))) ≡ told r (now (sheet .exit)) (now (text .exit)) ⌝ }
 {
-    let fault = fault_of(&*d1, &*d2, &*ends, version);
-    let Fault::Nothing = fault else {
-        return fault_refusal(fault);
-    };
-    read_kind(kind_of(k), &*d1, &*d2, &*ends, sheet, text)
+    let inspected = fault_of(&*d1, &*d2, &*ends, version);
+    match inspected {
+        Inspected::Faulty { fault } => fault_refusal(fault),
+        Inspected::Sound => read_kind(kind_of(k), &*d1, &*d2, &*ends, sheet, text),
+    }
 }
 
 // The answer with the version as it came.

@@ -4,13 +4,14 @@ use mathlib.Core.Path.{_≡_, refl, ap, sym, _∙_, subst}
 use mathlib.Core.Logic.{_⊎_, inl, inr}
 use mathlib.Core.List.{List, [], _∷_, _++_, map, append-nil, append-assoc}
 use mathlib.Core.Option.{some}
-use Prim.Native.Nat.{ℕ, zero, suc, _+_, _-_, _≤_, _<_}
+use Prim.Native.Nat.{ℕ, zero, suc, _+_, _-_, _*_, _/_, _%_, _^_, _≤_, _<_}
 use native.Mathlib.Nat.{zero-add, le-refl}
 use native.Mathlib.Numerals.{add-one}
 use native.Mathlib.Omega.{arith}
 use lib.ListN.{length, take, drop, set, getD, getElem?, length-append, length-set, length-drop}
-use lib.Seq.{take-suc-set, getD-take, getD-set-same, getD-set-other, take-all}
+use lib.Seq.{getD-at, getD-set-same, getD-set-other, take-all}
 use Rattle.foundation.specs.Results.{Res, ok, refused, _>>=_, Part, _from_}
+use Rattle.fields.specs.Fields.{StringTableTypes·record, StringTableTypes·local-name, Record·range}
 use Rattle.wire.specs.Wire.{Message, cut}
 use Rattle.wire.specs.Messages.{values, index, bodiesOf, cutAll, messages, varints}
 use Rattle.wire.specs.Told.{refusal, restOf, bodyOf}
@@ -24,9 +25,9 @@ use Rattle.wire.specs.declared.Piece.the-variants as piece
 use Rattle.wire.proofs.WalkLaws.{cut-end, ok-same}
 use Rattle.messages.proofs.BodyLaws.{checked-part}
 use Rattle.characters.specs.Characters.{partFrom}
-use Rattle.names.specs.Records.{Record, recordOf, served, Record·range}
-use Rattle.names.specs.Names.{StringTableTypes·record, StringTableTypes·local-name, recordsOf}
-use Rattle.names.specs.Index.{sumsFrom, rangesOf, Sums, RecordAt, IndexOf, NotedTold, IndexTold}
+use Rattle.names.specs.Records.{Record, recordOf, served}
+use Rattle.names.specs.Names.{recordsOf}
+use Rattle.names.specs.Index.{sumsFrom, rangesOf, packed, startOf, endOf, firstOf, Sums, RecordAt, IndexOf, NotedTold, IndexTold}
 use Rattle.names.specs.declared.records.RecordIndex.{RecordIndex}
 use Rattle.names.specs.declared.records.RecordIndex.the-variants.{Records, NoRoom, Refused}
 
@@ -56,58 +57,123 @@ length-map : {A B : Type 0} (f : A → B) (l : List A) → length (map f l) ≡ 
 length-map f [] = refl
 length-map f (x ∷ l) = ap suc (length-map f l)
 
--- The index of no record, and of one more.
-pub index-none : (bytes starts ends firsts : List ℕ) → 0 < length firsts → IndexOf bytes starts ends (set firsts 0 0) 0 []
+-- Two places in one number are what they were.
+pub packed-start : (start end : ℕ) → start < 2 ^ 32 → startOf (packed start end) ≡ start
+packed-start start end h = omega arith
+
+pub packed-end : (start end : ℕ) → start < 2 ^ 32 → endOf (packed start end) ≡ end
+packed-end start end h = omega arith
+
+getD-front : (xs ys : List ℕ) (k : ℕ) → k < length xs → getD (xs ++ ys) k 0 ≡ getD xs k 0
+getD-front [] ys k h = absurd (omega arith)
+getD-front (x ∷ xs) ys zero h = refl
+getD-front (x ∷ xs) ys (suc k) h = getD-front xs ys k (omega arith)
+
+pub length-sums : (n : ℕ) (rs : List ℕ) → length (sumsFrom n rs) ≡ suc (length rs)
 unfolding sumsFrom
-index-none bytes starts ends [] h = absurd (omega arith)
-index-none bytes starts ends (x ∷ firsts) h = record {
-  starts-long = omega arith;
-  ends-long = omega arith;
-  sums = record { many = refl; are = refl };
+length-sums n [] = refl
+length-sums n (r ∷ rs) = ap suc (length-sums (n + r) rs)
+
+-- The index of no record, and of one more.
+pub index-none : (bytes notes : List ℕ) → IndexOf bytes notes 0 []
+unfolding sumsFrom firstOf
+index-none bytes notes = record {
+  sums = record { many = refl; long = omega arith; are = go };
   each = λ k r e. let z : _≡_ {A = ℕ} 0 1 = cc in absurd (omega arith);
 }
+  where
+    go : (k : ℕ) → k ≤ 0 → firstOf notes k ≡ getD (0 ∷ []) k 0
+    go zero h = refl
+    go (suc k) h = absurd (omega arith)
 
-module _ (bytes starts ends firsts : List ℕ) (count : ℕ) (records : List Record) (i : IndexOf bytes starts ends firsts count records) where
-  module _ (h : count < length starts) (g : count < length ends) (f : count + 1 < length firsts) where
-    sums-more : (r : Record) → Sums (set firsts (count + 1) (getD firsts count 0 + r .range)) (count + 1) (records ++ (r ∷ []))
-    sums-more r =
+module _ (notes : List ℕ) (count place next : ℕ) where
+  abbrev pub noted-more : List ℕ
+  noted-more = set (set notes (3 * count) place) (3 * count + 2) next
+
+  module _ (h : 3 * count + 2 < length notes) where
+    first-same : (k : ℕ) → k ≤ count → firstOf noted-more k ≡ firstOf notes k
+    unfolding firstOf
+    first-same zero l = refl
+    first-same (suc k) l =
+        getD-set-other (set notes (3 * count) place) (3 * count + 2) (3 * k + 2) next 0 (λ z. omega arith)
+        ∙ getD-set-other notes (3 * count) (3 * k + 2) place 0 (λ z. omega arith)
+
+    pub first-new : firstOf noted-more (count + 1) ≡ next
+    unfolding firstOf
+    first-new = ap (firstOf noted-more) (add-one count) ∙ (getD-set-same (set notes (3 * count) place) (3 * count + 2) next 0 (rw length-set h))
+
+    place-same : (k : ℕ) → k < count → getD noted-more (3 * k) 0 ≡ getD notes (3 * k) 0
+    place-same k l =
+        getD-set-other (set notes (3 * count) place) (3 * count + 2) (3 * k) next 0 (λ z. omega arith)
+        ∙ getD-set-other notes (3 * count) (3 * k) place 0 (λ z. omega arith)
+
+    place-new : getD noted-more (3 * count) 0 ≡ place
+    place-new =
+        getD-set-other (set notes (3 * count) place) (3 * count + 2) (3 * count) next 0 (λ z. omega arith)
+        ∙ getD-set-same notes (3 * count) place 0 (omega arith)
+
+module _ (bytes notes : List ℕ) (count : ℕ) (records : List Record) (i : IndexOf bytes notes count records) where
+  module _ (h : 3 * count + 2 < length notes) where
+    sums-more : (place : ℕ) (r : Record) → Sums (noted-more notes count place (firstOf notes count + r .range)) (count + 1) (records ++ (r ∷ []))
+    sums-more place r =
         let rs = rangesOf records in
         let m = i .sums .many in
-        let l : getD (sumsFrom 0 rs) (length rs) 0 ≡ getD firsts count 0 =
-        ap (λ (k : ℕ). getD (sumsFrom 0 rs) k 0) (length-map (λ r. r .range) records ∙ m)
-        ∙ ap (λ (t : List ℕ). getD t count 0) (sym (i .sums .are))
-        ∙ getD-take (count + 1) firsts count 0 (omega arith) in
+        let n : length rs ≡ count = length-map (λ r. r .range) records ∙ m in
+        let next = firstOf notes count + r .range in
         record {
           many = length-append records (r ∷ []) ∙ ap (λ (k : ℕ). k + 1) m;
-          are =
-              ap (λ (k : ℕ). take k (set firsts (count + 1) (getD firsts count 0 + r .range))) (add-one (count + 1))
-              ∙ take-suc-set firsts (count + 1) (getD firsts count 0 + r .range) f
-              ∙ ap (λ (t : List ℕ). t ++ ((getD firsts count 0 + r .range) ∷ [])) (i .sums .are)
-              ∙ ap (λ (k : ℕ). sumsFrom 0 rs ++ ((k + r .range) ∷ [])) (sym l)
-              ∙ sym (sums-snoc 0 rs (r .range))
-              ∙ ap (sumsFrom 0) (sym (map-snoc (λ r. r .range) records r));
+          long = rw (length-set, length-set) (omega arith);
+          are = λ k l. go k (le-or k count) l n;
         }
+      where
+        le-or : (k c : ℕ) → (k ≤ c) ⊎ (c < k)
+        le-or zero c = inl (omega arith)
+        le-or (suc k) zero = inr (omega arith)
+        le-or (suc k) (suc c) = step (le-or k c)
+          where
+            step : (k ≤ c) ⊎ (c < k) → (suc k ≤ suc c) ⊎ (suc c < suc k)
+            step (inl a) = inl (omega arith)
+            step (inr a) = inr (omega arith)
 
-    each-more : {start end : ℕ} (r : Record) → RecordAt bytes start end r → (k : ℕ) (x : Record) → getElem? (records ++ (r ∷ [])) k ≡ some x
-        → RecordAt bytes (getD (set starts count start) k 0) (getD (set ends count end) k 0) x
-    each-more {start} {end} r a k x e = go (elem-snoc records r k e)
+        sums : sumsFrom 0 (rangesOf (records ++ (r ∷ []))) ≡ sumsFrom 0 (rangesOf records) ++ ((getD (sumsFrom 0 (rangesOf records)) (length (rangesOf records)) 0 + r .range) ∷ [])
+        sums = ap (sumsFrom 0) (map-snoc (λ r. r .range) records r) ∙ sums-snoc 0 (rangesOf records) (r .range)
+
+        go : (k : ℕ) → (k ≤ count) ⊎ (count < k) → k ≤ count + 1 → length (rangesOf records) ≡ count
+            → firstOf (noted-more notes count place (firstOf notes count + r .range)) k ≡ getD (sumsFrom 0 (rangesOf (records ++ (r ∷ [])))) k 0
+        go k (inl a) l n =
+            first-same notes count place (firstOf notes count + r .range) h k a
+            ∙ i .sums .are k a
+            ∙ sym (getD-front (sumsFrom 0 (rangesOf records)) ((getD (sumsFrom 0 (rangesOf records)) (length (rangesOf records)) 0 + r .range) ∷ []) k (omega (arith, length-sums 0 (rangesOf records))))
+            ∙ ap (λ (t : List ℕ). getD t k 0) (sym sums)
+        go k (inr a) l n =
+            let e : k ≡ count + 1 = omega arith in
+            let w : length (sumsFrom 0 (rangesOf records)) ≡ count + 1 = omega (arith, length-sums 0 (rangesOf records)) in
+            let q : getD (sumsFrom 0 (rangesOf records)) (length (rangesOf records)) 0 ≡ firstOf notes count =
+            ap (λ (j : ℕ). getD (sumsFrom 0 (rangesOf records)) j 0) n ∙ sym (i .sums .are count (le-refl count)) in
+            ap (firstOf (noted-more notes count place (firstOf notes count + r .range))) e
+            ∙ first-new notes count place (firstOf notes count + r .range) h
+            ∙ ap (λ (j : ℕ). j + r .range) (sym q)
+            ∙ sym (getD-at (sumsFrom 0 (rangesOf records)) (getD (sumsFrom 0 (rangesOf records)) (length (rangesOf records)) 0 + r .range) [] 0 k (w ∙ sym e))
+            ∙ ap (λ (t : List ℕ). getD t k 0) (sym sums)
+
+    each-more : {start end : ℕ} (next : ℕ) (r : Record) → start < 2 ^ 32 → RecordAt bytes start end r → (k : ℕ) (x : Record) → getElem? (records ++ (r ∷ [])) k ≡ some x
+        → RecordAt bytes (startOf (getD (noted-more notes count (packed start end) next) (3 * k) 0)) (endOf (getD (noted-more notes count (packed start end) next) (3 * k) 0)) x
+    each-more {start} {end} next r u a k x e = go (elem-snoc records r k e)
       where
         go : ((k < length records) × (getElem? records k ≡ some x)) ⊎ ((k ≡ length records) × (r ≡ x))
-            → RecordAt bytes (getD (set starts count start) k 0) (getD (set ends count end) k 0) x
+            → RecordAt bytes (startOf (getD (noted-more notes count (packed start end) next) (3 * k) 0)) (endOf (getD (noted-more notes count (packed start end) next) (3 * k) 0)) x
         go (inl (l, q)) =
-            let n : k ≡ count → ⊥ = λ z. omega (arith, i .sums .many) in
-            rw (getD-set-other starts count k start 0 n, getD-set-other ends count k end 0 n) (i .each k x q)
+            let n : k < count = omega (arith, i .sums .many) in
+            rw (place-same notes count (packed start end) next h k n) (i .each k x q)
         go (inr (l, q)) =
             let z : k ≡ count = l ∙ i .sums .many in
-            rw (z, getD-set-same starts count start 0 h, getD-set-same ends count end 0 g, ← q) a
+            rw (z, place-new notes count (packed start end) next h, packed-start start end u, packed-end start end u, ← q) a
 
-    pub index-more : {start end : ℕ} (r : Record) → RecordAt bytes start end r
-        → IndexOf bytes (set starts count start) (set ends count end) (set firsts (count + 1) (getD firsts count 0 + r .range)) (count + 1) (records ++ (r ∷ []))
-    index-more {start} {end} r a = record {
-      starts-long = rw length-set (omega arith);
-      ends-long = rw length-set (omega arith);
-      sums = sums-more r;
-      each = each-more r a;
+    pub index-more : {start end : ℕ} (r : Record) → start < 2 ^ 32 → RecordAt bytes start end r
+        → IndexOf bytes (noted-more notes count (packed start end) (firstOf notes count + r .range)) (count + 1) (records ++ (r ∷ []))
+    index-more {start} {end} r u a = record {
+      sums = sums-more (packed start end) r;
+      each = each-more (firstOf notes count + r .range) r u a;
     }
 
 -- Messages cut one by one: those before, and those that are left.
@@ -131,40 +197,40 @@ unfolding cutAll
 after-refused before p ps error e = rw e
 
 -- of the name table m what is noted before the place `at`
-pub record Noted (bytes : List ℕ) (m : Message) (starts ends firsts : List ℕ) (total count at : ℕ) : Type 0 where
+pub record Noted (bytes : List ℕ) (m : Message) (notes : List ℕ) (total count at : ℕ) : Type 0 where
   pub rest : Message
   pub cuts : cut (restOf 0 bytes at) ≡ ok rest
   pub before : List Message
   pub whole : messages StringTableTypes·record m ≡ after before (cutAll (bodies StringTableTypes·record rest))
   pub many : length (bodies StringTableTypes·record m) ≡ count + length (bodies StringTableTypes·record rest)
-  pub noted : IndexOf bytes starts ends firsts count (map recordOf before)
-  pub last : getD firsts count 0 ≡ total
+  pub noted : IndexOf bytes notes count (map recordOf before)
+  pub last : firstOf notes count ≡ total
 
-abbrev pub Noting : List ℕ → ℕ → List ℕ → List ℕ → List ℕ → ℕ → ℕ → ℕ → Type 0
-Noting bytes start starts ends firsts total count at = (m : Message) → cut (restOf 0 bytes start) ≡ ok m → Noted bytes m starts ends firsts total count at
+abbrev pub Noting : List ℕ → ℕ → List ℕ → ℕ → ℕ → ℕ → Type 0
+Noting bytes start notes total count at = (m : Message) → cut (restOf 0 bytes start) ≡ ok m → Noted bytes m notes total count at
 
-pub noting-start : (bytes : List ℕ) (at : ℕ) (starts ends firsts : List ℕ) → 0 < length firsts → Noting bytes at starts ends (set firsts 0 0) 0 0 at
-unfolding messages
-noting-start bytes at starts ends firsts h m w = record {
+pub noting-start : (bytes : List ℕ) (at : ℕ) (notes : List ℕ) → Noting bytes at notes 0 0 at
+unfolding messages firstOf
+noting-start bytes at notes m w = record {
   rest = m;
   cuts = w;
   before = [];
   whole = after-none (cutAll (bodies StringTableTypes·record m));
   many = sym (zero-add (length (bodies StringTableTypes·record m)));
-  noted = index-none bytes starts ends firsts h;
-  last = getD-set-same firsts 0 0 0 h;
+  noted = index-none bytes notes;
+  last = refl;
 }
 
-module _ (bytes : List ℕ) (start : ℕ) (starts ends firsts : List ℕ) (total count at : ℕ) (i : Noting bytes start starts ends firsts total count at) where
+module _ (bytes : List ℕ) (start : ℕ) (notes : List ℕ) (total count at : ℕ) (i : Noting bytes start notes total count at) where
   -- none is left
   noting-done : (m : Message) (w : cut (restOf 0 bytes start) ≡ ok m) → bodies StringTableTypes·record (i m w .rest) ≡ []
-      → NotedTold bytes start m starts ends firsts (Records count)
+      → NotedTold bytes start m notes (Records count)
   unfolding cutAll
   noting-done m w e =
       let n = i m w in
       (n .before, n .whole ∙ rw e (ap ok (append-nil (n .before))), n .noted)
 
-  pub noting-end : length bytes ≤ at → (m : Message) → cut (restOf 0 bytes start) ≡ ok m → NotedTold bytes start m starts ends firsts (Records count)
+  pub noting-end : length bytes ≤ at → (m : Message) → cut (restOf 0 bytes start) ≡ ok m → NotedTold bytes start m notes (Records count)
   unfolding values bodiesOf
   noting-end h m w =
       let n = i m w in
@@ -172,7 +238,7 @@ module _ (bytes : List ℕ) (start : ℕ) (starts ends firsts : List ℕ) (total
       noting-done m w (ap (λ (r : Message). bodies StringTableTypes·record r) e)
 
   module _ {r : Piece} (t : NextTold 0 bytes StringTableTypes·record at r) where
-    pub noting-none : r ≡ piece.Nothing → (m : Message) → cut (restOf 0 bytes start) ≡ ok m → NotedTold bytes start m starts ends firsts (Records count)
+    pub noting-none : r ≡ piece.Nothing → (m : Message) → cut (restOf 0 bytes start) ≡ ok m → NotedTold bytes start m notes (Records count)
     noting-none g m w = let n = i m w in noting-done m w (subst (NextTold 0 bytes StringTableTypes·record at) g t .is (n .rest) (n .cuts))
 
     module _ {a e : ℕ} (g : r ≡ piece.Body a e) where
@@ -183,7 +249,7 @@ module _ (bytes : List ℕ) (start : ℕ) (starts ends firsts : List ℕ) (total
       body-in = (next .inside .0, next .inside .1, next .later)
 
       pub noting-refused : {c : Checked} → CheckedTold (cut (restOf 0 (take e bytes) a)) c → {error err : WireError} → c ≡ checked.Refused error → err ≡ error
-          → (m : Message) → cut (restOf 0 bytes start) ≡ ok m → NotedTold bytes start m starts ends firsts (Refused err)
+          → (m : Message) → cut (restOf 0 bytes start) ≡ ok m → NotedTold bytes start m notes (Refused err)
       noting-refused {c} k {error} {err} q p m w =
           let n = i m w in
           let b = next .is (n .rest) (n .cuts) in
@@ -194,13 +260,13 @@ module _ (bytes : List ℕ) (start : ℕ) (starts ends firsts : List ℕ) (total
           ∙ after-refused (n .before) (bodyOf 0 bytes a e) (bodies StringTableTypes·record (b .0)) error f
           ∙ ap (refusal {A = List Message}) (sym p)
 
-      pub noting-full : {room : ℕ} → ((c : ℕ) → c ≤ length starts → c ≤ length ends → c < length firsts → c ≤ room) → room ≤ count
-          → (m : Message) → cut (restOf 0 bytes start) ≡ ok m → NotedTold bytes start m starts ends firsts NoRoom
+      pub noting-full : {room : ℕ} → room ≡ length notes / 3 → room ≤ count
+          → (m : Message) → cut (restOf 0 bytes start) ≡ ok m → NotedTold bytes start m notes NoRoom
       noting-full h l m w room =
           let n = i m w in
           let b = next .is (n .rest) (n .cuts) in
           let q : length (bodies StringTableTypes·record (n .rest)) ≡ suc (length (bodies StringTableTypes·record (b .0))) = ap length (b .2) in
-          omega (arith, h (length (bodies StringTableTypes·record m)) (room .starts-long) (room .ends-long) (room .firsts-long), n .many)
+          omega (arith, room .long, n .many)
 
       module _ {c : Checked} (k : CheckedTold (cut (restOf 0 (take e bytes) a)) c) (q : c ≡ checked.Whole) where
         inner : (x : Message) × (cut (bodyOf 0 bytes a e) ≡ ok x)
@@ -209,18 +275,17 @@ module _ (bytes : List ℕ) (start : ℕ) (starts ends firsts : List ℕ) (total
         here : cut (_from_ a (partFrom a e bytes)) ≡ ok (inner .0)
         here = ap (λ (n : ℕ). cut (_from_ n (partFrom a e bytes))) (sym (zero-add a)) ∙ inner .1
 
-        pub noting-next : count < length starts → count < length ends → count + 1 < length firsts → {range : ℕ} (x : Indexed)
+        pub noting-next : 3 * count + 2 < length notes → a < 2 ^ 32 → {range : ℕ} (x : Indexed)
             → ((m : Message) → cut (_from_ a (partFrom a e bytes)) ≡ ok m → index Record·range m ≡ indexTold x) → range ≡ served (indexTold x)
-            → {starts′ ends′ firsts′ : List ℕ} → starts′ ≡ set starts count a → ends′ ≡ set ends count e → firsts′ ≡ set firsts (count + 1) (total + range)
-            → Noting bytes start starts′ ends′ firsts′ (total + range) (count + 1) e
+            → {notes′ : List ℕ} → notes′ ≡ noted-more notes count (packed a e) (total + range) → Noting bytes start notes′ (total + range) (count + 1) e
         unfolding recordOf
-        noting-next hs he hf {range} x d u {starts′} {ends′} {firsts′} ps pe pf m w =
+        noting-next hs short {range} x d u {notes′} pf m w =
             let n = i m w in
             let b = next .is (n .rest) (n .cuts) in
             let y = inner .0 in
             let v : recordOf y .range ≡ range = ap served (d y here) ∙ sym u in
-            let sum : getD firsts count 0 + recordOf y .range ≡ total + range = rw (n .last, v) in
-            let z : firsts′ ≡ set firsts (count + 1) (getD firsts count 0 + recordOf y .range) = pf ∙ ap (set firsts (count + 1)) (sym sum) in
+            let sum : firstOf notes count + recordOf y .range ≡ total + range = rw (n .last, v) in
+            let z : notes′ ≡ noted-more notes count (packed a e) (firstOf notes count + recordOf y .range) = pf ∙ ap (noted-more notes count (packed a e)) (sym sum) in
             record {
               rest = b .0;
               cuts = b .1;
@@ -231,46 +296,46 @@ module _ (bytes : List ℕ) (start : ℕ) (starts ends firsts : List ℕ) (total
                   ∙ after-one (n .before) y (bodyOf 0 bytes a e) (bodies StringTableTypes·record (b .0)) (inner .1);
               many = n .many ∙ ap (λ (ps : List Part). count + length ps) (b .2) ∙ omega arith;
               noted =
-                  let p = index-more bytes starts ends firsts count (map recordOf (n .before)) (n .noted) hs he hf (recordOf y) (record {
+                  let p = index-more bytes notes count (map recordOf (n .before)) (n .noted) hs (recordOf y) short (record {
                     ordered = body-in .0;
                     inside = body-in .1;
                     message = y;
                     cuts = here;
                     is = refl;
                   }) in
-                  rw (ps, pe, z, map-snoc recordOf (n .before) y) p;
-              last = rw (z, getD-set-same firsts (count + 1) (getD firsts count 0 + recordOf y .range) 0 hf) sum;
+                  rw (z, map-snoc recordOf (n .before) y) p;
+              last = rw (z, first-new notes count (packed a e) (firstOf notes count + recordOf y .range) hs) sum;
             }
 
 -- The local names are looked into after all records are cut.
-module _ (bytes : List ℕ) (start : ℕ) (m : Message) (w : cut (restOf 0 bytes start) ≡ ok m) (starts ends firsts : List ℕ) (r : RecordIndex) (t : NotedTold bytes start m starts ends firsts r) where
+module _ (bytes : List ℕ) (start : ℕ) (m : Message) (w : cut (restOf 0 bytes start) ≡ ok m) (notes : List ℕ) (r : RecordIndex) (t : NotedTold bytes start m notes r) where
   from-start : cut (_from_ start (partFrom start (length bytes) bytes)) ≡ ok m
   from-start =
       let e : partFrom start (length bytes) bytes ≡ drop start bytes = take-all (length bytes - start) (drop start bytes) (rw length-drop (le-refl (length bytes - start))) in
       ap (λ (bs : List ℕ). cut (_from_ start bs)) e ∙ ap (λ (n : ℕ). cut (_from_ n (drop start bytes))) (sym (zero-add start)) ∙ w
 
   module _ {count : ℕ} (g : r ≡ Records count) where
-    noted : NotedTold bytes start m starts ends firsts (Records count)
-    noted = subst (NotedTold bytes start m starts ends firsts) g t
+    noted : NotedTold bytes start m notes (Records count)
+    noted = subst (NotedTold bytes start m notes) g t
 
     module _ (c : Checked) (k : (m : Message) → cut (_from_ start (partFrom start (length bytes) bytes)) ≡ ok m → CheckedTold (varints StringTableTypes·local-name m) c) where
-      pub index-whole : c ≡ checked.Whole → IndexTold bytes start m starts ends firsts (Records count)
+      pub index-whole : c ≡ checked.Whole → IndexTold bytes start m notes (Records count)
       unfolding recordsOf
       index-whole q =
           let l = subst (CheckedTold (varints StringTableTypes·local-name m)) q (k m from-start) in
           (map recordOf (noted .0), rw (noted .1, l .1), noted .2)
 
-      pub index-locals : {error err : WireError} → c ≡ checked.Refused error → err ≡ error → IndexTold bytes start m starts ends firsts (Refused err)
+      pub index-locals : {error err : WireError} → c ≡ checked.Refused error → err ≡ error → IndexTold bytes start m notes (Refused err)
       unfolding recordsOf
       index-locals {error} {err} q p =
           let l : varints StringTableTypes·local-name m ≡ refusal error = subst (CheckedTold (varints StringTableTypes·local-name m)) q (k m from-start) in
           rw (noted .1, l, p)
 
-  pub index-no-room : r ≡ NoRoom → IndexTold bytes start m starts ends firsts NoRoom
-  index-no-room g = subst (NotedTold bytes start m starts ends firsts) g t
+  pub index-no-room : r ≡ NoRoom → IndexTold bytes start m notes NoRoom
+  index-no-room g = subst (NotedTold bytes start m notes) g t
 
-  pub index-refused : {error : WireError} → r ≡ Refused error → IndexTold bytes start m starts ends firsts (Refused error)
+  pub index-refused : {error : WireError} → r ≡ Refused error → IndexTold bytes start m notes (Refused error)
   unfolding recordsOf
   index-refused {error} g =
-      let l : messages StringTableTypes·record m ≡ refusal error = subst (NotedTold bytes start m starts ends firsts) g t in
+      let l : messages StringTableTypes·record m ≡ refusal error = subst (NotedTold bytes start m notes) g t in
       rw l

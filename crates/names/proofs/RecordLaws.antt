@@ -11,6 +11,7 @@ use lib.Dec.{eqb}
 use lib.ListN.{length}
 use Rattle.foundation.specs.Choices.{if_then_else_, orElse}
 use Rattle.foundation.specs.Results.{Res, ok, refused, _from_}
+use Rattle.fields.specs.Fields.{Record·range, Record·predefined-index, Record·operation, Record·substring-index, Record·replace-char, Record·string}
 use Rattle.wire.specs.Wire.{Value, field, readField, Message, cut}
 use Rattle.wire.specs.Messages.{values, firstOf, value, joined, varints}
 use Rattle.wire.specs.Told.{refusal, restOf, valueOf, Inside, FieldTold}
@@ -28,7 +29,7 @@ use Rattle.messages.specs.declared.repeated.Two.{Two}
 use Rattle.messages.specs.declared.repeated.Two.the-variants.{Neither, One, Both}
 use Rattle.wire.proofs.WalkLaws.{field-is, Leads, leads-start, leads-next, leads-never, leads-end, values-found, values-passed}
 use Rattle.messages.proofs.FindLaws.{number-is, index-is, piece-is}
-use Rattle.names.specs.Records.{served, twoOf, recordOf, Record·range, Record·predefined-index, Record·operation, Record·substring-index, Record·replace-char, Record·string}
+use Rattle.names.specs.Records.{served, twoOf, recordOf}
 use Rattle.names.specs.RecordTold.{firstSeen, withField, FirstsTold, operationIn, bothOf, RecordTold}
 use Rattle.names.specs.declared.records.Firsts.{Firsts}
 use Rattle.names.specs.declared.records.Record.{Record}

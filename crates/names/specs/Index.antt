@@ -3,16 +3,17 @@
 use mathlib.Core.Path.{_≡_}
 use mathlib.Core.List.{List, [], _∷_, map}
 use mathlib.Core.Option.{some}
-use Prim.Native.Nat.{ℕ, _+_, _^_, _≤_, _<_}
-use lib.ListN.{length, take, getD, getElem?}
+use Prim.Native.Nat.{ℕ, zero, suc, _+_, _*_, _/_, _%_, _^_, _≤_, _<_}
+use lib.ListN.{length, getD, getElem?}
 use Rattle.foundation.specs.Results.{ok, _from_}
+use Rattle.fields.specs.Fields.{StringTableTypes·record}
 use Rattle.wire.specs.Wire.{Message, cut}
 use Rattle.wire.specs.Messages.{messages}
 use Rattle.wire.specs.Told.{refusal}
 use Rattle.messages.specs.Asked.{bodies}
 use Rattle.characters.specs.Characters.{partFrom}
 use Rattle.names.specs.Records.{Record, recordOf}
-use Rattle.names.specs.Names.{StringTableTypes·record, recordsOf}
+use Rattle.names.specs.Names.{recordsOf}
 use Rattle.names.specs.declared.records.RecordIndex.{RecordIndex}
 use Rattle.names.specs.declared.records.RecordIndex.the-variants.{Records, NoRoom, Refused}
 
@@ -24,10 +25,27 @@ sumsFrom n (r ∷ rs) = n ∷ sumsFrom (n + r) rs
 abbrev pub rangesOf : List Record → List ℕ
 rangesOf = map λ r. r .range
 
+-- two places in one number, and each of them
+abbrev pub packed : ℕ → ℕ → ℕ
+packed start end = start + 4294967296 * end
+
+abbrev pub startOf : ℕ → ℕ
+startOf n = n % 4294967296
+
+abbrev pub endOf : ℕ → ℕ
+endOf n = n / 4294967296
+
+-- The index of a name table's records has two numbers for each: where it stands among the decoded bytes, and the first index past those that
+-- it serves, which is where the next one's begin.
+unfoldable pub firstOf : List ℕ → ℕ → ℕ
+firstOf notes zero = 0
+firstOf notes (suc k) = getD notes (3 * k + 2) 0
+
 -- the first index that each of the records serves, and then the first that none does
-pub record Sums (firsts : List ℕ) (count : ℕ) (records : List Record) : Type 0 where
+pub record Sums (notes : List ℕ) (count : ℕ) (records : List Record) : Type 0 where
   pub many : length records ≡ count
-  pub are : take (count + 1) firsts ≡ sumsFrom 0 (rangesOf records)
+  pub long : 3 * count ≤ length notes
+  pub are : (k : ℕ) → k ≤ count → firstOf notes k ≡ getD (sumsFrom 0 (rangesOf records)) k 0
 
 -- a record's message from start to end of the decoded bytes
 pub record RecordAt (bytes : List ℕ) (start end : ℕ) (r : Record) : Type 0 where
@@ -38,30 +56,26 @@ pub record RecordAt (bytes : List ℕ) (start end : ℕ) (r : Record) : Type 0 w
   pub is : r ≡ recordOf message
 
 -- The index of a name table's records: where each stands among the decoded bytes, and which indices it serves.
-pub record IndexOf (bytes starts ends firsts : List ℕ) (count : ℕ) (records : List Record) : Type 0 where
-  pub starts-long : count ≤ length starts
-  pub ends-long : count ≤ length ends
-  pub sums : Sums firsts count records
-  pub each : (k : ℕ) (r : Record) → getElem? records k ≡ some r → RecordAt bytes (getD starts k 0) (getD ends k 0) r
+pub record IndexOf (bytes notes : List ℕ) (count : ℕ) (records : List Record) : Type 0 where
+  pub sums : Sums notes count records
+  pub each : (k : ℕ) (r : Record) → getElem? records k ≡ some r → RecordAt bytes (startOf (getD notes (3 * k) 0)) (endOf (getD notes (3 * k) 0)) r
 
 -- Room for the index of so many records; the places among the decoded bytes fit 32 bits.
-pub record Room (bytes : List ℕ) (at : ℕ) (starts ends firsts : List ℕ) (count : ℕ) : Type 0 where
+pub record IndexRoom (bytes : List ℕ) (at : ℕ) (notes : List ℕ) (count : ℕ) : Type 0 where
   pub inside : at ≤ length bytes
   pub short : length bytes < 2 ^ 32
-  pub starts-long : count ≤ length starts
-  pub ends-long : count ≤ length ends
-  pub firsts-long : count < length firsts
+  pub long : 3 * count ≤ length notes
 
 -- of the name table m, which begins at `at`: its messages, and what the index is made of them
-abbrev pub NotedTold : List ℕ → ℕ → Message → List ℕ → List ℕ → List ℕ → RecordIndex → Type 0
-NotedTold bytes at m starts ends firsts (Records count) =
-    (ms : List Message) × (messages StringTableTypes·record m ≡ ok ms) × IndexOf bytes starts ends firsts count (map recordOf ms)
-NotedTold bytes at m starts ends firsts NoRoom = Room bytes at starts ends firsts (length (bodies StringTableTypes·record m)) → ⊥
-NotedTold bytes at m starts ends firsts (Refused error) = messages StringTableTypes·record m ≡ refusal error
+abbrev pub NotedTold : List ℕ → ℕ → Message → List ℕ → RecordIndex → Type 0
+NotedTold bytes at m notes (Records count) =
+    (ms : List Message) × (messages StringTableTypes·record m ≡ ok ms) × IndexOf bytes notes count (map recordOf ms)
+NotedTold bytes at m notes NoRoom = IndexRoom bytes at notes (length (bodies StringTableTypes·record m)) → ⊥
+NotedTold bytes at m notes (Refused error) = messages StringTableTypes·record m ≡ refusal error
 
 -- and its records
-abbrev pub IndexTold : List ℕ → ℕ → Message → List ℕ → List ℕ → List ℕ → RecordIndex → Type 0
-IndexTold bytes at m starts ends firsts (Records count) =
-    (records : List Record) × (recordsOf m ≡ ok records) × IndexOf bytes starts ends firsts count records
-IndexTold bytes at m starts ends firsts NoRoom = Room bytes at starts ends firsts (length (bodies StringTableTypes·record m)) → ⊥
-IndexTold bytes at m starts ends firsts (Refused error) = recordsOf m ≡ refusal error
+abbrev pub IndexTold : List ℕ → ℕ → Message → List ℕ → RecordIndex → Type 0
+IndexTold bytes at m notes (Records count) =
+    (records : List Record) × (recordsOf m ≡ ok records) × IndexOf bytes notes count records
+IndexTold bytes at m notes NoRoom = IndexRoom bytes at notes (length (bodies StringTableTypes·record m)) → ⊥
+IndexTold bytes at m notes (Refused error) = recordsOf m ≡ refusal error

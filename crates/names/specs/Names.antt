@@ -9,17 +9,11 @@ use lib.ListN.{take, drop, getElem?}
 use Rattle.foundation.specs.Choices.{if_then_else_, ifSome, mapOption}
 use Rattle.foundation.specs.Results.{Res, ok, _>>=_}
 use Rattle.foundation.specs.Texts.{Text}
+use Rattle.fields.specs.Fields.{StringTableTypes·record, StringTableTypes·local-name}
 use Rattle.wire.specs.Wire.{Message}
 use Rattle.wire.specs.Messages.{messages, varints}
 use Rattle.characters.specs.Characters.{fromUtf16}
 use Rattle.names.specs.Records.{Record, recordOf, decides, textOf, dotted}
-
--- field numbers of StringTableTypes
-abbrev pub StringTableTypes·record : ℕ
-StringTableTypes·record = 1
-
-abbrev pub StringTableTypes·local-name : ℕ
-StringTableTypes·local-name = 5
 
 -- The records of a name table. An error in field 5 refuses, after all records are cut; its numbers are of no use here.
 unfoldable pub recordsOf : Message → Res (List Record)

@@ -7,6 +7,7 @@ use Prim.Native.Nat.{ℕ}
 use lib.Dec.{eqb}
 use Rattle.foundation.specs.Choices.{if_then_else_, ifSome}
 use Rattle.foundation.specs.Results.{ok, _from_}
+use Rattle.fields.specs.Fields.{Record·range, Record·predefined-index, Record·operation, Record·substring-index, Record·replace-char, Record·string}
 use Rattle.wire.specs.Wire.{Message, cut}
 use Rattle.messages.specs.Asked.{FoundTold, numberTold, pieceTold, PieceInside, indexTold, numberIn}
 use Rattle.wire.specs.declared.WireValue.{WireValue}
@@ -14,7 +15,7 @@ use Rattle.messages.specs.declared.Found.{Found}
 use Rattle.messages.specs.declared.Found.the-variants as found
 use Rattle.messages.specs.declared.repeated.Two.{Two}
 use Rattle.messages.specs.declared.repeated.Two.the-variants.{Neither, One, Both}
-use Rattle.names.specs.Records.{recordOf, Record·range, Record·predefined-index, Record·operation, Record·substring-index, Record·replace-char, Record·string}
+use Rattle.names.specs.Records.{recordOf}
 use Rattle.names.specs.Records as definition
 use Rattle.names.specs.declared.records.Firsts.{Firsts}
 use Rattle.names.specs.declared.records.Record.{Record}

@@ -10,29 +10,11 @@ use lib.ListN.{getElem?}
 use Rattle.foundation.specs.Choices.{if_then_else_, ifSome, mapOption, isSome}
 use Rattle.foundation.specs.Results.{Res, ok, refused, Part}
 use Rattle.foundation.specs.Texts.{Text, ascii}
+use Rattle.fields.specs.Fields.{Record·range, Record·predefined-index, Record·operation, Record·substring-index, Record·replace-char, Record·string}
 use Rattle.wire.specs.Wire.{Message}
 use Rattle.wire.specs.Messages.{index, varintOf, bytesOf, varints}
 use Rattle.characters.specs.Characters.{isScalar, fromUtf8}
 use Rattle.characters.specs.Splits.{substringOf}
-
--- field numbers of StringTableTypes.Record
-abbrev pub Record·range : ℕ
-Record·range = 1
-
-abbrev pub Record·predefined-index : ℕ
-Record·predefined-index = 2
-
-abbrev pub Record·operation : ℕ
-Record·operation = 3
-
-abbrev pub Record·substring-index : ℕ
-Record·substring-index = 4
-
-abbrev pub Record·replace-char : ℕ
-Record·replace-char = 5
-
-abbrev pub Record·string : ℕ
-Record·string = 6
 
 pub record Record : Type 0 where
   pub range : ℕ  -- how many consecutive indices it serves

@@ -16,11 +16,11 @@ use Rattle.names.specs.Name.{predefinedList, nameText}
 use Rattle.names.specs.Records.{INTERNAL-TO-CLASS-ID, DESC-TO-CLASS-ID, substituted}
 use Rattle.names.specs.declared.name.Name.{Name}
 use Rattle.names.specs.declared.name.Change.{Change}
-use Rattle.names.specs.declared.name.Listed.{Listed}
-use Rattle.names.specs.declared.name.Listed.the-variants.{Part, Nothing}
+use Rattle.names.specs.declared.name.PredefinedPart.{PredefinedPart}
+use Rattle.names.specs.declared.name.PredefinedPart.the-variants.{Part, Nothing}
 
 -- the predefined string that is a part of the list
-abbrev pub listedText : Listed → Option Text
+abbrev pub listedText : PredefinedPart → Option Text
 listedText (Part start end) = some (fromUtf8 (partFrom start end predefinedList))
 listedText Nothing = none
 

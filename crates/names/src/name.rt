@@ -102,7 +102,7 @@ const STARTS: [u16; 45] = [
     878,
 ];
 
-pub enum Listed {
+pub enum PredefinedPart {
     Part { start: usize, end: usize },
     Nothing,
 }
@@ -114,16 +114,16 @@ fn wide(n: u16) -> usize
 }
 
 // The part of the list that a predefined string is.
-pub fn predefined(index: u32) -> Listed
+pub fn predefined(index: u32) -> PredefinedPart
     ensures { λ r. ⌜ listedText r ≡ predefinedText index ⌝ }
 {
     if 44 <= index {
-        return Listed::Nothing;
+        return PredefinedPart::Nothing;
     }
     let i = index as usize;
     let next = i + 1;
     let starts = STARTS;
-    Listed::Part {
+    PredefinedPart::Part {
         start: wide(starts[i]),
         end: wide(starts[next]),
     }

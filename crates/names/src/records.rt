@@ -1,7 +1,7 @@
 // The records of the name table, read from their messages, and their index. The definitions: specs/Records.antt, specs/Index.antt; how
 // the answers tell them: specs/RecordTold.antt.
 ghost use mathlib.Core.Path.{_≡_};
-ghost use Prim.Native.Nat.{ℕ, _+_, _≤_, _<_};
+ghost use Prim.Native.Nat.{ℕ, _+_, _*_, _<_};
 ghost use lib.ListN.{length, set};
 ghost use Rattle.foundation.specs.Results.{ok, _from_};
 ghost use Rattle.wire.specs.Wire.{cut, Message};
@@ -9,8 +9,16 @@ ghost use Rattle.wire.specs.Messages.{varints};
 ghost use Rattle.messages.specs.Asked.{FoundTold, indexTold};
 ghost use Rattle.wire.specs.Told.{restOf};
 ghost use Rattle.names.specs.Records.{served, twoOf};
-ghost use Rattle.names.specs.Index.{NotedTold, IndexTold};
+ghost use Rattle.names.specs.Index.{packed, NotedTold, IndexTold};
 ghost use Rattle.names.specs.RecordTold.{firstSeen, withField, FirstsTold, operationIn, bothOf, RecordTold};
+use fields::RECORD_OPERATION;
+use fields::RECORD_PREDEFINED_INDEX;
+use fields::RECORD_RANGE;
+use fields::RECORD_REPLACE_CHAR;
+use fields::RECORD_STRING;
+use fields::RECORD_SUBSTRING_INDEX;
+use fields::STRING_TABLE_TYPES_LOCAL_NAME;
+use fields::STRING_TABLE_TYPES_RECORD;
 use messages::Checked;
 use messages::Found;
 use messages::Indexed;
@@ -27,19 +35,6 @@ use wire::Piece;
 use wire::WireError;
 use wire::WireValue;
 use wire::field_at;
-
-// Field numbers of jvm_metadata.proto's StringTableTypes.Record.
-const RANGE: u32 = 1;
-
-const PREDEFINED_INDEX: u32 = 2;
-
-const OPERATION: u32 = 3;
-
-const SUBSTRING_INDEX: u32 = 4;
-
-const REPLACE_CHAR: u32 = 5;
-
-const STRING: u32 = 6;
 
 // The first occurrence of each field of a record.
 struct Firsts {
@@ -75,12 +70,12 @@ impl Firsts {
         let replaced = self.replaced;
         let string = self.string;
         Firsts {
-            range: first_seen(RANGE, range, number, value),
-            predefined: first_seen(PREDEFINED_INDEX, predefined, number, value),
-            operation: first_seen(OPERATION, operation, number, value),
-            substring: first_seen(SUBSTRING_INDEX, substring, number, value),
-            replaced: first_seen(REPLACE_CHAR, replaced, number, value),
-            string: first_seen(STRING, string, number, value),
+            range: first_seen(RECORD_RANGE, range, number, value),
+            predefined: first_seen(RECORD_PREDEFINED_INDEX, predefined, number, value),
+            operation: first_seen(RECORD_OPERATION, operation, number, value),
+            substring: first_seen(RECORD_SUBSTRING_INDEX, substring, number, value),
+            replaced: first_seen(RECORD_REPLACE_CHAR, replaced, number, value),
+            string: first_seen(RECORD_STRING, string, number, value),
         }
     }
 }
@@ -178,15 +173,10 @@ pub fn record_in(s: &[u8], base: u32) -> Record
         string: string.bytes(),
         predefined: predefined.index(),
         operation: operation_in(operation),
-        substring: two_in(&*s, base, SUBSTRING_INDEX, substring),
-        replaced: two_in(&*s, base, REPLACE_CHAR, replaced),
+        substring: two_in(&*s, base, RECORD_SUBSTRING_INDEX, substring),
+        replaced: two_in(&*s, base, RECORD_REPLACE_CHAR, replaced),
     }
 }
-
-// Field numbers of StringTableTypes.
-const RECORD: u32 = 1;
-
-const LOCAL_NAME: u32 = 5;
 
 pub enum RecordIndex {
     Records { count: usize },
@@ -194,56 +184,40 @@ pub enum RecordIndex {
     Refused { error: WireError },
 }
 
-fn least(a: usize, b: usize) -> usize
-    ensures { λ r. ⌜ (r ≤ a) × (r ≤ b) × ((c : ℕ) → c ≤ a → c ≤ b → c ≤ r) ⌝ }
+// Two places in one number.
+pub fn packed(start: u32, end: u32) -> u64
+    ensures { λ r. ⌜ r ≡ packed start end ⌝ }
 {
-    if a < b {
-        return a;
-    }
-    b
+    start as u64 + 4294967296 * end as u64
 }
 
-// The entries of record `count`, which ends where the index `next` begins.
-fn put_entry(
-    starts: &mut [u32],
-    ends: &mut [u32],
-    firsts: &mut [u64],
-    count: usize,
-    start: u32,
-    end: u32,
-    next: u64,
-)
-    requires { ⌜ (count < length (now starts)) × (count < length (now ends)) × (count + 1 < length (now firsts)) ⌝ }
-    ensures { λ _. ⌜ (now (starts .exit) ≡ set (now (starts .entry)) count start) × (now (ends .exit) ≡ set (now (ends .entry)) count end) × (now (firsts .exit) ≡ set (now (firsts .entry)) (count + 1) next) ⌝ }
+// What is noted of a record takes so many words: where it stands, a word that is free, and the first index past those that it serves. Once it
+// is worked out (`lookup::resolve`) the first two say what it builds.
+pub const RECORD_WORDS: usize = 3;
+
+// The words of record `count`, which ends where the index `next` begins.
+fn put_entry(notes: &mut [u64], count: usize, start: u32, end: u32, next: u64)
+    requires { ⌜ 3 * count + 2 < length (now notes) ⌝ }
+    ensures { λ _. ⌜ now (notes .exit) ≡ set (set (now (notes .entry)) (3 * count) (packed start end)) (3 * count + 2) next ⌝ }
 {
-    starts[count] = start;
-    ends[count] = end;
-    firsts[count + 1] = next;
+    let at = RECORD_WORDS * count;
+    notes[at] = packed(start, end);
+    notes[at + 2] = next;
 }
 
 // Cuts the records of the name table in `bytes` from `at` on, and notes for each where it stands and the first index that it serves.
-fn note_records(
-    bytes: &[u8],
-    at: usize,
-    starts: &mut [u32],
-    ends: &mut [u32],
-    firsts: &mut [u64],
-) -> RecordIndex
-    ensures { λ r. ⌜ ((m : Message) → cut (restOf 0 (now (bytes .entry)) at) ≡ ok m → NotedTold (now (bytes .entry)) at m (now (starts .exit)) (now (ends .exit)) (now (firsts .exit)) r) ⌝ }
+fn note_records(bytes: &[u8], at: usize, notes: &mut [u64]) -> RecordIndex
+    ensures { λ r. ⌜ ((m : Message) → cut (restOf 0 (now (bytes .entry)) at) ≡ ok m → NotedTold (now (bytes .entry)) at m (now (notes .exit)) r) ⌝ }
 {
-    if firsts.len() == 0 {
-        return RecordIndex::NoRoom;
-    }
     if 4294967295 < bytes.len() {
         return RecordIndex::NoRoom;
     }
-    let room = least(least(starts.len(), ends.len()), firsts.len() - 1);
-    firsts[0] = 0;
+    let room = notes.len() / RECORD_WORDS;
     let mut total: u64 = 0;
     let mut count: usize = 0;
     let mut i = at;
     while i < bytes.len() {
-        let piece = next_body(&*bytes, 0, RECORD, i);
+        let piece = next_body(&*bytes, 0, STRING_TABLE_TYPES_RECORD, i);
         let Piece::Body { start, end } = piece else {
             return RecordIndex::Records { count };
         };
@@ -256,9 +230,9 @@ fn note_records(
         if room <= count {
             return RecordIndex::NoRoom;
         }
-        let range = served(index(&bytes[start..end], start as u32, RANGE));
+        let range = served(index(&bytes[start..end], start as u32, RECORD_RANGE));
         total += range as u64;
-        put_entry(starts, ends, firsts, count, start as u32, end as u32, total);
+        put_entry(notes, count, start as u32, end as u32, total);
         count += 1;
         i = end;
     }
@@ -267,14 +241,8 @@ fn note_records(
 
 // The index of a name table: `bytes` are the decoded ones up to its end, and it begins at `at`. An error in the local names refuses after
 // all records are cut.
-pub fn index_records(
-    bytes: &[u8],
-    at: usize,
-    starts: &mut [u32],
-    ends: &mut [u32],
-    firsts: &mut [u64],
-) -> RecordIndex
-    ensures { λ r. ⌜ ((m : Message) → cut (restOf 0 (now (bytes .entry)) at) ≡ ok m → IndexTold (now (bytes .entry)) at m (now (starts .exit)) (now (ends .exit)) (now (firsts .exit)) r) ⌝ }
+pub fn index_records(bytes: &[u8], at: usize, notes: &mut [u64]) -> RecordIndex
+    ensures { λ r. ⌜ ((m : Message) → cut (restOf 0 (now (bytes .entry)) at) ≡ ok m → IndexTold (now (bytes .entry)) at m (now (notes .exit)) r) ⌝ }
 {
     if bytes.len() < at {
         return RecordIndex::NoRoom;
@@ -282,10 +250,10 @@ pub fn index_records(
     if 4294967295 < at {
         return RecordIndex::NoRoom;
     }
-    let noted = note_records(&*bytes, at, starts, ends, firsts);
+    let noted = note_records(&*bytes, at, notes);
     match noted {
         RecordIndex::Records { count } => {
-            let checked = check_varints(&bytes[at..], at as u32, LOCAL_NAME);
+            let checked = check_varints(&bytes[at..], at as u32, STRING_TABLE_TYPES_LOCAL_NAME);
             let Checked::Whole = checked else {
                 return RecordIndex::Refused {
                     error: checked.error(),

@@ -169,35 +169,25 @@ fn print_name(payload: &[u8], units: &[u16], name: Name) {
     print_bytes(s, change);
 }
 
-fn look_up(table: &[u8], units: &[u16], d2ends: &[u32], index: u32, kind: u8) {
+fn look_up(table: &[u8], units: &[u16], ends: &[u32], index: u32, kind: u8) {
     let checked = messages::check(table, 0);
     let Checked::Whole = checked else {
         print(b"refused");
         return;
     };
-    let mut starts = [0u32; 16];
-    let mut ends = [0u32; 16];
-    let mut firsts = [0u64; 17];
-    let indexed = names::records::index_records(table, 0, &mut starts, &mut ends, &mut firsts);
+    let mut notes = [0u64; 48];
+    let indexed = names::records::index_records(table, 0, &mut notes);
     let RecordIndex::Records { count } = indexed else {
         print(b"refused");
         return;
     };
+    lookup::resolve::resolve(table, &mut notes, count);
     if kind == b'q' {
-        let name = lookup::qualified::qualified_name(
-            table,
-            &starts,
-            &ends,
-            &firsts,
-            count,
-            units,
-            d2ends,
-            index,
-        );
+        let name = lookup::qualified::qualified_name(table, &notes, count, units, ends, index);
         print_name(table, units, name);
         return;
     }
-    let name = lookup::string(table, &starts, &ends, &firsts, count, d2ends, index);
+    let name = lookup::string(table, &notes, count, ends, index);
     print_name(table, units, name);
 }
 

@@ -31,13 +31,13 @@ use Rattle.foundation.specs.Results.{
   refused,
 }
 use Rattle.sheet.specs.Rows.{Row, texts, sheetFrom}
-use Rattle.rows.specs.Declarations.{Declarations}
+use Rattle.declaration_rows.specs.Declarations.{Declarations}
 use Rattle.schema.specs.Reading.{allowance}
 use Rattle.inputs.specs.Refusals.{numberOf}
 use Rattle.inputs.specs.Inputs.{Input, kindOf}
 use Rattle.inputs.specs.Outcomes.{Answer, refusal}
 use Rattle.declarations.specs.Payload.{declarationRows}
-use Rattle.areas.specs.Answered.{textLimit, accepted, sheetWritten, written, answered}
+use Rattle.passes.specs.Answered.{textLimit, accepted, sheetWritten, written, answered}
 use Rattle.metadata.specs.Read.{reading, read}
 
 -- no refusal has number 0
@@ -72,7 +72,7 @@ module _ (sheet text : List ℕ) (rows : List Row) (n : ℕ) where
   sheet-fitting h = go (ltb (length sheet) (length (sheetFrom 0 rows))) refl
     where
       Either : Bool → Answer
-      Either b = if b then refusal sheet text sheetTooLong else accepted sheet text (sheetFrom 0 rows) (texts rows) n
+      Either b = if b then refusal sheet text sheetTooLong 0 else accepted sheet text (sheetFrom 0 rows) (texts rows) n
 
       go : (b : Bool) → ltb (length sheet) (length (sheetFrom 0 rows)) ≡ b → Either b .number ≡ 0 → Fitting sheet text rows n (Either b)
       go true e z = absurd (omega (arith, refusal-numbered sheetTooLong))
@@ -83,7 +83,7 @@ module _ (sheet text : List ℕ) (rows : List Row) (n : ℕ) where
   written-fitting = go (ltb (min (length text) textLimit) (length (texts rows))) refl
     where
       Either : Bool → Answer
-      Either b = if b then refusal sheet text textTooLong else sheetWritten sheet text rows n
+      Either b = if b then refusal sheet text textTooLong 0 else sheetWritten sheet text rows n
 
       go : (b : Bool) → ltb (min (length text) textLimit) (length (texts rows)) ≡ b → Either b .number ≡ 0 → Fitting sheet text rows n (Either b)
       go true e z = absurd (omega (arith, refusal-numbered textTooLong))

@@ -1,5 +1,5 @@
--- What is promised of an accepted answer holds of what the code answers. The contracts of the entries give the equation: of `read` and
--- `read_lent` the answer is `toldBy` of theirs, of `sheet_read` it is `toldIn`. That units of d2 are of 16 bits is what `&[u16]` says.
+-- What is promised of an accepted answer holds of what the code answers. The contracts of the entries give the equation: of `read` the
+-- answer is `toldBy` of its own, of `sheet_read` it is `toldIn`. That units of d2 are of 16 bits is what `&[u16]` says.
 -- Assumes nothing.
 use mathlib.Core.Path.{_≡_, ap, subst, _∙_}
 use mathlib.Core.List.{List}

@@ -18,9 +18,9 @@ use Rattle.sheet.specs.Rows.{Row, texts, sheetFrom}
 use Rattle.sheet.specs.Reading.{rowsOf}
 use Rattle.sheet.proofs.ReadBack.{InTable, sheet-back}
 use Rattle.sheet.proofs.RefsInOrder.{RowHas, refs-in-order}
-use Rattle.rows.specs.Declarations.{Constructor, Function, Declarations}
+use Rattle.declaration_rows.specs.Declarations.{Constructor, Function, Declarations}
 use Rattle.schema.specs.Reading.{allowance}
-use Rattle.rows.specs.Rows.{constructorRows, functionRows, propertyRows}
+use Rattle.declaration_rows.specs.Rows.{constructorRows, functionRows, propertyRows}
 use Rattle.schema.specs.Counting.{countKind, constructorSize, functionSize, propertySize, declarationsSize}
 use Rattle.schema.proofs.Fine.{FineDeclarations}
 use Rattle.schema.proofs.TypeCount.{count-append, count-all, constructor-count, function-count, property-count}

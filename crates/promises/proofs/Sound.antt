@@ -22,14 +22,14 @@ use Rattle.wire.proofs.Bounds.{Bounded, cut-bounded}
 use Rattle.characters.specs.WellFormed.{Characters, Units}
 use Rattle.names.specs.Names.{Names, recordsOf, stringsFrom, d2String}
 use Rattle.names.proofs.ScalarLaws.{string-characters, qualified-characters, d2-characters}
-use Rattle.rows.specs.Declarations.{Declarations}
+use Rattle.declaration_rows.specs.Declarations.{Declarations}
 use Rattle.schema.specs.Reading.{Read, allowance}
 use Rattle.schema.specs.Counting.{declarationsSize}
-use Rattle.schema.proofs.Fine.{NamesFine, FineDeclarations, class-fine, package-fine}
-use Rattle.schema.proofs.TypeCount.{class-enters, package-enters}
+use Rattle.schema.proofs.Fine.{NamesFine, FineDeclarations, body-fine}
+use Rattle.schema.proofs.TypeCount.{body-enters}
 use Rattle.inputs.specs.Inputs.{Input, kindOf, carriesDeclarations, laterFault, faultOf}
 use Rattle.declarations.specs.Payload.{bodyOf, payload}
-use Rattle.areas.specs.Answered.{headAlone}
+use Rattle.passes.specs.Answered.{headAlone}
 use Rattle.metadata.specs.Read.{reading}
 
 -- the form gives no more bytes than units
@@ -102,12 +102,10 @@ reading-fine i u = reading-gives (λ r. FineDeclarations (r .0)) i alone body
     body names m e b =
         let strings : (j : ℕ) → Gives (IfSome Characters) (names .d2 j) = rw e (d2-characters (i .ends) (i .d2) u) in
         let fine : NamesFine names = record { strings = string-characters names strings; qualifiedNames = qualified-characters names strings } in
-        if-ind (λ (f : Names → Message → Read Declarations). Gives (λ r. FineDeclarations (r .0)) (f names m allowance)) (eqb (kindOf (i .k)) 1)
-        (λ t. class-fine fine b (omega arith) allowance) λ t. package-fine fine b (omega arith) allowance
+        body-fine fine b (omega arith) (eqb (kindOf (i .k)) 1) allowance
 
 -- The types entered are those of the declarations.
 pub reading-enters : (i : Input) → Gives (λ r. declarationsSize (r .0) + r .1 ≡ allowance) (reading i)
 reading-enters i =
     reading-gives (λ r. declarationsSize (r .0) + r .1 ≡ allowance) i refl λ names m e b.
-    if-ind (λ (f : Names → Message → Read Declarations). Gives (λ r. declarationsSize (r .0) + r .1 ≡ allowance) (f names m allowance)) (eqb (kindOf (i .k)) 1)
-    (λ t. class-enters names m allowance) λ t. package-enters names m allowance
+    body-enters (eqb (kindOf (i .k)) 1) names m allowance

@@ -15,8 +15,8 @@ use Rattle.characters.proofs.Utf8Laws.{utf8-well-formed}
 use Rattle.sheet.specs.Rows.{bit, Row}
 use Rattle.sheet.proofs.ReadBack.{InTable, bit-fits}
 use Rattle.sheet.proofs.RefsInOrder.{CellHas, RowHas}
-use Rattle.rows.specs.Declarations.{Types, noTypes, andType, Ty, Signature, Parameter, Constructor, Function, Property, Declarations}
-use Rattle.rows.specs.Rows.{
+use Rattle.declaration_rows.specs.Declarations.{Types, noTypes, andType, Ty, Signature, Parameter, Constructor, Function, Property, Declarations}
+use Rattle.declaration_rows.specs.Rows.{
   returnRole,
   receiverRole,
   parameterRole,

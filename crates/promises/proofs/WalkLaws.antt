@@ -13,8 +13,8 @@ use Rattle.foundation.specs.Choices.{mapOption, bothOf, concat, All, IfSome}
 use Rattle.foundation.specs.Texts.{Text}
 use Rattle.characters.specs.Characters.{utf8, fromUtf8}
 use Rattle.sheet.specs.Rows.{bit, Row}
-use Rattle.rows.specs.Declarations.{Types, noTypes, andType, Ty, countOf, Signature, Parameter, Constructor, Function, Property, Declarations, signed}
-use Rattle.rows.specs.Rows.{returnRole, receiverRole, parameterRole, varargRole, argumentRole, typesRows, typeRows, parameterRows, parametersRows, constructorRows, functionRows, propertyRows}
+use Rattle.declaration_rows.specs.Declarations.{Types, noTypes, andType, Ty, countOf, Signature, Parameter, Constructor, Function, Property, Declarations, signed}
+use Rattle.declaration_rows.specs.Rows.{returnRole, receiverRole, parameterRole, varargRole, argumentRole, typesRows, typeRows, parameterRows, parametersRows, constructorRows, functionRows, propertyRows}
 use Rattle.characters.specs.WellFormed.{Characters}
 use Rattle.characters.proofs.Utf8Laws.{utf8-back}
 use Rattle.schema.proofs.Fine.{Named, FineTypes, FineTy, FineParameter, FineSignature, FineConstructor, FineFunction, FineProperty, FineDeclarations}

@@ -10,7 +10,7 @@ use Rattle.sheet.specs.Rows.{Row}
 use Rattle.sheet.specs.Reading.{rowsOf}
 use Rattle.sheet.specs.Refs.{refsOf, CutInOrder}
 use Rattle.characters.specs.WellFormed.{WellFormed}
-use Rattle.rows.specs.Declarations.{Declarations}
+use Rattle.declaration_rows.specs.Declarations.{Declarations}
 use Rattle.schema.specs.Counting.{countKind}
 use Rattle.inputs.specs.Inputs.{Input, kindOf}
 use Rattle.inputs.specs.Outcomes.{Answer}

@@ -11,9 +11,9 @@ use Rattle.foundation.specs.Texts.{Text}
 use Rattle.characters.specs.Characters.{fromUtf8}
 use Rattle.sheet.specs.Rows.{Cell, num, ref, Row}
 use Rattle.sheet.specs.Reading.{rowsOf}
-use Rattle.rows.specs.Declarations.{Types, noTypes, andType, Ty, Signature, Parameter, Constructor, Function, Property, Declarations, signed}
+use Rattle.declaration_rows.specs.Declarations.{Types, noTypes, andType, Ty, Signature, Parameter, Constructor, Function, Property, Declarations, signed}
 use Rattle.descriptors.specs.Defaults.{functionParts, constructorParts, descriptor}
-use Rattle.rows.specs.Rows.{returnRole, receiverRole, parameterRole, varargRole, argumentRole}
+use Rattle.declaration_rows.specs.Rows.{returnRole, receiverRole, parameterRole, varargRole, argumentRole}
 
 abbrev pub numOf : Cell → ℕ
 numOf (num w n) = n

@@ -11,7 +11,7 @@ fn replay() -> bool {
     }
     let size = line::input::four_in(&head, 0, 0);
     let mut area = [0u8; 262190];
-    let length = answers::answer_input(STDIN_FILENO, size, &mut area);
+    let length = answer_lines::answer_input(STDIN_FILENO, size, &mut area);
     io::write_all(STDOUT_FILENO, &area[..length])
 }
 

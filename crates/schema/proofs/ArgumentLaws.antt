@@ -4,16 +4,16 @@ use mathlib.Core.Path.{_≡_, refl, ap}
 use mathlib.Core.List.{List, [], _∷_, _++_, append-nil}
 use Prim.Native.Nat.{ℕ, suc}
 use lib.ListN.{length}
-use Rattle.sheet.specs.Rows.{num, bit, Row, row}
-use Rattle.rows.specs.Declarations.{Ty, typesOf, countOf}
-use Rattle.rows.specs.Rows.{named, argumentRole, typesRows}
+use Rattle.sheet.specs.Rows.{Row, row}
+use Rattle.declaration_rows.specs.Declarations.{Ty, typesOf, countOf}
+use Rattle.declaration_rows.specs.Rows.{argumentRole, typeCells, typesRows}
 use Rattle.schema.specs.TypesTold.{rowsIn}
 
 -- The rows of a type and of those after it, and how many they are.
 pub types-cons : (role : ℕ) (t : Ty) (ts : List Ty) → rowsIn role t ++ typesRows role (typesOf ts) ≡ typesRows role (typesOf (t ∷ ts))
 unfolding typesRows
 types-cons role t ts =
-    let head = row 6 (num 1 role ∷ bit (t .nullable) ∷ named (t .name) ∷ num 2 (countOf (t .arguments)) ∷ []) in
+    let head = row 6 (typeCells role (t .nullable) (t .name) (countOf (t .arguments))) in
     ap (λ (rs : List Row). head ∷ (rs ++ typesRows role (typesOf ts))) (append-nil (typesRows argumentRole (t .arguments)))
 
 pub types-many : (ts : List Ty) → countOf (typesOf ts) ≡ length ts

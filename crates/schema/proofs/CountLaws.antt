@@ -10,15 +10,15 @@ use Rattle.sheet.specs.Rows.{Cell}
 use Rattle.sheet.specs.Put.{PutHead, past}
 use Rattle.sheet.specs.declared.State.{State}
 use Rattle.sheet.proofs.PutLaws.{put-types}
-use Rattle.rows.specs.Written as written
-use Rattle.rows.specs.Written.{cellLimit}
+use Rattle.declaration_rows.specs.Written as written
+use Rattle.declaration_rows.specs.Written.{cellLimit}
 use Rattle.schema.specs.Told.{Ready, Spends}
 use Rattle.schema.specs.MembersTold.{Affords, Within, PickedWithin, ListedWithin}
 use Rattle.schema.specs.declared.Listed.{Listed}
 use Rattle.schema.specs.declared.Listed.the-variants as listed
 use Rattle.schema.specs.declared.Picked.{Picked}
 use Rattle.schema.specs.declared.Picked.the-variants as picked
-use Rattle.rows.proofs.WrittenLaws.{Small, head-room}
+use Rattle.declaration_rows.proofs.WrittenLaws.{Small, head-room}
 
 -- Steps one after the other; a step that takes no more than is said.
 pub within-none : (s : State) → Within 0 s s
@@ -65,10 +65,10 @@ module _ {payload d2 : List ℕ} {n : ℕ} {s : State} (h : Affords payload d2 n
   }
 
   -- for the writers of records
-  pub affords-places : written.Room (s .sheet + s .text) payload d2 s
+  pub affords-places : written.RecordRoom (s .sheet + s .text) payload d2 s
   affords-places = record { payload = h .payload-short; d2 = h .d2-short; places = omega arith }
 
-  pub affords-room : written.Room (2 ^ 61) payload d2 s
+  pub affords-room : written.RecordRoom (2 ^ 61) payload d2 s
   affords-room = record { payload = h .payload-short; d2 = h .d2-short; places = omega (arith, h .room) }
 
   -- What a record's kind and cells take.

@@ -12,7 +12,7 @@ use Rattle.foundation.specs.Texts.{Text, ascii}
 use Rattle.wire.specs.Wire.{groupsFrom, readVarint, readBytes, readDelimited, readFixed, readValue, readField, repeated, cut}
 use Rattle.wire.specs.Messages.{values, varintOf, index, flag, bytesOf, message, bodiesOf, cutAll, messages}
 use Rattle.names.specs.Names.{Names, recordAt, string, withoutLast, qualifiedName}
-use Rattle.rows.specs.Declarations.{noTypes, andType, Ty, Signature, Parameter, Declarations}
+use Rattle.declaration_rows.specs.Declarations.{noTypes, andType, Ty, Signature, Parameter, Declarations}
 use Rattle.schema.specs.Reading.{kept, nameIn, classNameIn, allowance}
 use Rattle.schema.specs.Types.{resolveAt, typeIn, argumentIn, parseAt, typeAt, declaredType, typeTableIn}
 use Rattle.schema.specs.Members.{
@@ -25,9 +25,9 @@ use Rattle.schema.specs.Members.{
   constructorIn,
   functionIn,
   propertyIn,
-  membersIn,
-  classBody,
-  packageBody,
+  listsIn,
+  afterTable,
+  bodyIn,
 }
 
 -- no records, and five strings
@@ -113,12 +113,12 @@ expected = record {
       ∷ [];
 }
 
-pub field-numbers : Results._>>=_ (cut (_from_ 0 class)) (λ m. classBody names m allowance) ≡ ok (expected, 2029)
+pub field-numbers : Results._>>=_ (cut (_from_ 0 class)) (λ m. bodyIn true names m allowance) ≡ ok (expected, 2029)
 unfolding
     names class expected groupsFrom readVarint readBytes readDelimited readFixed readValue readField repeated cut values varintOf index flag
     bytesOf message bodiesOf cutAll messages recordAt string withoutLast qualifiedName kept nameIn classNameIn resolveAt typeIn argumentIn
     parseAt typeAt declaredType typeTableIn signatureOf signatureIn fieldOf fieldIn parameterIn listIn constructorIn functionIn propertyIn
-    membersIn classBody
+    listsIn afterTable bodyIn
 field-numbers = refl
 
 -- a package: a function, a property, a type table
@@ -157,10 +157,10 @@ expectedOfPackage = record {
       ∷ [];
 }
 
-pub package-field-numbers : Results._>>=_ (cut (_from_ 0 file)) (λ m. packageBody names m allowance) ≡ ok (expectedOfPackage, 2046)
+pub package-field-numbers : Results._>>=_ (cut (_from_ 0 file)) (λ m. bodyIn false names m allowance) ≡ ok (expectedOfPackage, 2046)
 unfolding
     names file expectedOfPackage groupsFrom readVarint readBytes readDelimited readFixed readValue readField repeated cut values varintOf
     index flag bytesOf message bodiesOf cutAll messages recordAt string withoutLast qualifiedName kept nameIn classNameIn resolveAt typeIn
     argumentIn parseAt typeAt declaredType typeTableIn signatureOf signatureIn fieldOf fieldIn parameterIn listIn constructorIn functionIn
-    propertyIn membersIn packageBody
+    propertyIn listsIn afterTable bodyIn
 package-field-numbers = refl

@@ -1,6 +1,7 @@
 -- What a reading gives is fine: its texts are characters, its numbers and its counts fit their cells.
 -- Assumes nothing.
 use mathlib.Core.Path.{_≡_, refl, ap}
+use mathlib.Core.Bool.{Bool, true, false}
 use mathlib.Core.List.{List, [], _∷_}
 use mathlib.Core.Option.{Option, none, some}
 use Prim.Native.Nat.{ℕ, zero, suc, _+_, _^_, _≤_, _<_}
@@ -20,10 +21,10 @@ use Rattle.wire.proofs.Bounds.{Bounded, varintOf-below, message-bounded, messag
 use Rattle.characters.specs.Characters.{isScalar}
 use Rattle.characters.specs.WellFormed.{Characters}
 use Rattle.names.specs.Names.{Names, string, qualifiedName}
-use Rattle.rows.specs.Declarations.{Types, noTypes, andType, Ty, typesOf, countOf, Signature, Parameter, Constructor, Function, Property, Declarations, signed}
+use Rattle.declaration_rows.specs.Declarations.{Types, noTypes, andType, Ty, typesOf, countOf, Signature, Parameter, Constructor, Function, Property, Declarations, signed}
 use Rattle.schema.specs.Reading.{Read, pure, _>>=_, lift, enter, keep, kept, Scope, scope, nameIn, classNameIn, allowance}
 use Rattle.schema.specs.Types.{Walk, maxDepth, resolveAt, typeIn, argumentIn, parseAt, typeAt, declaredType, typeTableIn}
-use Rattle.schema.specs.Members.{flagsIn, named, signatureOf, signatureIn, fieldOf, forgiven, fieldIn, ofSignature, parameterIn, listIn, constructorIn, functionIn, propertyIn, membersIn, classBody, packageBody}
+use Rattle.schema.specs.Members.{flagsIn, named, signatureOf, signatureIn, fieldOf, forgiven, fieldIn, ofSignature, parameterIn, listIn, constructorIn, functionIn, propertyIn, Head, headIn, constructorsIn, functionField, propertyField, listsIn, afterTable, bodyIn}
 
 -- each of them a Unicode scalar value
 -- Fine is what its row can say: names of characters, flags of 64 bits, counts of 16.
@@ -333,16 +334,27 @@ module _ {n : ℕ} (few : n < 2 ^ 16) {s : Scope} (f : ScopeFine n s) where
       reads-bind (reads-declaredType few f _ _ m b) λ type t.
       reads-pure (record { name = c; flags = flagsIn-below _ m b; field = x; getter = y; setter = z; receiver = v; type = t })
 
-  pub reads-membersIn : (name : Option Text) (flags : ℕ) (constructors : List Constructor) (function property : ℕ) (m : Message)
-      → IfSome Characters name → flags < 2 ^ 64 → All FineConstructor constructors × (length constructors ≤ n) → Bounded n m
-      → Reads FineDeclarations (membersIn s name flags constructors function property m)
-  unfolding membersIn
-  reads-membersIn name flags constructors function property m c v p b =
-      reads-bind (reads-listIn reads-functionIn function m b) λ functions q.
-      reads-bind (reads-listIn reads-propertyIn property m b) λ properties r.
+  abbrev FineHead : Head → Type 0
+  FineHead h = IfSome Characters (h .name) × (h .flags < 2 ^ 64)
+
+  reads-headIn : (class : Bool) (m : Message) → Bounded n m → Reads FineHead (headIn class s m)
+  reads-headIn true m b = reads-bind (reads-classNameIn f _ m) λ name c. reads-pure (c, flagsIn-below _ m b)
+  reads-headIn false m b = reads-pure (tt, omega arith)
+
+  reads-constructorsIn : (class : Bool) (m : Message) → Bounded n m
+      → Reads (λ cs. All FineConstructor cs × (length cs ≤ n)) (constructorsIn class s m)
+  reads-constructorsIn true m b = reads-listIn reads-constructorIn _ m b
+  reads-constructorsIn false m b = reads-pure (tt, omega arith)
+
+  reads-listsIn : (class : Bool) (h : Head) (m : Message) → FineHead h → Bounded n m → Reads FineDeclarations (listsIn class h s m)
+  unfolding listsIn
+  reads-listsIn class h m c b =
+      reads-bind (reads-constructorsIn class m b) λ constructors p.
+      reads-bind (reads-listIn reads-functionIn (functionField class) m b) λ functions q.
+      reads-bind (reads-listIn reads-propertyIn (propertyField class) m b) λ properties r.
       reads-pure (record {
-        name = c;
-        flags = v;
+        name = c .0;
+        flags = c .1;
         constructorCount = lt-of-le-of-lt (p .1) few;
         functionCount = lt-of-le-of-lt (q .1) few;
         propertyCount = lt-of-le-of-lt (r .1) few;
@@ -351,26 +363,17 @@ module _ {n : ℕ} (few : n < 2 ^ 16) {s : Scope} (f : ScopeFine n s) where
         properties = r .0;
       })
 
+  pub reads-afterTable : (class : Bool) (m : Message) → Bounded n m → Reads FineDeclarations (afterTable class s m)
+  unfolding afterTable
+  reads-afterTable class m b = reads-bind (reads-headIn class m b) λ h c. reads-listsIn class h m c b
+
 -- What a class or a package comes to is fine.
-module _ {names : Names} (fine : NamesFine names) {n : ℕ} {m : Message} (b : Bounded n m) (few : n < 2 ^ 16) where
-  reads-classBody : Reads FineDeclarations (classBody names m)
-  unfolding classBody
-  reads-classBody =
+module _ {names : Names} (fine : NamesFine names) {n : ℕ} {m : Message} (b : Bounded n m) (few : n < 2 ^ 16) (class : Bool) where
+  reads-bodyIn : Reads FineDeclarations (bodyIn class names m)
+  unfolding bodyIn
+  reads-bodyIn =
       reads-bind (reads-typeTableIn _ m b) λ table t.
-      let f : ScopeFine n (scope names table) = record { names = fine; table = t } in
-      reads-bind (reads-classNameIn f _ m) λ name c.
-      reads-bind (reads-listIn (reads-constructorIn few f) _ m b) λ constructors p.
-      reads-membersIn few f name _ constructors _ _ m c (flagsIn-below _ m b) p b
+      reads-afterTable few (record { names = fine; table = t }) class m b
 
-  reads-packageBody : Reads FineDeclarations (packageBody names m)
-  unfolding packageBody
-  reads-packageBody =
-      reads-bind (reads-typeTableIn _ m b) λ table t.
-      let f : ScopeFine n (scope names table) = record { names = fine; table = t } in
-      reads-membersIn few f none _ [] _ _ m tt (omega arith) (tt, omega arith) b
-
-  pub class-fine : (l : ℕ) → Gives (λ r. FineDeclarations (r .0)) (classBody names m l)
-  class-fine = reads-classBody .at
-
-  pub package-fine : (l : ℕ) → Gives (λ r. FineDeclarations (r .0)) (packageBody names m l)
-  package-fine = reads-packageBody .at
+  pub body-fine : (l : ℕ) → Gives (λ r. FineDeclarations (r .0)) (bodyIn class names m l)
+  body-fine = reads-bodyIn .at

@@ -7,9 +7,10 @@ use mathlib.Core.Option.{Option, none, some}
 use Prim.Native.Nat.{ℕ, _+_, _-_, _^_, _≤_, _<_}
 use native.Mathlib.Omega.{arith}
 use lib.Dec.{leb}
-use lib.ListN.{length, getElem?}
+use lib.ListN.{length, take, drop, getElem?}
 use Rattle.foundation.specs.Results as Results
 use Rattle.foundation.specs.Results.{Res, ok, refused, Part, _from_}
+use Rattle.fields.specs.Fields.{Type·argument, Type·Argument·type, Type·Argument·type-id}
 use Rattle.wire.specs.Wire.{Message, cut}
 use Rattle.wire.specs.Messages.{index, cutOption, message, messages, cutAll}
 use Rattle.wire.specs.Told.{restOf, bodyOf}
@@ -19,20 +20,18 @@ use Rattle.wire.specs.declared.Piece.the-variants as piece
 use Rattle.messages.specs.declared.Indexed.{Indexed}
 use Rattle.messages.specs.declared.Indexed.the-variants as indexed
 use Rattle.wire.proofs.WalkLaws.{whole, ok-same}
-use Rattle.characters.specs.Characters.{partFrom}
-use Rattle.characters.proofs.PartLaws.{part-part, part-short}
-use Rattle.schema.specs.Fields.{Type·argument, Type·Argument·type, Type·Argument·type-id}
-use Rattle.rows.specs.Declarations.{Ty}
+use Rattle.declaration_rows.specs.Declarations.{Ty}
 use Rattle.schema.specs.Reading.{Read, pure, keep, kept, Scope, allowance}
 use Rattle.schema.specs.Types.{maxDepth, typeIn, argumentIn, typeAt, declaredType}
-use Rattle.schema.specs.Told.{EntryAt}
+use Rattle.schema.specs.Told.{EntryAt, Stands, entriesIn}
 use Rattle.schema.specs.TypesTold.{orNullable, EntryIs, EntryInside, EntryTold}
-use Rattle.schema.specs.FoundTold.{TableOf, FoundTold, FoundFalls, EntryFound, PlaceFound, firstOf, DeclaredFound, ArgumentFound}
+use Rattle.schema.specs.PlacesTold.{TableOf, FoundTypeTold, FoundTypeFalls, EntryFound, PlaceFound, firstOf, DeclaredFound, ArgumentFound}
 use Rattle.schema.specs.declared.Tables.{Tables}
-use Rattle.schema.specs.declared.Found.{Found}
-use Rattle.schema.specs.declared.Found.the-variants as found
+use Rattle.schema.specs.declared.FoundType.{FoundType}
+use Rattle.schema.specs.declared.FoundType.the-variants as found
 use Rattle.schema.proofs.TypeLaws.{resolve-nothing, resolve-deep, resolve-entry}
 use Rattle.schema.proofs.ListLaws.{First, cut-first}
+use Rattle.schema.proofs.StandsLaws.{stands-cut, stands-entry, body-ends, body-stands, body-entry}
 
 -- A reading that was accepted: what it was made of was.
 pub never-given : {A B : Type 0} {c : Results.Cause} {p : ℕ} {a : A} → _≡_ {A = Res A} (refused c p) (ok a) → B
@@ -49,7 +48,7 @@ first-same e = ap (λ q. q .0) (ok-same e)
 given-found : (payload : List ℕ) (c : Scope) (start end : ℕ) (m : Message) → EntryAt payload start end m → (d : ℕ) {left : ℕ} → left ≡ maxDepth - d
     → (nullable : Bool) (o : Option Ty) (l b : ℕ)
     → Results._>>=_ (typeAt allowance c d m l) (λ q. pure (some (orNullable nullable (q .0))) (q .1)) ≡ ok (o, b)
-    → FoundTold payload c o (found.Type start end nullable left)
+    → FoundTypeTold payload c o (found.Type start end nullable left)
 given-found payload c start end m at d deep nullable o l b e =
     let it = bind-given (typeAt allowance c d m l) (λ q. pure (some (orNullable nullable (q .0))) (q .1)) e in (
       it .0 .0,
@@ -58,19 +57,19 @@ given-found payload c start end m at d deep nullable o l b e =
     )
 
 -- The type at an index.
-module _ (payload starts ends : List ℕ) (tables : Tables) (i left : ℕ) where
-  pub entry-none-left : left ≡ 0 → EntryFound payload starts ends tables i left found.Nothing
+module _ (payload notes : List ℕ) (tables : Tables) (i left : ℕ) where
+  pub entry-none-left : left ≡ 0 → EntryFound payload notes tables i left found.Nothing
   entry-none-left h = record {
     inside = tt;
     falls = tt;
     is = λ c t d deep o l b e. sym (first-same (sym (resolve-deep c d i l (omega arith)) ∙ e));
   }
 
-  module _ {x : Piece} (t : EntryTold payload starts ends (tables .types) i x) where
-    there : {y : Piece} → x ≡ y → (c : Scope) → TableOf payload starts ends tables c → EntryIs payload (getElem? (c .table .types) i) y
+  module _ {x : Piece} (t : EntryTold payload (entriesIn tables notes) (tables .types) i x) where
+    there : {y : Piece} → x ≡ y → (c : Scope) → TableOf payload notes tables c → EntryIs payload (getElem? (c .table .types) i) y
     there g c o = subst (EntryIs payload (getElem? (c .table .types) i)) g (t .is (c .table .types) (o .entries))
 
-    pub entry-nowhere : x ≡ piece.Nothing → EntryFound payload starts ends tables i left found.Nothing
+    pub entry-nowhere : x ≡ piece.Nothing → EntryFound payload notes tables i left found.Nothing
     entry-nowhere g = record {
       inside = tt;
       falls = tt;
@@ -78,7 +77,7 @@ module _ (payload starts ends : List ℕ) (tables : Tables) (i left : ℕ) where
     }
 
     pub entry-there : length payload ≤ 32768 → (left ≡ 0 → ⊥) → i < 2 ^ 32 → {a b : ℕ} → x ≡ piece.Body a b
-        → EntryFound payload starts ends tables i left (found.Type a b (leb (tables .«first_nullable») i) (left - 1))
+        → EntryFound payload notes tables i left (found.Type a b (leb (tables .«first_nullable») i) (left - 1))
     entry-there short h k {a} {b} g =
         let inside = subst (EntryInside payload) g (t .inside) in
         record {
@@ -93,76 +92,63 @@ module _ (payload starts ends : List ℕ) (tables : Tables) (i left : ℕ) where
         }
 
 -- The walk from a message goes as far as from the start at least.
-falls-more : (left start end start′ end′ : ℕ) → end - start ≤ end′ - start′ → (r : Found) → FoundFalls left start end r → FoundFalls left start′ end′ r
+falls-more : (left start end start′ end′ : ℕ) → end - start ≤ end′ - start′ → (r : FoundType) → FoundTypeFalls left start end r → FoundTypeFalls left start′ end′ r
 falls-more left start end start′ end′ h (found.Type a b n l) f = (f .0, omega (arith, f .1))
 falls-more left start end start′ end′ h found.Nothing f = tt
-
--- a message inside another
-part-at : (payload : List ℕ) (start end a b : ℕ) → start ≤ end → end ≤ length payload → a ≤ b → b ≤ length (partFrom start end payload) → (m : Message)
-    → cut (bodyOf start (partFrom start end payload) a b) ≡ ok m → EntryAt payload (start + a) (start + b) m
-part-at payload start end a b p q h k m e = record {
-  ordered = omega arith;
-  inside = omega (arith, part-short payload start end);
-  cuts = ap (λ (l : List ℕ). cut (_from_ (start + a) l)) (sym (part-part payload start end a b h k)) ∙ e;
-}
 
 -- A type inline in a message, whose cutting was accepted.
 given-inline : (payload : List ℕ) (c : Scope) (start end inline byIndex : ℕ) (p : Part) → ((m : Message) → cut p ≡ ok m → EntryAt payload start end m)
     → (m : Message) (r : Res Message) → cut p ≡ r → message inline m ≡ Results._>>=_ r (λ inner. ok (some inner)) → (d : ℕ) {left : ℕ} → left ≡ maxDepth - d
-    → (o : Option Ty) (l n : ℕ) → typeIn (typeAt allowance c) c d inline byIndex m l ≡ ok (o, n) → FoundTold payload c o (found.Type start end false left)
+    → (o : Option Ty) (l n : ℕ) → typeIn (typeAt allowance c) c d inline byIndex m l ≡ ok (o, n) → FoundTypeTold payload c o (found.Type start end false left)
 unfolding typeIn
 given-inline payload c start end inline byIndex p at m (ok inner) q f d deep o l n e =
     given-found payload c start end inner (at inner q) d deep false o l n (rw f at e)
 given-inline payload c start end inline byIndex p at m (refused cause place) q f d deep o l n e = never-given (rw f at e)
 
 -- The type in a message.
-module _ (payload starts ends : List ℕ) (tables : Tables) (start end inline byIndex left : ℕ) (ordered : start ≤ end) (inside : end ≤ length payload)
-    {x : Piece} (t : BytesTold start (partFrom start end payload) inline x) where
-  here : {y : Piece} → x ≡ y → (m : Message) → EntryAt payload start end m → message inline m ≡ cutOption (pieceTold start (partFrom start end payload) y)
+module _ (payload notes : List ℕ) (tables : Tables) (msg : List ℕ) (base inline byIndex left : ℕ) (st : Stands payload msg base)
+    {x : Piece} (t : BytesTold base msg inline x) where
+  here : {y : Piece} → x ≡ y → (m : Message) → EntryAt payload base (base + length msg) m → message inline m ≡ cutOption (pieceTold base msg y)
   unfolding message
-  here g m at = ap cutOption (t .is m (at .cuts) ∙ ap (pieceTold start (partFrom start end payload)) g)
+  here g m at = ap cutOption (t .is m (stands-cut st at) ∙ ap (pieceTold base msg) g)
 
-  pub place-in : {a b : ℕ} → x ≡ piece.Body a b → (a ≤ b) × (start + b ≤ end) × (0 < a)
-  place-in g =
-      let i = subst (PieceInside (partFrom start end payload)) g (t .inside) in
-      (i .0, omega (arith, i .1, part-short payload start end), i .2)
+  pub place-in : {a b : ℕ} → x ≡ piece.Body a b → (a ≤ b) × (b ≤ length msg) × (0 < a)
+  place-in g = subst (PieceInside msg) g (t .inside)
 
   pub place-inline : {a b : ℕ} → x ≡ piece.Body a b
-      → PlaceFound payload starts ends tables start end inline byIndex left (found.Type (start + a) (start + b) false left)
+      → PlaceFound payload notes tables base (base + length msg) inline byIndex left (found.Type (base + a) (base + b) false left)
   place-inline {a} {b} g =
-      let i = subst (PieceInside (partFrom start end payload)) g (t .inside) in
-      let p = place-in g in
-      let body = bodyOf start (partFrom start end payload) a b in
+      let i = place-in g in
+      let body = bodyOf base msg a b in
       record {
-        inside = (omega arith, omega arith);
+        inside = (omega arith, omega (arith, st .inside));
         falls = (omega arith, omega arith);
         is = λ c s m at d deep o l n e.
-            given-inline payload c (start + a) (start + b) inline byIndex body (part-at payload start end a b ordered inside (i .0) (i .1)) m
+            given-inline payload c (base + a) (base + b) inline byIndex body (λ inner. body-entry st a b (i .0) (i .1)) m
             (cut body) refl (here g m at) d deep o l n e;
       }
 
-  module _ (g : x ≡ piece.Nothing) {y : Indexed}
-      (i : (m : Message) → cut (_from_ start (partFrom start end payload)) ≡ ok m → index byIndex m ≡ indexTold y) where
-    pub place-nowhere : y ≡ indexed.Nothing → PlaceFound payload starts ends tables start end inline byIndex left found.Nothing
+  module _ (g : x ≡ piece.Nothing) {y : Indexed} (i : (m : Message) → cut (_from_ base msg) ≡ ok m → index byIndex m ≡ indexTold y) where
+    pub place-nowhere : y ≡ indexed.Nothing → PlaceFound payload notes tables base (base + length msg) inline byIndex left found.Nothing
     unfolding typeIn
     place-nowhere h = record {
       inside = tt;
       falls = tt;
-      is = λ c s m at d deep o l n e. sym (first-same (rw (here g m at, i m (at .cuts), h) at e));
+      is = λ c s m at d deep o l n e. sym (first-same (rw (here g m at, i m (stands-cut st at), h) at e));
     }
 
-    pub place-indexed : {k : ℕ} → y ≡ indexed.At k → {r : Found} → EntryFound payload starts ends tables k left r
-        → PlaceFound payload starts ends tables start end inline byIndex left r
+    pub place-indexed : {k : ℕ} → y ≡ indexed.At k → {r : FoundType} → EntryFound payload notes tables k left r
+        → PlaceFound payload notes tables base (base + length msg) inline byIndex left r
     unfolding typeIn
     place-indexed h {r} f = record {
       inside = f .inside;
-      falls = falls-more left 0 0 start end (omega arith) r (f .falls);
-      is = λ c s m at d deep o l n e. f .is c s d deep o l n (rw (here g m at, i m (at .cuts), h) at e);
+      falls = falls-more left 0 0 base (base + length msg) (omega arith) r (f .falls);
+      is = λ c s m at d deep o l n e. f .is c s d deep o l n (rw (here g m at, i m (stands-cut st at), h) at e);
     }
 
 -- A declaration's own type, at depth 0.
-pub declared-found : {payload starts ends : List ℕ} {tables : Tables} {start end inline byIndex : ℕ} {r : Found}
-    → PlaceFound payload starts ends tables start end inline byIndex maxDepth r → DeclaredFound payload starts ends tables start end inline byIndex r
+pub declared-found : {payload notes : List ℕ} {tables : Tables} {start end inline byIndex : ℕ} {r : FoundType}
+    → PlaceFound payload notes tables start end inline byIndex maxDepth r → DeclaredFound payload notes tables start end inline byIndex r
 unfolding declaredType
 declared-found p = record { inside = p .inside; falls = p .falls; is = λ c s m at o l n e. p .is c s m at 0 refl o l n e }
 
@@ -238,20 +224,20 @@ module _ (f : Message → Read (Option Ty)) (base : ℕ) (msg : List ℕ) (at : 
         }
 
 -- The loop over the arguments.
-pub record Seeking (payload starts ends : List ℕ) (tables : Tables) (start end left at : ℕ) : Type 0 where
-  pub passed : (c : Scope) → TableOf payload starts ends tables c → (m : Message) → EntryAt payload start end m → (ms : List Message)
+pub record Seeking (payload notes : List ℕ) (tables : Tables) (msg : List ℕ) (base left at : ℕ) : Type 0 where
+  pub passed : (c : Scope) → TableOf payload notes tables c → (m : Message) → EntryAt payload base (base + length msg) m → (ms : List Message)
       → messages Type·argument m ≡ ok ms → (d : ℕ) → left ≡ maxDepth - d → (ts : List Ty) (l b : ℕ)
       → kept (argumentIn (typeAt allowance c) c d) ms l ≡ ok (ts, b)
-      → Passed (argumentIn (typeAt allowance c) c d) start (partFrom start end payload) at ts
+      → Passed (argumentIn (typeAt allowance c) c d) base msg at ts
 
-module _ (payload starts ends : List ℕ) (tables : Tables) (start end left : ℕ) where
-  pub seeking-start : Seeking payload starts ends tables start end left 0
+module _ (payload notes : List ℕ) (tables : Tables) (msg : List ℕ) (base left : ℕ) (st : Stands payload msg base) where
+  pub seeking-start : Seeking payload notes tables msg base left 0
   unfolding messages
   seeking-start = record {
     passed = λ c s m at ms h d deep ts l b e. record {
       rest = m;
       others = ms;
-      cuts = ap cut (whole start (partFrom start end payload)) ∙ at .cuts;
+      cuts = ap cut (whole base msg) ∙ stands-cut st at;
       many = h;
       before = l;
       after = b;
@@ -259,51 +245,54 @@ module _ (payload starts ends : List ℕ) (tables : Tables) (start end left : �
     };
   }
 
-  module _ (at : ℕ) (g : Seeking payload starts ends tables start end left at) {x : Piece} (t : NextTold start (partFrom start end payload) Type·argument at x) where
-    pub seeking-end : x ≡ piece.Nothing → ArgumentFound payload starts ends tables start end left found.Nothing
+  module _ (at : ℕ) (g : Seeking payload notes tables msg base left at) {x : Piece} (t : NextTold base msg Type·argument at x) where
+    pub seeking-end : x ≡ piece.Nothing → ArgumentFound payload notes tables base (base + length msg) left found.Nothing
     seeking-end q = record {
       inside = tt;
       falls = tt;
       is = λ c s m a ms h d deep ts l b e.
-          ap firstOf (passed-all (argumentIn (typeAt allowance c) c d) start (partFrom start end payload) at ts (g .passed c s m a ms h d deep ts l b e) t q);
+          ap firstOf (passed-all (argumentIn (typeAt allowance c) c d) base msg at ts (g .passed c s m a ms h d deep ts l b e) t q);
     }
 
-    module _ {a b : ℕ} (q : x ≡ piece.Body a b) (ordered : start ≤ end) (inside : end ≤ length payload) where
-      piece-inside : (a ≤ b) × (b ≤ length (partFrom start end payload)) × (0 < a)
-      piece-inside = subst (PieceInside (partFrom start end payload)) q (t .inside)
+    module _ {a b : ℕ} (q : x ≡ piece.Body a b) where
+      pub seeking-in : (a ≤ b) × (b ≤ length msg) × (at < b)
+      seeking-in = let i = subst (PieceInside msg) q (t .inside) in (i .0, i .1, subst (PieceAfter at) q (t .later))
 
-      pub seeking-in : (a ≤ b) × (start + b ≤ end) × (at < b)
-      seeking-in = (piece-inside .0, omega (arith, piece-inside, part-short payload start end), subst (PieceAfter at) q (t .later))
+      pub argument-stands : Stands payload (take (b - a) (drop a msg)) (base + a)
+      argument-stands = body-stands st a b (seeking-in .0) (seeking-in .1)
 
-      module _ {r : Found} (p : PlaceFound payload starts ends tables (start + a) (start + b) Type·Argument·type Type·Argument·type-id left r) where
+      module _ {r : FoundType}
+          (p : PlaceFound payload notes tables (base + a) (base + a + length (take (b - a) (drop a msg))) Type·Argument·type Type·Argument·type-id left r) where
         -- what the place says of the next argument
-        argument-found : (c : Scope) → TableOf payload starts ends tables c → (d : ℕ) → left ≡ maxDepth - d → (ts : List Ty)
-            (k : Passed (argumentIn (typeAt allowance c) c d) start (partFrom start end payload) at ts)
-            → FoundTold payload c (next-given (argumentIn (typeAt allowance c) c d) start (partFrom start end payload) at ts k t q .it) r
+        argument-found : (c : Scope) → TableOf payload notes tables c → (d : ℕ) → left ≡ maxDepth - d → (ts : List Ty)
+            (k : Passed (argumentIn (typeAt allowance c) c d) base msg at ts)
+            → FoundTypeTold payload c (next-given (argumentIn (typeAt allowance c) c d) base msg at ts k t q .it) r
         unfolding argumentIn
         argument-found c s d deep ts k =
             let f = argumentIn (typeAt allowance c) c d in
-            let n = next f start (partFrom start end payload) at ts k t q in
-            let i = next-given f start (partFrom start end payload) at ts k t q in
-            p .is c s (n .first) (part-at payload start end a b ordered inside (piece-inside .0) (piece-inside .1) (n .first) (n .cuts)) d deep (i .it) (k .before) (i .between) (i .first)
+            let n = next f base msg at ts k t q in
+            let i = next-given f base msg at ts k t q in
+            p .is c s (n .first) (stands-entry argument-stands (n .cuts)) d deep (i .it) (k .before) (i .between) (i .first)
 
-        pub seeking-kept : {u v : ℕ} {nullable : Bool} {w : ℕ} → r ≡ found.Type u v nullable w → ArgumentFound payload starts ends tables start end left r
+        pub seeking-kept : {u v : ℕ} {nullable : Bool} {w : ℕ} → r ≡ found.Type u v nullable w → ArgumentFound payload notes tables base (base + length msg) left r
         seeking-kept {u} {v} {nullable} {w} e = record {
           inside = p .inside;
-          falls = falls-more left (start + a) (start + b) start end (omega (arith, seeking-in)) r (p .falls);
+          falls =
+              let ends = body-ends st a b (seeking-in .0) (seeking-in .1) in
+              falls-more left (base + a) (base + a + length (take (b - a) (drop a msg))) base (base + length msg) (omega (arith, seeking-in)) r (p .falls);
           is = λ c s m h ms i d deep ts l n j.
               let f = argumentIn (typeAt allowance c) c d in
               let k = g .passed c s m h ms i d deep ts l n j in
-              let it = subst (FoundTold payload c (next-given f start (partFrom start end payload) at ts k t q .it)) e (argument-found c s d deep ts k) in
-              let told : FoundTold payload c (firstOf ts) (found.Type u v nullable w) = (it .0, it .1, passed-kept f start (partFrom start end payload) at ts k t q (it .2)) in
-              subst (FoundTold payload c (firstOf ts)) (sym e) told;
+              let it = subst (FoundTypeTold payload c (next-given f base msg at ts k t q .it)) e (argument-found c s d deep ts k) in
+              let told : FoundTypeTold payload c (firstOf ts) (found.Type u v nullable w) = (it .0, it .1, passed-kept f base msg at ts k t q (it .2)) in
+              subst (FoundTypeTold payload c (firstOf ts)) (sym e) told;
         }
 
-        pub seeking-on : r ≡ found.Nothing → Seeking payload starts ends tables start end left b
+        pub seeking-on : r ≡ found.Nothing → Seeking payload notes tables msg base left b
         seeking-on e = record {
           passed = λ c s m h ms i d deep ts l n j.
               let f = argumentIn (typeAt allowance c) c d in
               let k = g .passed c s m h ms i d deep ts l n j in
-              passed-dropped f start (partFrom start end payload) at ts k t q
-              (subst (FoundTold payload c (next-given f start (partFrom start end payload) at ts k t q .it)) e (argument-found c s d deep ts k));
+              passed-dropped f base msg at ts k t q
+              (subst (FoundTypeTold payload c (next-given f base msg at ts k t q .it)) e (argument-found c s d deep ts k));
         }

@@ -10,10 +10,10 @@ use lib.ListN.{getElem?}
 use Rattle.foundation.specs.Choices.{if_then_else_, ifSome}
 use Rattle.foundation.specs.Results.{Res, ok, refused}
 use Rattle.foundation.specs.Texts.{Text}
+use Rattle.fields.specs.Fields.{Type·argument, Type·nullable, Type·class-name}
 use Rattle.wire.specs.Wire.{Message}
 use Rattle.wire.specs.Messages.{index, flag, message, messages}
-use Rattle.schema.specs.Fields.{Type·argument, Type·nullable, Type·class-name}
-use Rattle.rows.specs.Declarations.{Ty, typesOf}
+use Rattle.declaration_rows.specs.Declarations.{Ty, typesOf}
 use Rattle.schema.specs.Reading.{Read, pure, _>>=_, lift, enter, kept, Scope, classNameIn, allowance}
 use Rattle.schema.specs.Types.{Walk, maxDepth, resolveAt, typeIn, argumentIn, parseAt, typeAt}
 use Rattle.schema.proofs.FoundLaws.{never-given, bind-given, first-same}

@@ -10,6 +10,7 @@ use lib.Dec.{eqb}
 use lib.ListN.{length}
 use Rattle.foundation.specs.Choices.{ifSome}
 use Rattle.foundation.specs.Results.{ok, Part, _from_}
+use Rattle.fields.specs.Fields.{Type·argument, Type·nullable, Type·class-name}
 use Rattle.wire.specs.Wire.{Value, field, readField, Message, cut}
 use Rattle.wire.specs.Messages.{values, firstOf, asVarint, as32, varintOf, index, flag, bodiesOf, cutAll, messages}
 use Rattle.wire.specs.Told.{restOf, valueOf, FieldTold, numberOf, pieceOf}
@@ -24,7 +25,6 @@ use Rattle.messages.specs.declared.Indexed.{Indexed}
 use Rattle.messages.specs.declared.Indexed.the-variants as indexed
 use Rattle.wire.proofs.WalkLaws.{Leads, leads-start, leads-next, leads-never, leads-end, values-found, values-passed}
 use Rattle.messages.proofs.FindLaws.{as-number, as-piece}
-use Rattle.schema.specs.Fields.{Type·argument, Type·nullable, Type·class-name}
 use Rattle.schema.specs.HeadTold.{isBody, anyOf, NameKnown, FlagKnown, ArgumentsKnown, Known, HeadTold}
 use Rattle.schema.specs.declared.head.Seen.{Seen}
 use Rattle.schema.specs.declared.head.TypeHead.{TypeHead}

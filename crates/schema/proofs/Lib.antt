@@ -11,6 +11,9 @@ pub mod EntryLaws
 pub mod TableLaws
 pub mod CountLaws
 pub mod ListLaws
+pub mod StandsLaws
 pub mod FoundLaws
 pub mod GivenLaws
 pub mod HeadLaws
+pub mod FlagLaws
+pub mod ReceiverLaws

@@ -19,9 +19,9 @@ use Rattle.sheet.specs.Rows.{num, bit, oneIf, bodyBytes, bodyText, cellText}
 use Rattle.sheet.specs.Put.{PutCells, PutHead}
 use Rattle.sheet.specs.declared.State.{State}
 use Rattle.sheet.proofs.PutLaws.{head-then}
-use Rattle.rows.specs.Rows.{named}
+use Rattle.declaration_rows.specs.Rows.{named}
 use Rattle.schema.specs.Told.{nameLimit}
-use Rattle.rows.proofs.WrittenLaws.{name-text}
+use Rattle.declaration_rows.proofs.WrittenLaws.{name-text}
 
 module _ (payload d2 : List ℕ) (n : Name) where
   pub cell-length : length payload ≤ 32768 → length d2 ≤ 32768 → length (cellText (named (nameText payload d2 n))) ≤ nameLimit

@@ -9,15 +9,15 @@ use native.Mathlib.Omega.{arith}
 use lib.ListN.{length, take, drop, length-take, length-drop}
 use Rattle.foundation.specs.Results.{ok}
 use Rattle.foundation.specs.Texts.{Text}
+use Rattle.fields.specs.Fields.{Type·argument, Type·nullable, Type·class-name}
 use Rattle.wire.specs.Wire.{Message}
 use Rattle.wire.specs.Messages.{flag, messages}
 use Rattle.wire.specs.declared.WireError.{WireError}
 use Rattle.sheet.specs.Rows.{num, bit, row}
-use Rattle.schema.specs.Fields.{Type·argument, Type·nullable, Type·class-name}
-use Rattle.rows.specs.Declarations.{noTypes, andType, Ty, typesOf}
+use Rattle.declaration_rows.specs.Declarations.{noTypes, andType, Ty, typesOf}
 use Rattle.schema.specs.Reading.{pure, _>>=_, lift, kept, Scope, classNameIn, allowance}
 use Rattle.schema.specs.Types.{argumentIn, parseAt, typeAt}
-use Rattle.rows.specs.Rows.{named, argumentRole, typesRows}
+use Rattle.declaration_rows.specs.Rows.{named, argumentRole, typesRows}
 use Rattle.schema.specs.Told.{refusal}
 use Rattle.schema.specs.declared.Stop.the-variants as stop
 use Rattle.schema.proofs.TypeNext.{type-next}

@@ -1,6 +1,7 @@
 -- The types that a reading enters are those in what it gives, and those are the rows of kind 6.
 -- Assumes nothing.
 use mathlib.Core.Path.{_≡_, refl}
+use mathlib.Core.Bool.{Bool, true, false}
 use mathlib.Core.List.{List, [], _∷_, _++_, map}
 use mathlib.Core.Option.{Option, none, some}
 use Prim.Native.Nat.{ℕ, zero, suc, _+_}
@@ -17,7 +18,7 @@ use Rattle.wire.specs.Wire.{Message}
 use Rattle.wire.specs.Messages.{index, message, messages}
 use Rattle.names.specs.Names.{Names, string, qualifiedName}
 use Rattle.sheet.specs.Rows.{Row}
-use Rattle.rows.specs.Declarations.{Types, noTypes, andType, Ty, typesOf, Signature, Parameter, Constructor, Function, Property}
+use Rattle.declaration_rows.specs.Declarations.{Types, noTypes, andType, Ty, typesOf, Signature, Parameter, Constructor, Function, Property}
 use Rattle.schema.specs.Reading.{Read, pure, _>>=_, lift, enter, keep, kept, Scope, scope, nameIn, classNameIn, allowance}
 use Rattle.schema.specs.Types.{Walk, maxDepth, resolveAt, typeIn, argumentIn, parseAt, typeAt, declaredType, noTable, typeTableIn}
 use Rattle.schema.specs.Members.{
@@ -33,11 +34,16 @@ use Rattle.schema.specs.Members.{
   constructorIn,
   functionIn,
   propertyIn,
-  membersIn,
-  classBody,
-  packageBody,
+  Head,
+  headIn,
+  constructorsIn,
+  functionField,
+  propertyField,
+  listsIn,
+  afterTable,
+  bodyIn,
 }
-use Rattle.rows.specs.Rows.{
+use Rattle.declaration_rows.specs.Rows.{
   argumentRole,
   typesRows,
   typeRows,
@@ -243,38 +249,43 @@ module _ (s : Scope) where
       enters-after (quiet-ofSignature (quiet-signatureIn s _ _) signature) λ setter.
       enters-bind (enters-declaredType s _ _ m) λ type. enters-pure _ (omega arith)
 
--- the constructors' types were entered before
-pub enters-membersIn : (s : Scope) (name : Option Text) (flags : ℕ) (constructors : List Constructor) (function property : ℕ)
-    (m : Message) {n : ℕ} → n ≡ sizeOfAll constructorSize constructors
-    → Enters n declarationsSize (membersIn s name flags constructors function property m)
-unfolding membersIn
-enters-membersIn s name flags constructors function property m e =
-    enters-bind (enters-listIn (enters-functionIn s) function m) λ functions.
-    enters-bind (enters-listIn (enters-propertyIn s) property m) λ properties. enters-pure _ (omega arith)
+module _ (s : Scope) (class : Bool) (m : Message) where
+  quiet-headIn : Quiet (headIn class s m)
+  quiet-headIn = go class
+    where
+      go : (class : Bool) → Quiet (headIn class s m)
+      go true = enters-after (quiet-classNameIn s _ m) λ name. enters-pure _ refl
+      go false = enters-pure _ refl
 
-pub enters-classBody : (names : Names) (m : Message) → Enters 0 declarationsSize (classBody names m)
-unfolding classBody
-enters-classBody names m =
-    enters-after (quiet-typeTableIn _ m) λ table.
-    enters-after (quiet-classNameIn (scope names table) _ m) λ name.
-    enters-bind (enters-listIn (enters-constructorIn (scope names table)) _ m) λ constructors.
-    enters-membersIn (scope names table) name _ constructors _ _ m (zero-add _)
+  enters-constructorsIn : Enters 0 (sizeOfAll constructorSize) (constructorsIn class s m)
+  enters-constructorsIn = go class
+    where
+      go : (class : Bool) → Enters 0 (sizeOfAll constructorSize) (constructorsIn class s m)
+      go true = enters-listIn (enters-constructorIn s) _ m
+      go false = enters-pure [] refl
 
-pub enters-packageBody : (names : Names) (m : Message) → Enters 0 declarationsSize (packageBody names m)
-unfolding packageBody
-enters-packageBody names m = enters-after (quiet-typeTableIn _ m) λ table. enters-membersIn (scope names table) none _ [] _ _ m refl
+  enters-listsIn : (h : Head) → Enters 0 declarationsSize (listsIn class h s m)
+  unfolding listsIn
+  enters-listsIn h =
+      enters-bind enters-constructorsIn λ constructors.
+      enters-bind (enters-listIn (enters-functionIn s) (functionField class) m) λ functions.
+      enters-bind (enters-listIn (enters-propertyIn s) (propertyField class) m) λ properties. enters-pure _ (omega arith)
+
+  pub enters-afterTable : Enters 0 declarationsSize (afterTable class s m)
+  unfolding afterTable
+  enters-afterTable = enters-after quiet-headIn enters-listsIn
+
+pub enters-bodyIn : (class : Bool) (names : Names) (m : Message) → Enters 0 declarationsSize (bodyIn class names m)
+unfolding bodyIn
+enters-bodyIn class names m = enters-after (quiet-typeTableIn _ m) λ table. enters-afterTable (scope names table) class m
 
 module _ {A : Type 0} {size : A → ℕ} {m : Read A} (h : Enters 0 size m) where
   pub entered : (l : ℕ) → Gives (λ r. size (r .0) + r .1 ≡ l) (m l)
   entered l = gives-weaken _ _ (m l) (h .at l) λ r p. omega arith
 
 -- The types that a class or package enters are those in its declarations.
-module _ (names : Names) (m : Message) (l : ℕ) where
-  pub class-enters : Gives (λ r. declarationsSize (r .0) + r .1 ≡ l) (classBody names m l)
-  class-enters = entered (enters-classBody names m) l
-
-  pub package-enters : Gives (λ r. declarationsSize (r .0) + r .1 ≡ l) (packageBody names m l)
-  package-enters = entered (enters-packageBody names m) l
+pub body-enters : (class : Bool) (names : Names) (m : Message) (l : ℕ) → Gives (λ r. declarationsSize (r .0) + r .1 ≡ l) (bodyIn class names m l)
+body-enters class names m l = entered (enters-bodyIn class names m) l
 
 -- Each type is a row of kind 6, and no other row is.
 pub count-append : (k : ℕ) (xs ys : List Row) → countKind k (xs ++ ys) ≡ countKind k xs + countKind k ys

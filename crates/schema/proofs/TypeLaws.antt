@@ -24,10 +24,10 @@ use Rattle.messages.specs.declared.Embedded.{Embedded}
 use Rattle.messages.specs.declared.Embedded.the-variants as embedded
 use Rattle.sheet.specs.Rows.{Row}
 use Rattle.sheet.specs.declared.State.{State}
-use Rattle.rows.specs.Declarations.{Ty}
+use Rattle.declaration_rows.specs.Declarations.{Ty}
 use Rattle.schema.specs.Reading.{Read, pure, _>>=_, Scope, allowance}
 use Rattle.schema.specs.Types.{maxDepth, resolveAt, typeIn, typeAt, declaredType}
-use Rattle.schema.specs.Told.{Lent, Scoped, Ready, Spends, WalkedSpends, PickedSpends, WalkedTold, PickedTold}
+use Rattle.schema.specs.Told.{Lent, entriesIn, Scoped, Ready, Spends, WalkedSpends, PickedSpends, WalkedTold, PickedTold}
 use Rattle.schema.specs.TypesTold.{orNullable, rowsIn, pickedOf, EntryIs, EntryTold, ParseTold, ResolveTold, TypeInTold, DeclaredTold}
 use Rattle.schema.specs.declared.Stop.the-variants as stop
 use Rattle.schema.specs.declared.Walked.{Walked}
@@ -150,7 +150,7 @@ module _ (e : Lent) (i left role : ℕ) (s : State) where
   pub resolve-none-left : left ≡ 0 → {S T : List ℕ} → ResolveTold e i left role s picked.Dropped S S T T
   resolve-none-left h = record { spends = tt; is = λ c o d l. (resolve-deep c d i (s .types) (omega arith), refl, refl) }
 
-  module _ {x : Piece} (t : EntryTold (e .payload) (e .entryStarts) (e .entryEnds) (e .tables .types) i x) where
+  module _ {x : Piece} (t : EntryTold (e .payload) (entriesIn (e .tables) (e .notes)) (e .tables .types) i x) where
     found : {y : Piece} → x ≡ y → (c : Scope) → Scoped e c → EntryIs (e .payload) (getElem? (c .table .types) i) y
     found g c o = subst (EntryIs (e .payload) (getElem? (c .table .types) i)) g (t .is (c .table .types) (o .entries))
 

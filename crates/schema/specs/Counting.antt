@@ -6,7 +6,7 @@ use Prim.Native.Nat.{ℕ, suc, _+_}
 use lib.Dec.{eqb}
 use Rattle.foundation.specs.Choices.{if_then_else_, ifSome}
 use Rattle.sheet.specs.Rows.{Row}
-use Rattle.rows.specs.Declarations.{Types, noTypes, andType, Ty, Parameter, Constructor, Function, Property, Declarations}
+use Rattle.declaration_rows.specs.Declarations.{Types, noTypes, andType, Ty, Parameter, Constructor, Function, Property, Declarations}
 
 -- of one that may not be there
 abbrev pub sizeIfSome : {A : Type 0} → (A → ℕ) → Option A → ℕ

@@ -5,6 +5,7 @@ use mathlib.Core.Bool.{Bool, true, false}
 use mathlib.Core.List.{List, [], _∷_}
 use Prim.Native.Nat.{ℕ}
 use Rattle.foundation.specs.Results.{ok, Part, _from_}
+use Rattle.fields.specs.Fields.{Type·argument, Type·nullable, Type·class-name}
 use Rattle.wire.specs.Wire.{Message, cut}
 use Rattle.wire.specs.Messages.{index, flag}
 use Rattle.messages.specs.Asked.{indexTold, bodies}
@@ -12,7 +13,6 @@ use Rattle.wire.specs.declared.Piece.{Piece}
 use Rattle.wire.specs.declared.Piece.the-variants as piece
 use Rattle.messages.specs.declared.Indexed.{Indexed}
 use Rattle.messages.specs.declared.Indexed.the-variants as indexed
-use Rattle.schema.specs.Fields.{Type·argument, Type·nullable, Type·class-name}
 use Rattle.schema.specs.declared.head.Seen.{Seen}
 use Rattle.schema.specs.declared.head.TypeHead.{TypeHead}
 

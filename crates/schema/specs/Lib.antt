@@ -1,4 +1,3 @@
-pub mod Fields
 pub mod Reading
 pub mod Types
 pub mod Members
@@ -7,6 +6,7 @@ pub mod Told
 pub mod TypesTold
 pub mod TableTold
 pub mod MembersTold
-pub mod FoundTold
+pub mod PlacesTold
 pub mod ListsTold
 pub mod HeadTold
+pub mod ReceiversTold

@@ -1,6 +1,6 @@
 -- Parameters, constructors, functions, properties, and the bodies of classes and packages, each read in document 01's order.
 -- Assumes nothing.
-use mathlib.Core.Bool.{Bool, not, _||_}
+use mathlib.Core.Bool.{Bool, true, false, not, _||_}
 use mathlib.Core.List.{List, []}
 use mathlib.Core.Option.{Option, none, some}
 use Prim.Native.Nat.{ℕ, _/_, _%_, _^_}
@@ -8,54 +8,11 @@ use lib.Dec.{eqb}
 use Rattle.foundation.specs.Choices.{ifSome, isSome, mapOption, orElse, bothOf}
 use Rattle.foundation.specs.Results.{Res, ok, refused}
 use Rattle.foundation.specs.Texts.{Text, ascii}
+use Rattle.fields.specs.Fields.{Class·flags, Class·fq-name, Class·constructor, Class·function, Class·property, Class·type-table, Package·function, Package·property, Package·type-table, Constructor·flags, Constructor·value-parameter, Constructor·constructor-signature, Function·name, Function·return-type, Function·receiver-type, Function·value-parameter, Function·return-type-id, Function·receiver-type-id, Function·flags, Function·method-signature, Property·name, Property·return-type, Property·receiver-type, Property·getter-flags, Property·setter-flags, Property·return-type-id, Property·receiver-type-id, Property·flags, Property·property-signature, ValueParameter·flags, ValueParameter·name, ValueParameter·type, ValueParameter·vararg-element-type, ValueParameter·type-id, ValueParameter·vararg-element-type-id, JvmMethodSignature·name, JvmMethodSignature·desc, JvmFieldSignature·name, JvmFieldSignature·desc, JvmPropertySignature·field, JvmPropertySignature·getter, JvmPropertySignature·setter, omittedFlags, omittedSmallFlags}
 use Rattle.wire.specs.Wire.{Message}
 use Rattle.wire.specs.Messages.{value, varintOf, message, messages}
 use Rattle.names.specs.Names.{Names}
-use Rattle.schema.specs.Fields.{
-  Class·flags,
-  Class·fq-name,
-  Class·constructor,
-  Class·function,
-  Class·property,
-  Class·type-table,
-  Package·function,
-  Package·property,
-  Package·type-table,
-  Constructor·flags,
-  Constructor·value-parameter,
-  Constructor·constructor-signature,
-  Function·name,
-  Function·return-type,
-  Function·receiver-type,
-  Function·value-parameter,
-  Function·return-type-id,
-  Function·receiver-type-id,
-  Function·flags,
-  Function·method-signature,
-  Property·name,
-  Property·return-type,
-  Property·receiver-type,
-  Property·getter-flags,
-  Property·setter-flags,
-  Property·return-type-id,
-  Property·receiver-type-id,
-  Property·flags,
-  Property·property-signature,
-  ValueParameter·flags,
-  ValueParameter·name,
-  ValueParameter·type,
-  ValueParameter·vararg-element-type,
-  ValueParameter·type-id,
-  ValueParameter·vararg-element-type-id,
-  JvmMethodSignature·name,
-  JvmMethodSignature·desc,
-  JvmFieldSignature·name,
-  JvmFieldSignature·desc,
-  JvmPropertySignature·field,
-  JvmPropertySignature·getter,
-  JvmPropertySignature·setter,
-}
-use Rattle.rows.specs.Declarations.{Ty, Signature, signed, Parameter, Constructor, Function, Property, Declarations}
+use Rattle.declaration_rows.specs.Declarations.{Ty, Signature, signed, Parameter, Constructor, Function, Property, Declarations}
 use Rattle.schema.specs.Reading.{Read, pure, _>>=_, lift, kept, Scope, scope, nameIn, classNameIn}
 use Rattle.schema.specs.Types.{declaredType, typeTableIn}
 
@@ -63,13 +20,13 @@ use Rattle.schema.specs.Types.{declaredType, typeTableIn}
 abbrev pub bitOf : ℕ → ℕ → Bool
 bitOf n flags = eqb (flags / 2 ^ n % 2) 1
 
--- Omitted flags are 6 (departure: a property's are 518 in metadata.proto).
+-- Flags, or what omitted ones are.
 abbrev pub flagsIn : ℕ → Message → ℕ
-flagsIn n m = ifSome (varintOf n m) 6 λ flags. flags
+flagsIn n m = ifSome (varintOf n m) omittedFlags λ flags. flags
 
--- Omitted flags of parameters and accessors are 0.
+-- The same of parameters and accessors.
 abbrev pub smallFlagsIn : ℕ → Message → ℕ
-smallFlagsIn n m = ifSome (varintOf n m) 0 λ flags. flags
+smallFlagsIn n m = ifSome (varintOf n m) omittedSmallFlags λ flags. flags
 
 -- What `read` reads once there is a name; without one it is skipped before anything inside it is read (metadata.proto requires the
 -- name, and Kotlin's reader refuses the message).
@@ -177,20 +134,54 @@ propertyIn s m =
       type = type;
     })
 
--- functions, then properties
-unfoldable pub membersIn : Scope → Option Text → ℕ → List Constructor → ℕ → ℕ → Message → Read Declarations
-membersIn s name flags constructors function property m =
-    listIn (functionIn s) function m >>= λ functions.
-    listIn (propertyIn s) property m >>= λ properties.
-    pure (record { name = name; flags = flags; constructors = constructors; functions = functions; properties = properties })
+-- A class name and flags.
+pub record Head : Type 0 where
+  pub name : Option Text
+  pub flags : ℕ
 
-unfoldable pub classBody : Names → Message → Read Declarations
-classBody names m =
-    typeTableIn Class·type-table m >>= λ table.
-    classNameIn (scope names table) Class·fq-name m >>= λ name.
-    listIn (constructorIn (scope names table)) Class·constructor m >>= λ constructors.
-    membersIn (scope names table) name (flagsIn Class·flags m) constructors Class·function Class·property m
+abbrev pub head : Option Text → ℕ → Head
+head name flags = record { name = name; flags = flags }
 
--- A package has no class name, flags 6 and no constructors.
-unfoldable pub packageBody : Names → Message → Read Declarations
-packageBody names m = typeTableIn Package·type-table m >>= λ table. membersIn (scope names table) none 6 [] Package·function Package·property m
+-- A body is a class's (true) or a package's. A package has no class name, flags as if omitted and no constructors.
+abbrev pub headIn : Bool → Scope → Message → Read Head
+headIn true s m = classNameIn s Class·fq-name m >>= λ name. pure (head name (flagsIn Class·flags m))
+headIn false s m = pure (head none omittedFlags)
+
+abbrev pub constructorsIn : Bool → Scope → Message → Read (List Constructor)
+constructorsIn true s m = listIn (constructorIn s) Class·constructor m
+constructorsIn false s m = pure []
+
+-- where the functions, the properties and the type table stand
+abbrev pub functionField : Bool → ℕ
+functionField true = Class·function
+functionField false = Package·function
+
+abbrev pub propertyField : Bool → ℕ
+propertyField true = Class·property
+propertyField false = Package·property
+
+abbrev pub typeTableField : Bool → ℕ
+typeTableField true = Class·type-table
+typeTableField false = Package·type-table
+
+-- constructors, functions, properties
+unfoldable pub listsIn : Bool → Head → Scope → Message → Read Declarations
+listsIn class h s m =
+    constructorsIn class s m >>= λ constructors.
+    listIn (functionIn s) (functionField class) m >>= λ functions.
+    listIn (propertyIn s) (propertyField class) m >>= λ properties.
+    pure (record {
+      name = h .name;
+      flags = h .flags;
+      constructors = constructors;
+      functions = functions;
+      properties = properties;
+    })
+
+-- what follows the type table
+unfoldable pub afterTable : Bool → Scope → Message → Read Declarations
+afterTable class s m = headIn class s m >>= λ h. listsIn class h s m
+
+-- a whole body: its type table is read first
+unfoldable pub bodyIn : Bool → Names → Message → Read Declarations
+bodyIn class names m = typeTableIn (typeTableField class) m >>= λ table. afterTable class (scope names table) m

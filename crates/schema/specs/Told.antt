@@ -4,15 +4,16 @@ use mathlib.Core.Path.{_≡_}
 use mathlib.Core.Bool.{true}
 use mathlib.Core.List.{List}
 use mathlib.Core.Option.{Option, none, some}
-use Prim.Native.Nat.{ℕ, _+_, _*_, _^_, _≤_}
-use lib.ListN.{length, getD, getElem?}
+use Prim.Native.Nat.{ℕ, _+_, _*_, _/_, _%_, _^_, _≤_}
+use lib.ListN.{length, drop, getD, getElem?}
 use Rattle.foundation.specs.Results.{Res, ok, refused, Cause, tooManyTypes, _from_}
 use Rattle.wire.specs.Wire.{Message, cut}
 use Rattle.wire.specs.Messages.{as32}
 use Rattle.wire.specs.Told as wire
 use Rattle.characters.specs.Characters.{partFrom}
 use Rattle.names.specs.Names.{Names, stringsFrom, d2String, endsFit}
-use Rattle.names.specs.Index.{IndexOf}
+use Rattle.names.specs.Index.{startOf, endOf}
+use Rattle.lookup.specs.Lookups.{NotesOf}
 use Rattle.sheet.specs.Rows.{Row}
 use Rattle.sheet.specs.Put.{PutRows}
 use Rattle.sheet.specs.declared.State.{State}
@@ -36,29 +37,21 @@ placeOf TooManyTypes = 0
 abbrev pub refusal : {A : Type 0} → Stop → Res A
 refusal stop = refused (causeOf stop) (placeOf stop)
 
--- What is lent to every function: the decoded bytes; d2 and where its strings end; the index of the name table's records; where the
--- type table's entries stand among the decoded bytes.
+-- What is lent to every function: the decoded bytes; d2 and where its strings end; the index of the name table's records, and after it
+-- where the type table's entries stand among the decoded bytes.
 pub record Lent : Type 0 where
   pub payload : List ℕ
   pub d2 : List ℕ
   pub ends : List ℕ
-  pub starts : List ℕ
-  pub stops : List ℕ
-  pub firsts : List ℕ
-  pub entryStarts : List ℕ
-  pub entryEnds : List ℕ
+  pub notes : List ℕ
   pub tables : Tables
 
-abbrev pub lent : List ℕ → List ℕ → List ℕ → List ℕ → List ℕ → List ℕ → List ℕ → List ℕ → Tables → Lent
-lent payload d2 ends starts stops firsts entryStarts entryEnds tables = record {
+abbrev pub lent : List ℕ → List ℕ → List ℕ → List ℕ → Tables → Lent
+lent payload d2 ends notes tables = record {
   payload = payload;
   d2 = d2;
   ends = ends;
-  starts = starts;
-  stops = stops;
-  firsts = firsts;
-  entryStarts = entryStarts;
-  entryEnds = entryEnds;
+  notes = notes;
   tables = tables;
 }
 
@@ -68,23 +61,31 @@ pub record EntryAt (payload : List ℕ) (start end : ℕ) (m : Message) : Type 0
   pub inside : end ≤ length payload
   pub cuts : cut (_from_ start (partFrom start end payload)) ≡ ok m
 
+-- A message stands at base among the decoded bytes.
+pub record Stands (payload msg : List ℕ) (base : ℕ) : Type 0 where
+  pub inside : base + length msg ≤ length payload
+  pub is : msg ≡ partFrom base (base + length msg) payload
+
 -- where each entry of the type table stands
-pub record EntriesOf (payload starts ends : List ℕ) (count : ℕ) (types : List Message) : Type 0 where
+pub record EntriesOf (payload entries : List ℕ) (count : ℕ) (types : List Message) : Type 0 where
   pub many : length types ≡ count
-  pub starts-long : count ≤ length starts
-  pub ends-long : count ≤ length ends
-  pub each : (i : ℕ) (m : Message) → getElem? types i ≡ some m → EntryAt payload (getD starts i 0) (getD ends i 0) m
+  pub long : count ≤ length entries
+  pub each : (i : ℕ) (m : Message) → getElem? types i ≡ some m → EntryAt payload (startOf (getD entries i 0)) (endOf (getD entries i 0)) m
+
+-- they are noted after the records
+abbrev pub entriesIn : Tables → List ℕ → List ℕ
+entriesIn tables notes = drop (3 * tables .records) notes
 
 -- The index of a name table with its strings of d2.
-pub record NamesOf (payload d2 ends starts stops firsts : List ℕ) (count : ℕ) (n : Names) : Type 0 where
+pub record NamesOf (payload d2 ends notes : List ℕ) (count : ℕ) (n : Names) : Type 0 where
   pub strings : n .d2 ≡ d2String (stringsFrom 0 ends d2)
   pub fit : endsFit 0 ends (length d2) ≡ true
-  pub records : IndexOf payload starts stops firsts count (n .records)
+  pub records : NotesOf payload notes count (n .records)
 
 -- What is lent is the scope's: the index of its names, its type table.
 pub record Scoped (e : Lent) (s : Scope) : Type 0 where
-  pub names : NamesOf (e .payload) (e .d2) (e .ends) (e .starts) (e .stops) (e .firsts) (e .tables .records) (s .names)
-  pub entries : EntriesOf (e .payload) (e .entryStarts) (e .entryEnds) (e .tables .types) (s .table .types)
+  pub names : NamesOf (e .payload) (e .d2) (e .ends) (e .notes) (e .tables .records) (s .names)
+  pub entries : EntriesOf (e .payload) (entriesIn (e .tables) (e .notes)) (e .tables .types) (s .table .types)
   pub nullable : s .table .firstNullable ≡ as32 (e .tables .«first_nullable»)
 
 -- How many bytes a name takes at most, and a type's record.

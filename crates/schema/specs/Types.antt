@@ -8,18 +8,10 @@ use lib.Dec.{ltb, leb}
 use lib.ListN.{getElem?}
 use Rattle.foundation.specs.Choices.{if_then_else_, ifSome}
 use Rattle.foundation.specs.Results.{refused, tooManyTypes}
+use Rattle.fields.specs.Fields.{Type·argument, Type·nullable, Type·class-name, Type·Argument·type, Type·Argument·type-id, TypeTable·type, TypeTable·first-nullable}
 use Rattle.wire.specs.Wire.{Message}
 use Rattle.wire.specs.Messages.{index, flag, message, messages}
-use Rattle.schema.specs.Fields.{
-  Type·argument,
-  Type·nullable,
-  Type·class-name,
-  Type·Argument·type,
-  Type·Argument·type-id,
-  TypeTable·type,
-  TypeTable·first-nullable,
-}
-use Rattle.rows.specs.Declarations.{Ty, typesOf}
+use Rattle.declaration_rows.specs.Declarations.{Ty, typesOf}
 use Rattle.schema.specs.Reading.{Read, pure, _>>=_, lift, enter, kept, TypeTable, Scope, classNameIn, allowance}
 
 -- lookups at this depth or deeper yield no type

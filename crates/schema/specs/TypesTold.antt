@@ -13,10 +13,10 @@ use Rattle.wire.specs.declared.Piece.{Piece}
 use Rattle.wire.specs.declared.Piece.the-variants as piece
 use Rattle.sheet.specs.Rows.{Row}
 use Rattle.sheet.specs.declared.State.{State}
-use Rattle.rows.specs.Declarations.{Ty}
+use Rattle.declaration_rows.specs.Declarations.{Ty}
 use Rattle.schema.specs.Reading.{Scope, allowance}
 use Rattle.schema.specs.Types.{maxDepth, resolveAt, typeIn, typeAt, declaredType}
-use Rattle.rows.specs.Rows.{typeRows}
+use Rattle.declaration_rows.specs.Rows.{typeRows}
 use Rattle.schema.specs.Told.{Lent, Scoped, WalkedSpends, PickedSpends, WalkedTold, PickedTold, EntriesOf}
 use Rattle.schema.specs.declared.Walked.{Walked}
 use Rattle.schema.specs.declared.Walked.the-variants as walked
@@ -50,8 +50,8 @@ abbrev pub EntryBelow : ℕ → ℕ → Piece → Type 0
 EntryBelow count i (piece.Body start end) = i < count
 EntryBelow count i piece.Nothing = Unit {0}
 
-pub record EntryTold (payload starts ends : List ℕ) (count i : ℕ) (r : Piece) : Type 0 where
-  pub is : (types : List Message) → EntriesOf payload starts ends count types → EntryIs payload (getElem? types i) r
+pub record EntryTold (payload entries : List ℕ) (count i : ℕ) (r : Piece) : Type 0 where
+  pub is : (types : List Message) → EntriesOf payload entries count types → EntryIs payload (getElem? types i) r
   pub inside : EntryInside payload r
   pub below : EntryBelow count i r
 

@@ -4,12 +4,15 @@ ghost use mathlib.Core.Bool.{false};
 ghost use mathlib.Core.List.{List, [], _∷_};
 ghost use Prim.Native.Nat.{ℕ};
 ghost use Rattle.foundation.specs.Results.{ok, _from_};
+ghost use Rattle.fields.specs.Fields.{Type·argument, Type·nullable, Type·class-name};
 ghost use Rattle.wire.specs.Wire.{field, Message, cut};
 ghost use Rattle.wire.specs.Messages.{varintOf, index, flag};
 ghost use Rattle.wire.specs.Told.{valueOf, numberOf, pieceOf};
 ghost use Rattle.messages.specs.Asked.{numberTold, indexTold};
-ghost use Rattle.schema.specs.Fields.{Type·argument, Type·nullable, Type·class-name};
 ghost use Rattle.schema.specs.HeadTold.{isBody, Known, HeadTold};
+use fields::TYPE_ARGUMENT;
+use fields::TYPE_CLASS_NAME;
+use fields::TYPE_NULLABLE;
 use messages::Found;
 use messages::Indexed;
 use wire::FieldStep;
@@ -111,14 +114,13 @@ impl Seen {
         }
     }
 
-    // By the field numbers of metadata.proto's Type: argument, nullable, class_name.
     fn with_field(self, number: u32, value: WireValue) -> Seen
         ensures { λ r. ⌜ ((base : ℕ) (s : List ℕ) (m rest : Message) → Known self m (field number (valueOf base s value) ∷ rest) → Known r m rest) ⌝ }
     {
         match number {
-            2 => self.with_argument(value),
-            3 => self.with_flag(value),
-            6 => self.with_name(value),
+            TYPE_ARGUMENT => self.with_argument(value),
+            TYPE_NULLABLE => self.with_flag(value),
+            TYPE_CLASS_NAME => self.with_name(value),
             _ => self,
         }
     }

@@ -8,6 +8,14 @@ pub mod head; // head.rt: a type's own fields by one walk
 pub mod table; // table.rt: where the entries of the type table stand
 pub mod types; // types.rt: an entry of the type table, a nullable bit
 pub mod places; // places.rt: where the messages of types stand
+pub mod flags; // flags.rt: flags, with those that count where they are omitted
+pub mod receiver; // receiver.rt: whether a receiver is there
+
+// Look-ups at this depth or deeper yield no type: `maxDepth`.
+pub const MAX_DEPTH: usize = 64;
+
+// How many types one class may have: `allowance`.
+pub const ALLOWANCE: usize = 2048;
 
 // The sizes of what is lent beside the slices: how many records the name table has, how many entries the type table, and from which of
 // these on all are nullable; 2^32 or more: none.
@@ -15,6 +23,13 @@ pub struct Tables {
     pub records: usize,
     pub types: usize,
     pub first_nullable: u64,
+}
+
+// The two fields of a message in which a type may stand, inline or by its index in the type table, and the type's role on the sheet.
+pub struct TypeSlot {
+    pub inline: u32,
+    pub indexed: u32,
+    pub role: u8,
 }
 
 // Why a reading stops.
@@ -44,7 +59,7 @@ pub enum Listed {
 
 // Where the message of a type stands among the decoded bytes, whether it is nullable by its place in the type table, and what is left of
 // the depth there.
-pub enum Found {
+pub enum FoundType {
     Type {
         start: usize,
         end: usize,

@@ -23,26 +23,16 @@ pub fn name_in(
     number: u32,
     payload: &[u8],
     ends: &[u32],
-    starts: &[u32],
-    stops: &[u32],
-    firsts: &[u64],
+    notes: &[u64],
     records: usize,
 ) -> Name
-    ensures { λ r. ⌜ ((units : List ℕ) (s : Scope) → NamesOf (now (payload .entry)) units (now (ends .entry)) (now (starts .entry)) (now (stops .entry)) (now (firsts .entry)) records (s .names) → (m : Message) → cut (_from_ base (now (msg .entry))) ≡ ok m → (l : ℕ) → nameIn s number m l ≡ ok (nameText (now (payload .entry)) units r, l)) ⌝ }
+    ensures { λ r. ⌜ ((units : List ℕ) (s : Scope) → NamesOf (now (payload .entry)) units (now (ends .entry)) (now (notes .entry)) records (s .names) → (m : Message) → cut (_from_ base (now (msg .entry))) ≡ ok m → (l : ℕ) → nameIn s number m l ≡ ok (nameText (now (payload .entry)) units r, l)) ⌝ }
 {
     let found = index(&*msg, base, number);
     let Indexed::At { index } = found else {
         return absent();
     };
-    string(
-        &*payload,
-        &*starts,
-        &*stops,
-        &*firsts,
-        records,
-        &*ends,
-        index,
-    )
+    string(&*payload, &*notes, records, &*ends, index)
 }
 
 // The class name at an index that was found in a field.
@@ -51,26 +41,15 @@ pub fn class_name_at(
     payload: &[u8],
     d2: &[u16],
     ends: &[u32],
-    starts: &[u32],
-    stops: &[u32],
-    firsts: &[u64],
+    notes: &[u64],
     records: usize,
 ) -> Name
-    ensures { λ r. ⌜ ((s : Scope) → NamesOf (now (payload .entry)) (now (d2 .entry)) (now (ends .entry)) (now (starts .entry)) (now (stops .entry)) (now (firsts .entry)) records (s .names) → (k : ℕ) (m : Message) → index k m ≡ indexTold found → (l : ℕ) → classNameIn s k m l ≡ ok (nameText (now (payload .entry)) (now (d2 .entry)) r, l)) ⌝ }
+    ensures { λ r. ⌜ ((s : Scope) → NamesOf (now (payload .entry)) (now (d2 .entry)) (now (ends .entry)) (now (notes .entry)) records (s .names) → (k : ℕ) (m : Message) → index k m ≡ indexTold found → (l : ℕ) → classNameIn s k m l ≡ ok (nameText (now (payload .entry)) (now (d2 .entry)) r, l)) ⌝ }
 {
     let Indexed::At { index } = found else {
         return absent();
     };
-    qualified_name(
-        &*payload,
-        &*starts,
-        &*stops,
-        &*firsts,
-        records,
-        &*d2,
-        &*ends,
-        index,
-    )
+    qualified_name(&*payload, &*notes, records, &*d2, &*ends, index)
 }
 
 // The class name at the index in a field.
@@ -81,22 +60,11 @@ pub fn class_name_in(
     payload: &[u8],
     d2: &[u16],
     ends: &[u32],
-    starts: &[u32],
-    stops: &[u32],
-    firsts: &[u64],
+    notes: &[u64],
     records: usize,
 ) -> Name
-    ensures { λ r. ⌜ ((s : Scope) → NamesOf (now (payload .entry)) (now (d2 .entry)) (now (ends .entry)) (now (starts .entry)) (now (stops .entry)) (now (firsts .entry)) records (s .names) → (m : Message) → cut (_from_ base (now (msg .entry))) ≡ ok m → (l : ℕ) → classNameIn s number m l ≡ ok (nameText (now (payload .entry)) (now (d2 .entry)) r, l)) ⌝ }
+    ensures { λ r. ⌜ ((s : Scope) → NamesOf (now (payload .entry)) (now (d2 .entry)) (now (ends .entry)) (now (notes .entry)) records (s .names) → (m : Message) → cut (_from_ base (now (msg .entry))) ≡ ok m → (l : ℕ) → classNameIn s number m l ≡ ok (nameText (now (payload .entry)) (now (d2 .entry)) r, l)) ⌝ }
 {
     let found = index(&*msg, base, number);
-    class_name_at(
-        found,
-        &*payload,
-        &*d2,
-        &*ends,
-        &*starts,
-        &*stops,
-        &*firsts,
-        records,
-    )
+    class_name_at(found, &*payload, &*d2, &*ends, &*notes, records)
 }

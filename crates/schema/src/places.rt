@@ -1,47 +1,36 @@
 // Where the message of a type stands among the decoded bytes: a declaration's own type, and the first kept argument of a type. What a
-// reading has accepted is found again, and nothing is refused. What is told: specs/FoundTold.antt.
-ghost use Prim.Native.Nat.{_≤_};
+// reading has accepted is found again, and nothing is refused. What is told: specs/PlacesTold.antt.
+ghost use Prim.Native.Nat.{_+_, _≤_};
 ghost use lib.ListN.{length};
-ghost use Rattle.schema.specs.FoundTold.{EntryFound, PlaceFound, DeclaredFound, ArgumentFound};
-use crate::Found;
+ghost use Rattle.schema.specs.Told.{Stands};
+ghost use Rattle.schema.specs.PlacesTold.{EntryFound, PlaceFound, DeclaredFound, ArgumentFound};
+use crate::FoundType;
+use crate::MAX_DEPTH;
 use crate::Tables;
+use crate::TypeSlot;
 use crate::types::entry_at;
+use fields::TYPE_ARGUMENT;
+use fields::TYPE_ARGUMENT_TYPE;
+use fields::TYPE_ARGUMENT_TYPE_ID;
 use messages::Indexed;
 use messages::bytes;
 use messages::index;
 use messages::next_body;
 use wire::Piece;
 
-// Field numbers of metadata.proto's Type and Type.Argument.
-const ARGUMENT: u32 = 2;
-
-const ARGUMENT_TYPE: u32 = 2;
-
-const ARGUMENT_TYPE_ID: u32 = 3;
-
-// Look-ups at this depth or deeper yield no type.
-const MAX_DEPTH: usize = 64;
-
 // The type at an index of the type table.
-fn entry_place(
-    index: u32,
-    left: usize,
-    payload: &[u8],
-    entry_starts: &[u32],
-    entry_ends: &[u32],
-    tables: Tables,
-) -> Found
+fn entry_place(index: u32, left: usize, payload: &[u8], notes: &[u64], tables: Tables) -> FoundType
     requires { ⌜ length (now payload) ≤ 32768 ⌝ }
-    ensures { λ r. ⌜ EntryFound (now (payload .entry)) (now («entry_starts» .entry)) (now («entry_ends» .entry)) tables index left r ⌝ }
+    ensures { λ r. ⌜ EntryFound (now (payload .entry)) (now (notes .entry)) tables index left r ⌝ }
 {
     if left == 0 {
-        return Found::Nothing;
+        return FoundType::Nothing;
     }
-    let entry = entry_at(&*payload, &*entry_starts, &*entry_ends, tables.types, index);
+    let entry = entry_at(&*payload, &*notes, tables, index);
     let Piece::Body { start, end } = entry else {
-        return Found::Nothing;
+        return FoundType::Nothing;
     };
-    Found::Type {
+    FoundType::Type {
         start,
         end,
         nullable: tables.first_nullable <= index as u64,
@@ -51,26 +40,23 @@ fn entry_place(
 
 // The type in a message: inline in one field, else by its index in another. What is inline was cut when it was read.
 fn type_place(
-    payload: &[u8],
-    start: usize,
-    end: usize,
-    inline: u32,
-    indexed: u32,
+    msg: &[u8],
+    base: u32,
+    slot: TypeSlot,
     left: usize,
-    entry_starts: &[u32],
-    entry_ends: &[u32],
+    payload: &[u8],
+    notes: &[u64],
     tables: Tables,
-) -> Found
-    requires { ⌜ (start ≤ end) × (end ≤ length (now payload)) × (length (now payload) ≤ 32768) ⌝ }
-    ensures { λ r. ⌜ PlaceFound (now (payload .entry)) (now («entry_starts» .entry)) (now («entry_ends» .entry)) tables start end inline indexed left r ⌝ }
+) -> FoundType
+    requires { ⌜ Stands (now payload) (now msg) base × (length (now payload) ≤ 32768) ⌝ }
+    ensures { λ r. ⌜ PlaceFound (now (payload .entry)) (now (notes .entry)) tables base (base + length (now (msg .entry))) (slot .inline) (slot .indexed) left r ⌝ }
 {
-    let base = start as u32;
-    let inner = bytes(&payload[start..end], base, inline);
+    let inner = bytes(msg, base, slot.inline);
     match inner {
-        Piece::Body { start: a, end: b } => {
-            let first = start + a;
-            let last = start + b;
-            Found::Type {
+        Piece::Body { start, end } => {
+            let first = base as usize + start;
+            let last = base as usize + end;
+            FoundType::Type {
                 start: first,
                 end: last,
                 nullable: false,
@@ -78,78 +64,66 @@ fn type_place(
             }
         }
         Piece::Nothing => {
-            let found = index(&payload[start..end], base, indexed);
+            let found = index(msg, base, slot.indexed);
             let Indexed::At { index: i } = found else {
-                return Found::Nothing;
+                return FoundType::Nothing;
             };
-            entry_place(i, left, &*payload, &*entry_starts, &*entry_ends, tables)
+            entry_place(i, left, payload, notes, tables)
         }
     }
 }
 
-// A declaration's own type, in the message from start to end.
+// A declaration's own type, in the message that holds it.
 pub fn declared_place(
+    msg: &[u8],
+    base: u32,
+    slot: TypeSlot,
     payload: &[u8],
-    start: usize,
-    end: usize,
-    inline: u32,
-    indexed: u32,
-    entry_starts: &[u32],
-    entry_ends: &[u32],
+    notes: &[u64],
     tables: Tables,
-) -> Found
-    requires { ⌜ (start ≤ end) × (end ≤ length (now payload)) × (length (now payload) ≤ 32768) ⌝ }
-    ensures { λ r. ⌜ DeclaredFound (now (payload .entry)) (now («entry_starts» .entry)) (now («entry_ends» .entry)) tables start end inline indexed r ⌝ }
+) -> FoundType
+    requires { ⌜ Stands (now payload) (now msg) base × (length (now payload) ≤ 32768) ⌝ }
+    ensures { λ r. ⌜ DeclaredFound (now (payload .entry)) (now (notes .entry)) tables base (base + length (now (msg .entry))) (slot .inline) (slot .indexed) r ⌝ }
 {
-    type_place(
-        &*payload,
-        start,
-        end,
-        inline,
-        indexed,
-        MAX_DEPTH,
-        &*entry_starts,
-        &*entry_ends,
-        tables,
-    )
+    type_place(msg, base, slot, MAX_DEPTH, payload, notes, tables)
 }
 
-// The first kept argument of a type whose message stands from start to end; `left` is what is left of the depth at its arguments.
+// The first kept argument of a type, in its message; `left` is what is left of the depth at its arguments.
 pub fn first_argument(
-    payload: &[u8],
-    start: usize,
-    end: usize,
+    msg: &[u8],
+    base: u32,
     left: usize,
-    entry_starts: &[u32],
-    entry_ends: &[u32],
+    payload: &[u8],
+    notes: &[u64],
     tables: Tables,
-) -> Found
-    requires { ⌜ (start ≤ end) × (end ≤ length (now payload)) × (length (now payload) ≤ 32768) ⌝ }
-    ensures { λ r. ⌜ ArgumentFound (now (payload .entry)) (now («entry_starts» .entry)) (now («entry_ends» .entry)) tables start end left r ⌝ }
+) -> FoundType
+    requires { ⌜ Stands (now payload) (now msg) base × (length (now payload) ≤ 32768) ⌝ }
+    ensures { λ r. ⌜ ArgumentFound (now (payload .entry)) (now (notes .entry)) tables base (base + length (now (msg .entry))) left r ⌝ }
 {
-    let base = start as u32;
+    // An argument's role is not asked for here.
+    let slot = TypeSlot {
+        inline: TYPE_ARGUMENT_TYPE,
+        indexed: TYPE_ARGUMENT_TYPE_ID,
+        role: 0,
+    };
     let mut at = 0;
     loop {
-        let piece = next_body(&payload[start..end], base, ARGUMENT, at);
-        let Piece::Body { start: a, end: b } = piece else {
-            return Found::Nothing;
+        let piece = next_body(msg, base, TYPE_ARGUMENT, at);
+        let Piece::Body { start, end } = piece else {
+            return FoundType::Nothing;
         };
-        let first = start + a;
-        let last = start + b;
         let found = type_place(
-            &*payload,
-            first,
-            last,
-            ARGUMENT_TYPE,
-            ARGUMENT_TYPE_ID,
+            &msg[start..end],
+            base + start as u32,
+            slot,
             left,
-            &*entry_starts,
-            &*entry_ends,
+            payload,
+            notes,
             tables,
         );
-        let Found::Nothing = found else {
+        let FoundType::Nothing = found else {
             return found;
         };
-        at = b;
+        at = end;
     }
 }

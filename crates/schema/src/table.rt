@@ -4,12 +4,15 @@ ghost use mathlib.Core.Path.{_≡_};
 ghost use Prim.Native.Nat.{_^_, _≤_, _<_};
 ghost use lib.ListN.{length, set, drop};
 ghost use Rattle.foundation.specs.Results.{ok, _from_};
+ghost use Rattle.fields.specs.Fields.{TypeTable·first-nullable};
 ghost use Rattle.wire.specs.Wire.{cut, Message};
 ghost use Rattle.wire.specs.Messages.{as32, index};
 ghost use Rattle.wire.specs.Told.{restOf};
 ghost use Rattle.characters.specs.Characters.{partFrom};
-ghost use Rattle.schema.specs.Fields.{TypeTable·first-nullable};
+ghost use Rattle.names.specs.Index.{packed};
 ghost use Rattle.schema.specs.TableTold.{EntriesTold, TableTold, TypeIndexTold};
+use fields::TYPE_TABLE_FIRST_NULLABLE;
+use fields::TYPE_TABLE_TYPE;
 use messages::Checked;
 use messages::Embedded;
 use messages::Indexed;
@@ -17,13 +20,9 @@ use messages::check_from;
 use messages::index;
 use messages::message;
 use messages::next_body;
+use names::records::packed;
 use wire::Piece;
 use wire::WireError;
-
-// Field numbers of metadata.proto's TypeTable.
-const TYPE: u32 = 1;
-
-const FIRST_NULLABLE: u32 = 2;
 
 // No entry is nullable by its place.
 const NONE: u64 = 4294967296;
@@ -40,23 +39,22 @@ enum Entries {
     Refused { error: WireError },
 }
 
-fn put_entry(starts: &mut [u32], ends: &mut [u32], count: usize, start: u32, end: u32)
-    requires { ⌜ (count < length (now starts)) × (count < length (now ends)) ⌝ }
-    ensures { λ _. ⌜ (now (starts .exit) ≡ set (now (starts .entry)) count start) × (now (ends .exit) ≡ set (now (ends .entry)) count end) ⌝ }
+fn put_entry(notes: &mut [u64], count: usize, start: u32, end: u32)
+    requires { ⌜ count < length (now notes) ⌝ }
+    ensures { λ _. ⌜ now (notes .exit) ≡ set (now (notes .entry)) count (packed start end) ⌝ }
 {
-    starts[count] = start;
-    ends[count] = end;
+    notes[count] = packed(start, end);
 }
 
 // Cuts the entries of the type table in `bytes` from `at` on, and notes for each where it stands.
-fn note_entries(bytes: &[u8], at: usize, starts: &mut [u32], ends: &mut [u32]) -> Entries
+fn note_entries(bytes: &[u8], at: usize, notes: &mut [u64]) -> Entries
     requires { ⌜ length (now bytes) < 2 ^ 32 ⌝ }
-    ensures { λ r. ⌜ ((m : Message) → cut (restOf 0 (now (bytes .entry)) at) ≡ ok m → EntriesTold (now (bytes .entry)) m (now (starts .exit)) (now (ends .exit)) r) ⌝ }
+    ensures { λ r. ⌜ ((m : Message) → cut (restOf 0 (now (bytes .entry)) at) ≡ ok m → EntriesTold (now (bytes .entry)) m (now (notes .exit)) r) ⌝ }
 {
     let mut count: usize = 0;
     let mut i = at;
     loop {
-        let piece = next_body(&*bytes, 0, TYPE, i);
+        let piece = next_body(&*bytes, 0, TYPE_TABLE_TYPE, i);
         let Piece::Body { start, end } = piece else {
             return Entries::Noted { count };
         };
@@ -66,13 +64,10 @@ fn note_entries(bytes: &[u8], at: usize, starts: &mut [u32], ends: &mut [u32]) -
                 error: checked.error(),
             };
         };
-        if starts.len() <= count {
+        if notes.len() <= count {
             return Entries::NoRoom;
         }
-        if ends.len() <= count {
-            return Entries::NoRoom;
-        }
-        put_entry(starts, ends, count, start as u32, end as u32);
+        put_entry(notes, count, start as u32, end as u32);
         count += 1;
         i = end;
     }
@@ -82,7 +77,7 @@ fn note_entries(bytes: &[u8], at: usize, starts: &mut [u32], ends: &mut [u32]) -
 fn first_nullable(table: &[u8], base: u32) -> u64
     ensures { λ r. ⌜ ((m : Message) → cut (_from_ base (now (table .entry))) ≡ ok m → index TypeTable·first-nullable m ≡ as32 r) ⌝ }
 {
-    let found = index(&*table, base, FIRST_NULLABLE);
+    let found = index(&*table, base, TYPE_TABLE_FIRST_NULLABLE);
     let Indexed::At { index: first } = found else {
         return NONE;
     };
@@ -90,17 +85,11 @@ fn first_nullable(table: &[u8], base: u32) -> u64
 }
 
 // The type table from a place to another of the decoded bytes.
-fn note_table(
-    payload: &[u8],
-    start: usize,
-    end: usize,
-    starts: &mut [u32],
-    ends: &mut [u32],
-) -> TypeIndex
+fn note_table(payload: &[u8], start: usize, end: usize, notes: &mut [u64]) -> TypeIndex
     requires { ⌜ (start ≤ end) × (end ≤ length (now payload)) × (length (now payload) < 2 ^ 32) ⌝ }
-    ensures { λ r. ⌜ ((m : Message) → cut (_from_ start (partFrom start end (now (payload .entry)))) ≡ ok m → TableTold (now (payload .entry)) m (now (starts .exit)) (now (ends .exit)) r) ⌝ }
+    ensures { λ r. ⌜ ((m : Message) → cut (_from_ start (partFrom start end (now (payload .entry)))) ≡ ok m → TableTold (now (payload .entry)) m (now (notes .exit)) r) ⌝ }
 {
-    let entries = note_entries(&payload[..end], start, starts, ends);
+    let entries = note_entries(&payload[..end], start, notes);
     match entries {
         Entries::Noted { count } => {
             let first = first_nullable(&payload[start..end], start as u32);
@@ -112,14 +101,8 @@ fn note_table(
 }
 
 // The type table in a field of the message that is the decoded bytes from `at` on.
-pub fn index_types(
-    payload: &[u8],
-    at: usize,
-    number: u32,
-    starts: &mut [u32],
-    ends: &mut [u32],
-) -> TypeIndex
-    ensures { λ r. ⌜ ((m : Message) → cut (_from_ at (drop at (now (payload .entry)))) ≡ ok m → TypeIndexTold (now (payload .entry)) at number m (now (starts .exit)) (now (ends .exit)) r) ⌝ }
+pub fn index_types(payload: &[u8], at: usize, number: u32, notes: &mut [u64]) -> TypeIndex
+    ensures { λ r. ⌜ ((m : Message) → cut (_from_ at (drop at (now (payload .entry)))) ≡ ok m → TypeIndexTold (now (payload .entry)) at number m (now (notes .exit)) r) ⌝ }
 {
     if payload.len() < at {
         return TypeIndex::NoRoom;
@@ -129,13 +112,7 @@ pub fn index_types(
     }
     let table = message(&payload[at..], at as u32, number);
     match table {
-        Embedded::Inline { start, end } => note_table(
-            &*payload,
-            at + start,
-            at + end,
-            starts,
-            ends,
-        ),
+        Embedded::Inline { start, end } => note_table(&*payload, at + start, at + end, notes),
         Embedded::Refused { error } => TypeIndex::Refused { error },
         Embedded::Nothing => TypeIndex::Types {
             count: 0,

@@ -3,10 +3,13 @@
 ghost use mathlib.Core.Path.{_≡_};
 ghost use mathlib.Core.Bool.{_||_};
 ghost use Prim.Native.Nat.{_-_};
+ghost use Rattle.schema.specs.Told.{entriesIn};
 ghost use Rattle.schema.specs.TypesTold.{pickedOf, EntryTold};
 use crate::Picked;
+use crate::Tables;
 use crate::Walked;
 use foundation::wide;
+use names::records::RECORD_WORDS;
 use wire::Piece;
 
 pub fn less(n: usize) -> usize
@@ -37,21 +40,23 @@ pub fn picked(walked: Walked) -> Picked
 }
 
 // Where an entry of the type table stands, if there is one at the index.
-pub fn entry_at(payload: &[u8], starts: &[u32], ends: &[u32], count: usize, index: u32) -> Piece
-    ensures { λ r. ⌜ EntryTold (now (payload .entry)) (now (starts .entry)) (now (ends .entry)) count index r ⌝ }
+pub fn entry_at(payload: &[u8], notes: &[u64], tables: Tables, index: u32) -> Piece
+    ensures { λ r. ⌜ EntryTold (now (payload .entry)) (entriesIn tables (now (notes .entry))) (tables .types) index r ⌝ }
 {
     let i = wide(index);
-    if count <= i {
+    if tables.types <= i {
         return Piece::Nothing;
     }
-    if starts.len() <= i {
+    let records = tables.records;
+    if notes.len() / RECORD_WORDS < records {
         return Piece::Nothing;
     }
-    if ends.len() <= i {
+    if notes.len() - RECORD_WORDS * records <= i {
         return Piece::Nothing;
     }
-    let start = wide(starts[i]);
-    let end = wide(ends[i]);
+    let place = notes[RECORD_WORDS * records + i];
+    let start = (place % 4294967296) as usize;
+    let end = (place / 4294967296) as usize;
     if payload.len() < end {
         return Piece::Nothing;
     }

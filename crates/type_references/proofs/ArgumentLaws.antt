@@ -12,6 +12,7 @@ use lib.ListN.{length, take, drop, getElem?}
 use Rattle.foundation.specs.Choices.{isSome}
 use Rattle.foundation.specs.Results as Results
 use Rattle.foundation.specs.Results.{Res, ok, refused, Part, _from_}
+use Rattle.fields.specs.Fields.{Type·argument, Type·Argument·type, Type·Argument·type-id}
 use Rattle.wire.specs.Wire.{Message, cut}
 use Rattle.wire.specs.Messages.{as32, index, bytesOf, cutOption, message, messages}
 use Rattle.wire.specs.Told.{bodyOf}
@@ -26,12 +27,12 @@ use Rattle.messages.specs.declared.Embedded.the-variants as embedded
 use Rattle.wire.proofs.WalkLaws.{whole}
 use Rattle.characters.specs.Characters.{partFrom}
 use Rattle.characters.proofs.PartLaws.{part-part, part-short}
-use Rattle.schema.specs.Fields.{Type·argument, Type·Argument·type, Type·Argument·type-id}
-use Rattle.rows.specs.Declarations.{Ty}
+use Rattle.declaration_rows.specs.Declarations.{Ty}
 use Rattle.schema.specs.Reading.{Read, pure, keep, kept, Scope, allowance}
 use Rattle.schema.specs.Types.{maxDepth, typeIn, argumentIn, typeAt}
+use Rattle.schema.specs.Told.{entriesIn}
 use Rattle.schema.specs.TypesTold.{orNullable, EntryIs, EntryTold}
-use Rattle.schema.specs.FoundTold.{TableOf}
+use Rattle.schema.specs.PlacesTold.{TableOf}
 use Rattle.schema.specs.declared.Tables.{Tables}
 use Rattle.schema.proofs.TypeLaws.{resolve-nothing, resolve-deep, resolve-entry}
 use Rattle.schema.proofs.FoundLaws.{never-given, bind-given, first-same, Passed, next-is, passed-all, next, next-given}
@@ -165,34 +166,34 @@ module _ (c : Scope) (d : ℕ) (m : Message) (l : ℕ) (o : Option Ty) (b : ℕ)
         ap isSome (first-same (it .2))
 
 -- The same from what the code is told.
-module _ (payload starts ends : List ℕ) (tables : Tables) (msg : List ℕ) (base left : ℕ) {x : Piece} (t : BytesTold base msg Type·Argument·type x) where
+module _ (payload notes : List ℕ) (tables : Tables) (msg : List ℕ) (base left : ℕ) {x : Piece} (t : BytesTold base msg Type·Argument·type x) where
   bytes-are : {y : Piece} → x ≡ y → (m : Message) → cut (_from_ base msg) ≡ ok m → bytesOf Type·Argument·type m ≡ pieceTold base msg y
   bytes-are g m k = t .is m k ∙ ap (pieceTold base msg) g
 
-  pub kept-inline : {a b : ℕ} → x ≡ piece.Body a b → KeptTold payload starts ends tables msg base left true
+  pub kept-inline : {a b : ℕ} → x ≡ piece.Body a b → KeptTold payload notes tables msg base left true
   kept-inline {a} {b} g = record { is = λ c s m k d deep o l n e. body-kept c d m l o n e (bodyOf base msg a b) (bytes-are g m k) }
 
   module _ (g : x ≡ piece.Nothing) where
     not-inline : (m : Message) → cut (_from_ base msg) ≡ ok m → message Type·Argument·type m ≡ ok none
     not-inline m k = message-none Type·Argument·type m (bytes-are g m k)
 
-    pub kept-deep : left ≡ 0 → KeptTold payload starts ends tables msg base left false
+    pub kept-deep : left ≡ 0 → KeptTold payload notes tables msg base left false
     kept-deep h = record { is = λ c s m k d deep o l n e. deep-dropped c d m l o n e (not-inline m k) (omega arith) }
 
     module _ {y : Indexed} (i : (m : Message) → cut (_from_ base msg) ≡ ok m → index Type·Argument·type-id m ≡ indexTold y) where
-      pub kept-nowhere : y ≡ indexed.Nothing → KeptTold payload starts ends tables msg base left false
+      pub kept-nowhere : y ≡ indexed.Nothing → KeptTold payload notes tables msg base left false
       kept-nowhere h = record { is = λ c s m k d deep o l n e. none-dropped c d m l o n e (not-inline m k) (i m k ∙ ap indexTold h) }
 
-      module _ {j : ℕ} (h : y ≡ indexed.At j) {z : Piece} (u : EntryTold payload starts ends (tables .types) j z) where
-        entry-is : {w : Piece} → z ≡ w → (c : Scope) → TableOf payload starts ends tables c → EntryIs payload (getElem? (c .table .types) j) w
+      module _ {j : ℕ} (h : y ≡ indexed.At j) {z : Piece} (u : EntryTold payload (entriesIn tables notes) (tables .types) j z) where
+        entry-is : {w : Piece} → z ≡ w → (c : Scope) → TableOf payload notes tables c → EntryIs payload (getElem? (c .table .types) j) w
         entry-is q c s = subst (EntryIs payload (getElem? (c .table .types) j)) q (u .is (c .table .types) (s .entries))
 
-        pub kept-past : z ≡ piece.Nothing → KeptTold payload starts ends tables msg base left false
+        pub kept-past : z ≡ piece.Nothing → KeptTold payload notes tables msg base left false
         kept-past q = record {
           is = λ c s m k d deep o l n e. nowhere-dropped c d m l o n e (not-inline m k) (i m k ∙ ap indexTold h) (entry-is q c s);
         }
 
-        pub kept-entry : (left ≡ 0 → ⊥) → j < 2 ^ 32 → {a b : ℕ} → z ≡ piece.Body a b → KeptTold payload starts ends tables msg base left true
+        pub kept-entry : (left ≡ 0 → ⊥) → j < 2 ^ 32 → {a b : ℕ} → z ≡ piece.Body a b → KeptTold payload notes tables msg base left true
         kept-entry some-left small q = record {
           is = λ c s m k d deep o l n e.
               entry-kept c d m l o n e (not-inline m k) (i m k ∙ ap indexTold h) (tables .«first_nullable») (s .nullable) (omega arith) small (entry-is q c s .1);
@@ -243,15 +244,15 @@ module _ (f : Message → Read (Option Ty)) (base : ℕ) (msg : List ℕ) (at co
         record { later = others; passed = passed-on; all = omega (arith, g .all, ap length (given .are), keep-false (given .it) (given .others) h) }
 
 -- The loop over the arguments.
-pub record Counting (payload starts ends : List ℕ) (tables : Tables) (msg : List ℕ) (base left at count : ℕ) : Type 0 where
+pub record Counting (payload notes : List ℕ) (tables : Tables) (msg : List ℕ) (base left at count : ℕ) : Type 0 where
   pub few : count ≤ at
-  counted : (c : Scope) → TableOf payload starts ends tables c → (m : Message) → cut (_from_ base msg) ≡ ok m → (ms : List Message)
+  counted : (c : Scope) → TableOf payload notes tables c → (m : Message) → cut (_from_ base msg) ≡ ok m → (ms : List Message)
       → messages Type·argument m ≡ ok ms → (d : ℕ) → left ≡ maxDepth - d → (ts : List Ty) (l b : ℕ)
       → kept (argumentIn (typeAt allowance c) c d) ms l ≡ ok (ts, b)
       → Counted (argumentIn (typeAt allowance c) c d) base msg at count ts
 
-module _ (payload starts ends : List ℕ) (tables : Tables) (msg : List ℕ) (base left : ℕ) where
-  pub counting-start : Counting payload starts ends tables msg base left 0 0
+module _ (payload notes : List ℕ) (tables : Tables) (msg : List ℕ) (base left : ℕ) where
+  pub counting-start : Counting payload notes tables msg base left 0 0
   unfolding messages
   counting-start = record {
     few = omega arith;
@@ -262,8 +263,8 @@ module _ (payload starts ends : List ℕ) (tables : Tables) (msg : List ℕ) (ba
     };
   }
 
-  module _ (at count : ℕ) (g : Counting payload starts ends tables msg base left at count) {x : Piece} (t : NextTold base msg Type·argument at x) where
-    pub counting-end : x ≡ piece.Nothing → CountTold payload starts ends tables msg base left count
+  module _ (at count : ℕ) (g : Counting payload notes tables msg base left at count) {x : Piece} (t : NextTold base msg Type·argument at x) where
+    pub counting-end : x ≡ piece.Nothing → CountTold payload notes tables msg base left count
     counting-end q = record {
       is = λ c s m k ms h d deep ts l b e.
           counted-all (argumentIn (typeAt allowance c) c d) base msg at count ts (g .counted c s m k ms h d deep ts l b e) t q;
@@ -273,8 +274,8 @@ module _ (payload starts ends : List ℕ) (tables : Tables) (msg : List ℕ) (ba
       pub counting-in : (0 < a) × (a ≤ b) × (b ≤ length msg) × (at < b)
       counting-in = let i = subst (PieceInside msg) q (t .inside) in (i .2, i .0, i .1, subst (PieceAfter at) q (t .later))
 
-      module _ {r : Bool} (u : KeptTold payload starts ends tables (take (b - a) (drop a msg)) (base + a) left r) where
-        argument-is : (c : Scope) → TableOf payload starts ends tables c → (d : ℕ) → left ≡ maxDepth - d → (ts : List Ty)
+      module _ {r : Bool} (u : KeptTold payload notes tables (take (b - a) (drop a msg)) (base + a) left r) where
+        argument-is : (c : Scope) → TableOf payload notes tables c → (d : ℕ) → left ≡ maxDepth - d → (ts : List Ty)
             (k : Counted (argumentIn (typeAt allowance c) c d) base msg at count ts)
             → r ≡ isSome (next-given (argumentIn (typeAt allowance c) c d) base msg at (k .later) (k .passed) t q .it)
         argument-is c s d deep ts k =
@@ -283,7 +284,7 @@ module _ (payload starts ends : List ℕ) (tables : Tables) (msg : List ℕ) (ba
             let given = next-given f base msg at (k .later) (k .passed) t q in
             u .is c s (it .first) (it .cuts) d deep (given .it) (k .passed .before) (given .between) (given .first)
 
-        pub counting-kept : r ≡ true → Counting payload starts ends tables msg base left b (count + 1)
+        pub counting-kept : r ≡ true → Counting payload notes tables msg base left b (count + 1)
         counting-kept w = record {
           few = omega (arith, g .few, counting-in);
           counted = λ c s m k ms h d deep ts l n e.
@@ -291,7 +292,7 @@ module _ (payload starts ends : List ℕ) (tables : Tables) (msg : List ℕ) (ba
               counted-kept (argumentIn (typeAt allowance c) c d) base msg at count ts it t q (sym w ∙ argument-is c s d deep ts it);
         }
 
-        pub counting-dropped : r ≡ false → Counting payload starts ends tables msg base left b count
+        pub counting-dropped : r ≡ false → Counting payload notes tables msg base left b count
         counting-dropped w = record {
           few = omega (arith, g .few, counting-in);
           counted = λ c s m k ms h d deep ts l n e.

@@ -7,11 +7,11 @@ use Prim.Native.Nat.{ℕ, _+_, _-_, _*_, _≤_, _<_}
 use native.Mathlib.Omega.{arith}
 use lib.ListN.{length, take, drop}
 use lib.Seq.{take-length}
+use Rattle.fields.specs.Fields.{Type·argument}
 use Rattle.messages.specs.Asked.{NextTold}
 use Rattle.wire.specs.declared.Piece.{Piece}
 use Rattle.wire.specs.declared.Piece.the-variants as piece
 use Rattle.sheet.specs.declared.State.{State}
-use Rattle.schema.specs.Fields.{Type·argument}
 use Rattle.schema.specs.Reading.{kept, allowance}
 use Rattle.schema.specs.Types.{argumentIn, typeAt}
 use Rattle.schema.specs.Told.{Lent, Ready, Spends, WalkedSpends}
@@ -38,9 +38,9 @@ pub falls-entry : (left : ℕ) {t : ℕ} → 3 * left ≡ t → (left ≡ 0 → 
 falls-entry left e h = omega arith
 
 -- What is asked for where an entry of the type table is read.
-pub entry-room : {payload d2 nest : List ℕ} {tables : Tables} {left top : ℕ} {s : State} → Ready payload d2 s → left ≤ 64
-    → FitsEntry tables top (s .types) (length nest) → {i : ℕ} → i < tables .types → (a b : ℕ) → a ≤ b → b ≤ length payload
-    → NestRoom payload d2 (take (b - a) (drop a payload)) nest tables a (left - 1) top s
+pub entry-room : {payload d2 nest : List ℕ} {tables : Tables} {left : ℕ} {s : State} → Ready payload d2 s → left ≤ 64
+    → FitsEntry tables (s .types) (length nest) → {i : ℕ} → i < tables .types → (a b : ℕ) → a ≤ b → b ≤ length payload
+    → NestRoom payload d2 (take (b - a) (drop a payload)) nest tables a (left - 1) s
 entry-room {payload = payload} h k (roomy l) n a b p q =
     record { ready = h; inside = entry-inside payload a b p q; deep = omega arith; room = asTypes l }
 entry-room h k (nowhere z) n a b p q = absurd (omega arith)
@@ -65,12 +65,12 @@ module _ {e : Lent} {msg : List ℕ} {base left role : ℕ} {nullable : Bool} {s
       subst (λ (x : Walked). ParseTold e msg base left role nullable s x S S₁ T T₁) (sym q) told
 
   module _ {s₁ : State} (q : w ≡ walked.Done s₁) {less : ℕ} (f : less ≡ left - 1) where
-    entered-fits : {tables : Tables} {top bytes room : ℕ} → Fits tables top (s .types) bytes room → Fits tables top (s₁ .types) bytes room
+    entered-fits : {tables : Tables} {bytes room : ℕ} → Fits tables (s .types) bytes room → Fits tables (s₁ .types) bytes room
     entered-fits (asTypes h) = let one = subst (WalkedSpends s) q (n .spends) in asTypes (omega (arith, one .types))
     entered-fits (asBytes z h) = asBytes z h
 
-    pub entered-room : {payload d2 nest : List ℕ} {tables : Tables} {top : ℕ} → NestRoom payload d2 msg nest tables base left top s
-        → NestRoom payload d2 msg nest tables base less top s₁
+    pub entered-room : {payload d2 nest : List ℕ} {tables : Tables} → NestRoom payload d2 msg nest tables base left s
+        → NestRoom payload d2 msg nest tables base less s₁
     entered-room h =
         let one = subst (WalkedSpends s) q (n .spends) in
         record {
@@ -98,5 +98,5 @@ module _ {e : Lent} {msg : List ℕ} {base left role : ℕ} {nullable : Bool} {s
     pub parse-alone : {x : Piece} → NextTold base msg Type·argument 0 x → x ≡ piece.Nothing → ParseTold e msg base left role nullable s (walked.Done s₁) S S₁ T T₁
     parse-alone {x} t g =
         let all : NextTold base (take (length msg) msg) Type·argument 0 x = subst (λ (l : List ℕ). NextTold base l Type·argument 0 x) (sym (take-length msg)) t in
-        let none : ArgumentsTold e msg base less s₁ (walked.Done s₁) S₁ S₁ T₁ T₁ = loop-end (loop-start {top = 0} {nest₀ = []}) all g refl in
+        let none : ArgumentsTold e msg base less s₁ (walked.Done s₁) S₁ S₁ T₁ T₁ = loop-end (loop-start {nest = []}) all g refl in
         parse-entered none

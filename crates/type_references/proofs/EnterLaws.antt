@@ -11,6 +11,7 @@ use lib.Seq.{sets}
 use Rattle.foundation.specs.Digits.{little}
 use Rattle.foundation.specs.Results.{Res, ok, refused, _from_}
 use Rattle.foundation.specs.Texts.{Text}
+use Rattle.fields.specs.Fields.{Type·argument, Type·nullable, Type·class-name}
 use Rattle.wire.specs.Wire.{Message, cut}
 use Rattle.wire.specs.Messages.{index, flag, messages}
 use Rattle.messages.specs.Asked.{CheckedTold, indexTold, bodies}
@@ -25,14 +26,13 @@ use Rattle.sheet.specs.Put.{PutCells, PutRows, past}
 use Rattle.sheet.specs.declared.State.{State}
 use Rattle.sheet.proofs.PutLaws.{put-sheet, put-text, put-types, put-left, put-none, row-counted}
 use Rattle.sheet.proofs.RowLaws.{bodyLength, rowsLength, sheet-length}
-use Rattle.schema.specs.Fields.{Type·argument, Type·nullable, Type·class-name}
-use Rattle.rows.specs.Declarations.{noTypes, andType, Ty, typesOf}
+use Rattle.declaration_rows.specs.Declarations.{noTypes, andType, Ty, typesOf}
 use Rattle.schema.specs.Reading.{pure, kept, Scope, classNameIn, allowance}
 use Rattle.schema.specs.Types.{maxDepth, argumentIn, typeAt}
-use Rattle.rows.specs.Rows.{named, typesRows}
+use Rattle.declaration_rows.specs.Rows.{named, typeCells, typesRows}
 use Rattle.schema.specs.Told.{Lent, NamesOf, Ready, Spends, refusal}
 use Rattle.schema.specs.TypesTold.{orNullable, rowsIn}
-use Rattle.schema.specs.FoundTold.{TableOf}
+use Rattle.schema.specs.PlacesTold.{TableOf}
 use Rattle.schema.specs.HeadTold.{HeadTold}
 use Rattle.schema.specs.declared.Tables.{Tables}
 use Rattle.schema.specs.declared.Stop.the-variants as stop
@@ -48,7 +48,7 @@ use Rattle.type_references.specs.declared.enter.Counted.the-variants as 
 
 -- a type's own row
 abbrev pub typeRow : ℕ → Bool → Option Text → ℕ → List Row
-typeRow role nullable name count = row 6 (num 1 role ∷ bit nullable ∷ named name ∷ num 2 count ∷ []) ∷ []
+typeRow role nullable name count = row 6 (typeCells role nullable name count) ∷ []
 
 -- what it takes
 row-length : (o role : ℕ) (nullable : Bool) (name : Option Text) (count : ℕ) → length (sheetFrom o (typeRow role nullable name count)) ≡ 9
@@ -93,9 +93,9 @@ module _ (c : Scope) (d : ℕ) (m : Message) (n : ℕ) (h : 1 ≤ n) (l : n ≤ 
           ap (rowsRead (λ t. rowsIn role (orNullable nullable t))) it
 
 -- The arguments of a type are counted: it has none, one isn't cut, or all are.
-module _ (payload starts ends : List ℕ) (tables : Tables) (msg : List ℕ) (base left : ℕ) where
+module _ (payload notes : List ℕ) (tables : Tables) (msg : List ℕ) (base left : ℕ) where
   pub counted-none : ((m : Message) → cut (_from_ base msg) ≡ ok m → bodies Type·argument m ≡ [])
-      → CountedTold payload starts ends tables msg base left (counted.Count 0)
+      → CountedTold payload notes tables msg base left (counted.Count 0)
   unfolding kept
   counted-none h = record {
     cuts = λ m k. ([], no-messages Type·argument m (h m k));
@@ -109,14 +109,14 @@ module _ (payload starts ends : List ℕ) (tables : Tables) (msg : List ℕ) (ba
 
   module _ {x : Checked} (t : (m : Message) → cut (_from_ base msg) ≡ ok m → CheckedTold (messages Type·argument m) x) where
     pub counted-uncut : {error err : WireError} → x ≡ checked.Refused error → err ≡ error
-        → CountedTold payload starts ends tables msg base left (counted.Refused err)
+        → CountedTold payload notes tables msg base left (counted.Refused err)
     counted-uncut g q = record {
       cuts = λ m k. rw q (subst (CheckedTold (messages Type·argument m)) g (t m k));
       kept = tt;
     }
 
-    pub counted-all : {count : ℕ} → x ≡ checked.Whole → CountTold payload starts ends tables msg base left count
-        → CountedTold payload starts ends tables msg base left (counted.Count count)
+    pub counted-all : {count : ℕ} → x ≡ checked.Whole → CountTold payload notes tables msg base left count
+        → CountedTold payload notes tables msg base left (counted.Count count)
     counted-all g n = record { cuts = λ m k. subst (CheckedTold (messages Type·argument m)) g (t m k); kept = n }
 
 module _ (e : Lent) (msg : List ℕ) (base left role : ℕ) (nullable : Bool) (s : State) where
@@ -124,7 +124,7 @@ module _ (e : Lent) (msg : List ℕ) (base left role : ℕ) (nullable : Bool) (s
   enter-none h = record { spends = tt; one = tt; is = λ c o m k d l. type-none c d m (s .types) h }
 
   module _ (ready : Ready (e .payload) (e .d2) s) (h : s .types ≡ 0 → ⊥) {deeper : ℕ} (less : deeper ≡ left - 1) (x : Counted)
-      (t : CountedTold (e .payload) (e .entryStarts) (e .entryEnds) (e .tables) msg base deeper x) where
+      (t : CountedTold (e .payload) (e .notes) (e .tables) msg base deeper x) where
     some-left : 1 ≤ s .types
     some-left = omega arith
 
@@ -139,7 +139,7 @@ module _ (e : Lent) (msg : List ℕ) (base left role : ℕ) (nullable : Bool) (s
     }
 
     module _ {count : ℕ} (g : x ≡ counted.Count count) {own : TypeHead} (f : HeadTold base msg own) {either : Bool} (q : either ≡ (nullable || own .nullable)) (name : Name)
-        (i : (c : Scope) → NamesOf (e .payload) (e .d2) (e .ends) (e .starts) (e .stops) (e .firsts) (e .tables .records) (c .names)
+        (i : (c : Scope) → NamesOf (e .payload) (e .d2) (e .ends) (e .notes) (e .tables .records) (c .names)
         → (k : ℕ) (m : Message) → index k m ≡ indexTold (own .name) → (l : ℕ) → classNameIn c k m l ≡ ok (nameText (e .payload) (e .d2) name, l))
         {s′ : State} {S S′ T T′ : List ℕ}
         (p : PutRows (typeRow role either (nameText (e .payload) (e .d2) name) count) (s .types - 1) s s′ S S′ T T′) where
@@ -161,9 +161,9 @@ module _ (e : Lent) (msg : List ℕ) (base left role : ℕ) (nullable : Bool) (s
         one = omega (arith, put-types p, some-left);
         is = λ c o m k d l.
             let whole : ArgumentsCut (messages Type·argument m) (counted.Count count) = subst (ArgumentsCut (messages Type·argument m)) g (t .cuts m k) in
-            let few : CountTold (e .payload) (e .entryStarts) (e .entryEnds) (e .tables) msg base deeper count =
-            subst (ArgumentsKept (e .payload) (e .entryStarts) (e .entryEnds) (e .tables) msg base deeper) g (t .kept) in
-            let table : TableOf (e .payload) (e .entryStarts) (e .entryEnds) (e .tables) c = record { entries = o .entries; nullable = o .nullable } in
+            let few : CountTold (e .payload) (e .notes) (e .tables) msg base deeper count =
+            subst (ArgumentsKept (e .payload) (e .notes) (e .tables) msg base deeper) g (t .kept) in
+            let table : TableOf (e .payload) (e .notes) (e .tables) c = record { entries = o .entries; nullable = o .nullable } in
             let deep : deeper ≡ maxDepth - (d + 1) = omega arith in
             let name-is = nameText (e .payload) (e .d2) name in
             let nulls : (nullable || flag Type·nullable m) ≡ either = ap (λ (y : Bool). nullable || y) (f .nullable m k) ∙ sym q in (

@@ -12,7 +12,7 @@ use Rattle.sheet.specs.declared.State.{State}
 use Rattle.sheet.proofs.PutLaws.{put-none}
 use Rattle.schema.specs.Reading.{Scope}
 use Rattle.schema.specs.Types.{declaredType}
-use Rattle.rows.specs.Rows.{typeRows}
+use Rattle.declaration_rows.specs.Rows.{typeRows}
 use Rattle.schema.specs.Told.{Lent, Scoped, PickedSpends, PickedTold}
 use Rattle.schema.specs.TypesTold.{rowsIn, pickedOf, ResolveTold, DeclaredTold}
 use Rattle.type_references.specs.OptionalTold.{optionalOf, LookedTold, OptionalTold}

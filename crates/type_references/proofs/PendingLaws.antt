@@ -8,6 +8,7 @@ use Prim.Native.Nat.{ℕ, _+_}
 use native.Mathlib.Omega.{arith}
 use Rattle.foundation.specs.Results as Results
 use Rattle.foundation.specs.Results.{Res, ok, refused, Cause}
+use Rattle.fields.specs.Fields.{Type·Argument·type, Type·Argument·type-id}
 use Rattle.wire.specs.Wire.{Message}
 use Rattle.wire.specs.Messages.{message, index}
 use Rattle.wire.proofs.WalkLaws.{ok-same}
@@ -15,11 +16,10 @@ use Rattle.sheet.specs.Rows.{Row, sheetFrom, texts}
 use Rattle.sheet.specs.Put.{PutRows}
 use Rattle.sheet.specs.declared.State.{State}
 use Rattle.sheet.proofs.PutLaws.{put-none, rows-then}
-use Rattle.schema.specs.Fields.{Type·Argument·type, Type·Argument·type-id}
-use Rattle.rows.specs.Declarations.{Ty}
+use Rattle.declaration_rows.specs.Declarations.{Ty}
 use Rattle.schema.specs.Reading.{Read, pure, keep, kept, Scope, allowance}
 use Rattle.schema.specs.Types.{resolveAt, typeIn, argumentIn, typeAt}
-use Rattle.rows.specs.Rows.{argumentRole, typesRows, typeRows}
+use Rattle.declaration_rows.specs.Rows.{argumentRole, typesRows, typeRows}
 use Rattle.schema.specs.Told.{WalkedTold}
 use Rattle.schema.specs.TypesTold.{orNullable, rowsIn}
 use Rattle.schema.specs.declared.Walked.{Walked}

@@ -1,13 +1,10 @@
 -- What waits in the lent area: how a number holds it, and what stays as it is below a height.
 -- Assumes nothing.
 use mathlib.Core.Path.{_≡_, refl, ap, sym, subst, _∙_}
-use mathlib.Core.Bool.{Bool, true, false}
 use mathlib.Core.List.{List, [], _∷_}
 use Prim.Native.Nat.{ℕ, zero, suc, _+_, _-_, _≤_, _<_}
 use native.Mathlib.Numerals.{add-one}
 use native.Mathlib.Omega.{arith}
-use borrow.Author.Tests.{ltb-true, ltb-false}
-use lib.Dec.{ltb}
 use lib.ListN.{length, take, set, getD}
 use lib.Seq.{getD-take, getD-set-same, take-set-le, take-take}
 use Rattle.type_references.specs.Pending.{Wait, waitingCode, atIn, endIn, leftIn, Pends, Stacked, Inside, weight}
@@ -39,16 +36,15 @@ module _ (nest nest′ : List ℕ) where
       let below : weight nest′ h ≡ weight nest h = weight-same h (take-less h (suc h) (omega arith) e) in
       ap (λ (code : ℕ). suc (endIn code - atIn code) + weight nest′ h) here ∙ ap (λ (n : ℕ). suc (endIn (getD nest h 0) - atIn (getD nest h 0)) + n) below
 
-  pub stacked-same : (base : ℕ) (msg : List ℕ) (top height : ℕ) (ws : List Wait) → take height nest′ ≡ take height nest
-      → Stacked base msg nest top height ws → Stacked base msg nest′ top height ws
-  stacked-same base msg top height [] e s = s
-  stacked-same base msg top height (w ∷ ws) e (h, f, l, p, s) =
+  pub stacked-same : (base : ℕ) (msg : List ℕ) (height : ℕ) (ws : List Wait) → take height nest′ ≡ take height nest
+      → Stacked base msg nest height ws → Stacked base msg nest′ height ws
+  stacked-same base msg height [] e s = s
+  stacked-same base msg height (w ∷ ws) e (h, f, p, s) =
       let here : getD nest′ h 0 ≡ getD nest h 0 = getD-below height h (omega arith) e in (
         h,
         f,
-        l,
         subst (λ (code : ℕ). Pends base msg (atIn code) (endIn code) (leftIn code) w) (sym here) p,
-        stacked-same base msg top h ws (take-less h height (omega arith) e) s,
+        stacked-same base msg h ws (take-less h height (omega arith) e) s,
       )
 
   pub inside-same : (msg : List ℕ) (left height i : ℕ) → i < height → take height nest′ ≡ take height nest → Inside msg left (getD nest i 0)
@@ -56,15 +52,10 @@ module _ (nest nest′ : List ℕ) where
   inside-same msg left height i l e s = subst (Inside msg left) (sym (getD-below height i l e)) s
 
 -- Each that waits counts.
-pub weight-more : (nest : List ℕ) (top height : ℕ) → top ≤ height → weight nest top + height ≤ weight nest height + top
+pub weight-more : (nest : List ℕ) (height : ℕ) → height ≤ weight nest height
 unfolding weight
-weight-more nest top zero h = let none : top ≡ 0 = omega arith in rw none (omega arith)
-weight-more nest top (suc height) h = go (ltb height top) refl (weight-more nest top height)
-  where
-    go : (t : Bool) → ltb height top ≡ t → (top ≤ height → weight nest top + height ≤ weight nest height + top)
-        → weight nest top + suc height ≤ weight nest (suc height) + top
-    go true f more = let same : top ≡ suc height = omega (arith, ltb-true height top f) in rw same (omega arith)
-    go false f more = omega (arith, more (ltb-false height top f))
+weight-more nest zero = omega arith
+weight-more nest (suc height) = omega (arith, weight-more nest height)
 
 -- One more that waits, from a place to an end of the message.
 module _ (nest : List ℕ) (height at end left : ℕ) (room : height < length nest) {nest′ : List ℕ} (e : nest′ ≡ set nest height (waitingCode at end left)) where
@@ -79,14 +70,13 @@ module _ (nest : List ℕ) (height at end left : ℕ) (room : height < length ne
     unfolding weight
     weight-push = rw (add-one height, push-here, at-in at end left h k, end-in at end left h k, weight-same nest nest′ height push-below)
 
-    pub stacked-push : (base : ℕ) (msg : List ℕ) (top : ℕ) (w : Wait) (ws : List Wait) → top ≤ height → Pends base msg at end left w
-        → Stacked base msg nest top height ws → Stacked base msg nest′ top (height + 1) (w ∷ ws)
-    stacked-push base msg top w ws l p s = (
+    pub stacked-push : (base : ℕ) (msg : List ℕ) (w : Wait) (ws : List Wait) → Pends base msg at end left w
+        → Stacked base msg nest height ws → Stacked base msg nest′ (height + 1) (w ∷ ws)
+    stacked-push base msg w ws p s = (
       height,
       add-one height,
-      l,
       rw (push-here, at-in at end left h k, end-in at end left h k, left-in at end left h k) p,
-      stacked-same nest nest′ base msg top height ws push-below s,
+      stacked-same nest nest′ base msg height ws push-below s,
     )
 
     pub inside-push : (msg : List ℕ) (left₀ : ℕ) → at ≤ end → end ≤ length msg → left ≤ left₀ → Inside msg left₀ (getD nest′ height 0)
@@ -104,26 +94,26 @@ unfolding weight
 weight-pop nest zero h = absurd (omega arith)
 weight-pop nest (suc height) h = let one-less : suc height - 1 ≡ height = omega arith in rw one-less
 
-pub record Popped (base : ℕ) (msg nest : List ℕ) (top height : ℕ) (ws : List Wait) : Type 0 where
+pub record Popped (base : ℕ) (msg nest : List ℕ) (height : ℕ) (ws : List Wait) : Type 0 where
   pub last : Wait
   pub others : List Wait
   pub are : ws ≡ last ∷ others
   pub pends : Pends base msg (atIn (getD nest (height - 1) 0)) (endIn (getD nest (height - 1) 0)) (leftIn (getD nest (height - 1) 0)) last
-  pub stacked : Stacked base msg nest top (height - 1) others
+  pub stacked : Stacked base msg nest (height - 1) others
 
-pub stacked-pop : (base : ℕ) (msg nest : List ℕ) (top height : ℕ) (ws : List Wait) → (height ≡ top → ⊥) → Stacked base msg nest top height ws
-    → Popped base msg nest top height ws
-stacked-pop base msg nest top height [] n s = absurd (n s)
-stacked-pop base msg nest top height (w ∷ ws) n (h, f, l, p, s) =
+pub stacked-pop : (base : ℕ) (msg nest : List ℕ) (height : ℕ) (ws : List Wait) → (height ≡ 0 → ⊥) → Stacked base msg nest height ws
+    → Popped base msg nest height ws
+stacked-pop base msg nest height [] n s = absurd (n s)
+stacked-pop base msg nest height (w ∷ ws) n (h, f, p, s) =
     let z : h ≡ height - 1 = omega arith in
     record {
       last = w;
       others = ws;
       are = refl;
       pends = rw (← z) p;
-      stacked = subst (λ (k : ℕ). Stacked base msg nest top k ws) z s;
+      stacked = subst (λ (k : ℕ). Stacked base msg nest k ws) z s;
     }
 
-pub stacked-empty : (base : ℕ) (msg nest : List ℕ) (top height : ℕ) (ws : List Wait) → height ≡ top → Stacked base msg nest top height ws → ws ≡ []
-stacked-empty base msg nest top height [] e s = refl
-stacked-empty base msg nest top height (w ∷ ws) e (h, f, l, p, s) = absurd (omega arith)
+pub stacked-empty : (base : ℕ) (msg nest : List ℕ) (height : ℕ) (ws : List Wait) → height ≡ 0 → Stacked base msg nest height ws → ws ≡ []
+stacked-empty base msg nest height [] e s = refl
+stacked-empty base msg nest height (w ∷ ws) e (h, f, p, s) = absurd (omega arith)

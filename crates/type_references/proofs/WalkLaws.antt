@@ -9,7 +9,9 @@ use native.Mathlib.Omega.{arith}
 use borrow.Author.Tests.{ltb-true, ltb-false}
 use lib.Dec.{ltb}
 use lib.ListN.{length, take, drop, set, getD, length-take}
+use borrow.Rule.Slice.PartMut.{putMid, midOf, same-len-mid, mid-len, take-put}
 use Rattle.foundation.specs.Results.{Res, ok, refused, Cause, _from_}
+use Rattle.fields.specs.Fields.{Type·argument, Type·Argument·type}
 use Rattle.wire.specs.Wire.{Message, cut}
 use Rattle.wire.specs.Messages.{message, cutAll, messages}
 use Rattle.wire.specs.Told.{bodyOf}
@@ -25,11 +27,10 @@ use Rattle.sheet.specs.Rows.{Row}
 use Rattle.sheet.specs.Put.{PutRows}
 use Rattle.sheet.specs.declared.State.{State}
 use Rattle.sheet.proofs.PutLaws.{put-types, put-left}
-use Rattle.schema.specs.Fields.{Type·argument, Type·Argument·type}
-use Rattle.rows.specs.Declarations.{Ty}
+use Rattle.declaration_rows.specs.Declarations.{Ty}
 use Rattle.schema.specs.Reading.{kept, Scope, allowance}
 use Rattle.schema.specs.Types.{maxDepth, resolveAt, argumentIn, typeAt}
-use Rattle.rows.specs.Rows.{argumentRole}
+use Rattle.declaration_rows.specs.Rows.{argumentRole}
 use Rattle.schema.specs.Told.{Lent, Scoped, Ready, Spends, WalkedSpends, PickedSpends, PickedTold, refusal}
 use Rattle.schema.specs.TypesTold.{orNullable, rowsIn, ResolveTold}
 use Rattle.schema.specs.declared.Tables.{Tables}
@@ -66,7 +67,6 @@ use Rattle.type_references.proofs.PendingLaws.{
   continues-done,
 }
 use Rattle.type_references.proofs.StackLaws.{
-  take-less,
   weight-same,
   weight-more,
   stacked-same,
@@ -118,37 +118,33 @@ module _ {base : ℕ} {msg : List ℕ} {at end left : ℕ} {w : Wait} (p : Pends
       }
 
 -- What is told of a reading while some of its arguments wait: those from a place to an end, then those in the lent area.
-pub record Goes (told : Res (List Row × ℕ)) (c : Scope) (base : ℕ) (msg nest : List ℕ) (top height at end deep : ℕ) (s₀ s : State) (S₀ S T₀ T : List ℕ) : Type 0 where
+pub record Goes (told : Res (List Row × ℕ)) (c : Scope) (base : ℕ) (msg nest : List ℕ) (height at end deep : ℕ) (s₀ s : State) (S₀ S T₀ T : List ℕ) : Type 0 where
   pub wait : Wait
   pub later : List Wait
   pub here : Pends base msg at end deep wait
-  pub stacked : Stacked base msg nest top height later
+  pub stacked : Stacked base msg nest height later
   pub continues : Continues told c (wait ∷ later) s₀ s S₀ S T₀ T
 
--- The loop: where it stands in the message, what waits in the lent area from `top` to `height`, and what was spent and written. The area's places
--- below `top` are another's.
-pub record Looping (e : Lent) (msg : List ℕ) (base left top : ℕ) (s₀ : State) (S₀ T₀ nest₀ : List ℕ) (at end deep height : ℕ) (s : State)
-    (S T nest : List ℕ) : Type 0 where
+-- The loop: where it stands in the message, what waits in the lent area below `height`, and what was spent and written.
+pub record Looping (e : Lent) (msg : List ℕ) (base left : ℕ) (s₀ : State) (S₀ T₀ : List ℕ) (at end deep height : ℕ) (s : State) (S T nest : List ℕ) : Type 0 where
   pub ordered : at ≤ end
   pub short : end ≤ length msg
   pub shallow : deep ≤ left
-  pub above : top ≤ height
-  pub room : height + s .types ≤ top + s₀ .types
-  pub fewer : (end - at) + weight nest height ≤ length msg + weight nest₀ top
+  pub room : height + s .types ≤ s₀ .types
+  pub fewer : (end - at) + weight nest height ≤ length msg
   pub spends : Spends s₀ s
-  pub frame : take top nest ≡ take top nest₀
-  pub inside : (i : ℕ) → top ≤ i → i < height → Inside msg left (getD nest i 0)
+  pub inside : (i : ℕ) → i < height → Inside msg left (getD nest i 0)
   pub going : (c : Scope) → Scoped e c → (m : Message) → cut (_from_ base msg) ≡ ok m → (ms : List Message) → messages Type·argument m ≡ ok ms
       → (d : ℕ) → left ≡ maxDepth - d
-      → Goes (rowsRead argumentRows (kept (argumentIn (typeAt allowance c) c d) ms (s₀ .types))) c base msg nest top height at end deep s₀ s S₀ S T₀ T
+      → Goes (rowsRead argumentRows (kept (argumentIn (typeAt allowance c) c d) ms (s₀ .types))) c base msg nest height at end deep s₀ s S₀ S T₀ T
 
 -- What falls: the bytes of the message that are left here and of what waits, and one for each.
 abbrev pub turns : List ℕ → ℕ → ℕ → ℕ → ℕ
 turns nest height at end = (end - at + 1) + weight nest height
 
 -- the same after arguments are passed, with what waits as it was
-module _ {told : Res (List Row × ℕ)} {c : Scope} {base : ℕ} {msg nest : List ℕ} {top height at end deep : ℕ} {s₀ s : State} {S₀ S T₀ T : List ℕ}
-    (o : Goes told c base msg nest top height at end deep s₀ s S₀ S T₀ T) {a b : ℕ} (n : Met base msg end deep a b (o .wait)) where
+module _ {told : Res (List Row × ℕ)} {c : Scope} {base : ℕ} {msg nest : List ℕ} {height at end deep : ℕ} {s₀ s : State} {S₀ S T₀ T : List ℕ}
+    (o : Goes told c base msg nest height at end deep s₀ s S₀ S T₀ T) {a b : ℕ} (n : Met base msg end deep a b (o .wait)) where
   first-is : pending c (o .wait ∷ o .later) (s .types) ≡ pending c (waits (o .wait .depth) (n .first ∷ n .others) ∷ o .later) (s .types)
   first-is = ap (λ (ms : List Message). pending c (waits (o .wait .depth) ms ∷ o .later) (s .types)) (n .are)
 
@@ -159,19 +155,19 @@ module _ {told : Res (List Row × ℕ)} {c : Scope} {base : ℕ} {msg nest : Lis
 
   module _ (nest′ : List ℕ) (f : take height nest′ ≡ take height nest) where
     goes-dropped : argumentIn (typeAt allowance c) c (o .wait .depth) (n .first) (s .types) ≡ ok (none, s .types)
-        → Goes told c base msg nest′ top height b end deep s₀ s S₀ S T₀ T
+        → Goes told c base msg nest′ height b end deep s₀ s S₀ S T₀ T
     goes-dropped h = record {
       wait = waits (o .wait .depth) (n .others);
       later = o .later;
       here = n .rest;
-      stacked = stacked-same nest nest′ base msg top height (o .later) f (o .stacked);
+      stacked = stacked-same nest nest′ base msg height (o .later) f (o .stacked);
       continues =
           continues-same (o .continues)
           (first-is ∙ pending-dropped c (o .wait .depth) (o .later) (s .types) (n .first) (n .others) h);
     }
 
     goes-kept : (s′ : State) (S′ T′ : List ℕ) {t : Ty} {l : ℕ} → argumentIn (typeAt allowance c) c (o .wait .depth) (n .first) (s .types) ≡ ok (some t, l)
-        → PutRows (rowsIn argumentRole t) l s s′ S S′ T T′ → Goes told c base msg nest′ top height b end deep s₀ s′ S₀ S′ T₀ T′
+        → PutRows (rowsIn argumentRole t) l s s′ S S′ T T′ → Goes told c base msg nest′ height b end deep s₀ s′ S₀ S′ T₀ T′
     goes-kept s′ S′ T′ {t} {l} h p =
         let z : l ≡ s′ .types = sym (put-types p) in
         let later = pending-kept c (o .wait .depth) (o .later) (s .types) (n .first) (n .others) h in
@@ -180,25 +176,25 @@ module _ {told : Res (List Row × ℕ)} {c : Scope} {base : ℕ} {msg nest : Lis
           wait = waits (o .wait .depth) (n .others);
           later = o .later;
           here = n .rest;
-          stacked = stacked-same nest nest′ base msg top height (o .later) f (o .stacked);
+          stacked = stacked-same nest nest′ base msg height (o .later) f (o .stacked);
           continues =
               continues-written (o .continues) rest (rowsIn argumentRole t) s′ S′ T′
               (first-is ∙ later ∙ ap (λ (k : ℕ). prefixed (rowsIn argumentRole t) (pending c rest k)) z) (put-left p z);
         }
 
   -- a type inside: what is left here waits, the type's own arguments come first
-  goes-entered : (nest′ : List ℕ) → height < length nest → nest′ ≡ set nest height (waitingCode b end deep) → b ≤ 32768 → end ≤ 32768 → top ≤ height
+  goes-entered : (nest′ : List ℕ) → height < length nest → nest′ ≡ set nest height (waitingCode b end deep) → b ≤ 32768 → end ≤ 32768
       → {inner : Message} → message Type·Argument·type (n .first) ≡ ok (some inner)
       → (x y deep′ : ℕ) (ms : List Message) → Pends base msg x y deep′ (waits (o .wait .depth + 1) ms)
       → (own : List Row) (s′ : State) (S′ T′ : List ℕ) → PutRows own (s′ .types) s s′ S S′ T T′
       → rowsRead (λ t. rowsIn argumentRole (orNullable false t)) (typeAt allowance c (o .wait .depth) inner (s .types))
       ≡ prefixed own (rowsRead argumentRows (kept (argumentIn (typeAt allowance c) c (o .wait .depth + 1)) ms (s′ .types)))
-      → Goes told c base msg nest′ top (height + 1) x y deep′ s₀ s′ S₀ S′ T₀ T′
-  goes-entered nest′ room e h k l i x y deep′ ms p own s′ S′ T′ q r = record {
+      → Goes told c base msg nest′ (height + 1) x y deep′ s₀ s′ S₀ S′ T₀ T′
+  goes-entered nest′ room e h k i x y deep′ ms p own s′ S′ T′ q r = record {
     wait = waits (o .wait .depth + 1) ms;
     later = waits (o .wait .depth) (n .others) ∷ o .later;
     here = p;
-    stacked = stacked-push nest height b end deep room e h k base msg top (waits (o .wait .depth) (n .others)) (o .later) l (n .rest) (o .stacked);
+    stacked = stacked-push nest height b end deep room e h k base msg (waits (o .wait .depth) (n .others)) (o .later) (n .rest) (o .stacked);
     continues =
         continues-written (o .continues) (waits (o .wait .depth + 1) ms ∷ (waits (o .wait .depth) (n .others) ∷ o .later)) own s′ S′ T′
         (first-is ∙ pending-entered c (o .wait .depth) (o .later) (s .types) (n .first) (n .others) i own ms (s′ .types) r) q;
@@ -208,18 +204,17 @@ module _ {told : Res (List Row × ℕ)} {c : Scope} {base : ℕ} {msg nest : Lis
 abbrev pub lastOf : List ℕ → ℕ → Waiting
 lastOf nest height = record { at = atIn (getD nest height 0); end = endIn (getD nest height 0); left = leftIn (getD nest height 0) }
 
-module _ {e : Lent} {msg : List ℕ} {base left top : ℕ} {s₀ : State} {S₀ T₀ nest₀ : List ℕ} where
-  pub loop-start : Looping e msg base left top s₀ S₀ T₀ nest₀ 0 (length msg) left top s₀ S₀ T₀ nest₀
+module _ {e : Lent} {msg : List ℕ} {base left : ℕ} {s₀ : State} {S₀ T₀ : List ℕ} where
+  pub loop-start : {nest : List ℕ} → Looping e msg base left s₀ S₀ T₀ 0 (length msg) left 0 s₀ S₀ T₀ nest
+  unfolding weight
   loop-start = record {
     ordered = omega arith;
     short = omega arith;
     shallow = omega arith;
-    above = omega arith;
     room = omega arith;
     fewer = omega arith;
     spends = spends-none s₀;
-    frame = refl;
-    inside = λ i h k. absurd (omega arith);
+    inside = λ i k. absurd (omega arith);
     going = λ c o m k ms h d l. record {
       wait = waits d ms;
       later = [];
@@ -234,68 +229,77 @@ module _ {e : Lent} {msg : List ℕ} {base left top : ℕ} {s₀ : State} {S₀ 
     };
   }
 
-  module _ {at end deep height : ℕ} {s : State} {S T nest : List ℕ} (g : Looping e msg base left top s₀ S₀ T₀ nest₀ at end deep height s S T nest) where
+  module _ {at end deep height : ℕ} {s : State} {S T nest : List ℕ} (g : Looping e msg base left s₀ S₀ T₀ at end deep height s S T nest) where
     pub loop-ready : {payload d2 : List ℕ} → Ready payload d2 s₀ → Ready payload d2 s
     loop-ready h = ready-after h (g .spends)
 
-    pub loop-room : {tables : Tables} {n : ℕ} → Fits tables top (s₀ .types) (length msg) n → FitsEntry tables height (s .types) n
-    loop-room (asTypes h) = roomy (omega (arith, g .room))
+    -- those that wait and the bytes left here are no more than the message has
+    few-wait : height + (end - at) ≤ length msg
+    few-wait = omega (arith, g .fewer, weight-more nest height)
+
+    -- what waits stands in the area
+    pub loop-height : {tables : Tables} {k : ℕ} → Fits tables (s₀ .types) (length msg) k → height ≤ k
+    loop-height (asTypes h) = omega (arith, g .room)
+    loop-height (asBytes z h) = omega (arith, few-wait)
+
+    -- what is free of the area is lent: it has room, and what waits is as it was when it is back
+    pub loop-room : {tables : Tables} → Fits tables (s₀ .types) (length msg) (length nest)
+        → FitsEntry tables (s .types) (length (midOf height (length nest - height) nest))
+    loop-room (asTypes h) = roomy (omega (arith, g .room, mid-len height (length nest) nest (omega arith)))
     loop-room (asBytes z h) = nowhere z
 
-    -- those that wait and the bytes left here are no more than the message has
-    few-wait : height + (end - at) ≤ top + length msg
-    few-wait = omega (arith, g .fewer, g .above, weight-more nest top height (g .above), weight-same nest₀ nest top (g .frame))
+    pub waits-kept : {tables : Tables} → Fits tables (s₀ .types) (length msg) (length nest) → (part : List ℕ)
+        → take height (putMid height (length nest - height) nest part) ≡ take height nest
+    waits-kept h part = take-put height (length nest - height) nest part (loop-height h)
 
-    -- what waits is as it was where a walk that starts at `height` is over
-    pub frame-kept : (nest′ : List ℕ) → take height nest′ ≡ take height nest → take top nest′ ≡ take top nest₀
-    frame-kept nest′ f = take-less nest nest′ top height (g .above) f ∙ g .frame
+    pub lent-length : (part : List ℕ) → length part ≡ length (midOf height (length nest - height) nest)
+        → length (putMid height (length nest - height) nest part) ≡ length nest
+    lent-length part = same-len-mid height (length nest - height) nest part
 
-    module _ (n : height ≡ top → ⊥) where
+    module _ (n : height ≡ 0 → ⊥) where
       pub pop-some : 1 ≤ height
-      pop-some = omega (arith, g .above)
+      pop-some = omega arith
 
-      pub pop-room : {tables : Tables} {k : ℕ} → Fits tables top (s₀ .types) (length msg) k → height - 1 < k
+      pub pop-room : {tables : Tables} {k : ℕ} → Fits tables (s₀ .types) (length msg) k → height - 1 < k
       pop-room (asTypes h) = omega (arith, g .room, pop-some)
       pop-room (asBytes z h) = omega (arith, few-wait, pop-some)
 
       last-inside : Inside msg left (getD nest (height - 1) 0)
-      last-inside = g .inside (height - 1) (omega (arith, g .above)) (omega (arith, pop-some))
+      last-inside = g .inside (height - 1) (omega (arith, pop-some))
 
     module _ {x : Piece} (t : NextTold base (take end msg) Type·argument at x) where
       -- no argument is left here
       module _ (q : x ≡ piece.Nothing) where
-        passed-all : {told : Res (List Row × ℕ)} {c : Scope} (o : Goes told c base msg nest top height at end deep s₀ s S₀ S T₀ T)
+        passed-all : {told : Res (List Row × ℕ)} {c : Scope} (o : Goes told c base msg nest height at end deep s₀ s S₀ S T₀ T)
             → Continues told c (o .later) s₀ s S₀ S T₀ T
         passed-all {told} {c} o =
             continues-same (o .continues)
             (ap (λ (ms : List Message). pending c (waits (o .wait .depth) ms ∷ o .later) (s .types)) (met-none (o .here) (g .ordered) t q)
             ∙ pending-end c (o .wait .depth) (o .later) (s .types))
 
-        pub loop-end : height ≡ top → ArgumentsTold e msg base left s₀ (walked.Done s) S₀ S T₀ T
+        pub loop-end : height ≡ 0 → ArgumentsTold e msg base left s₀ (walked.Done s) S₀ S T₀ T
         loop-end f = record {
           spends = g .spends;
           is = λ c o m k ms h d l.
               let go = g .going c o m k ms h d l in
-              let empty = stacked-empty base msg nest top height (go .later) f (go .stacked) in
+              let empty = stacked-empty base msg nest height (go .later) f (go .stacked) in
               let done = continues-same {vs = []} (passed-all go) (ap (λ (ws : List Wait). pending c ws (s .types)) empty) in
               walked-done argumentRows (kept (argumentIn (typeAt allowance c) c d) ms (s₀ .types)) (continues-done done) (done .written);
         }
 
-        module _ (n : height ≡ top → ⊥) {r : Waiting} (w : r ≡ lastOf nest (height - 1)) where
-          pub loop-pop : Looping e msg base left top s₀ S₀ T₀ nest₀ (r .at) (r .end) (r .left) (height - 1) s S T nest
-          loop-pop = subst (λ (z : Waiting). Looping e msg base left top s₀ S₀ T₀ nest₀ (z .at) (z .end) (z .left) (height - 1) s S T nest) (sym w) (record {
+        module _ (n : height ≡ 0 → ⊥) {r : Waiting} (w : r ≡ lastOf nest (height - 1)) where
+          pub loop-pop : Looping e msg base left s₀ S₀ T₀ (r .at) (r .end) (r .left) (height - 1) s S T nest
+          loop-pop = subst (λ (z : Waiting). Looping e msg base left s₀ S₀ T₀ (z .at) (z .end) (z .left) (height - 1) s S T nest) (sym w) (record {
             ordered = last-inside n .ordered;
             short = last-inside n .short;
             shallow = last-inside n .deep;
-            above = omega (arith, g .above);
             room = omega (arith, g .room);
             fewer = omega (arith, g .fewer, weight-pop nest height (pop-some n));
             spends = g .spends;
-            frame = g .frame;
-            inside = λ i h k. g .inside i h (omega arith);
+            inside = λ i k. g .inside i (omega arith);
             going = λ c o m k ms h d l.
                 let go = g .going c o m k ms h d l in
-                let p = stacked-pop base msg nest top height (go .later) n (go .stacked) in
+                let p = stacked-pop base msg nest height (go .later) n (go .stacked) in
                 record {
                   wait = p .last;
                   later = p .others;
@@ -320,7 +324,7 @@ module _ {e : Lent} {msg : List ℕ} {base left top : ℕ} {s₀ : State} {S₀ 
         passed-falls nest′ f = omega (arith, weight-same nest nest′ height f, body-in)
 
         module _ {r : Argument} (u : ArgumentTold base msg a b r) where
-          next-argument : {told : Res (List Row × ℕ)} {c : Scope} (o : Goes told c base msg nest top height at end deep s₀ s S₀ S T₀ T)
+          next-argument : {told : Res (List Row × ℕ)} {c : Scope} (o : Goes told c base msg nest height at end deep s₀ s S₀ S T₀ T)
               → Met base msg end deep a b (o .wait)
           next-argument o = met (o .here) (g .ordered) t q
 
@@ -329,23 +333,21 @@ module _ {e : Lent} {msg : List ℕ} {base left top : ℕ} {s₀ : State} {S₀ 
 
           -- the loop from b on, once it is known what it tells
           loop-on : (s′ : State) (S′ T′ nest′ : List ℕ) → take height nest′ ≡ take height nest → Spends s s′
-              → ((c : Scope) → Scoped e c → (told : Res (List Row × ℕ)) → Goes told c base msg nest top height at end deep s₀ s S₀ S T₀ T
-              → Goes told c base msg nest′ top height b end deep s₀ s′ S₀ S′ T₀ T′)
-              → Looping e msg base left top s₀ S₀ T₀ nest₀ b end deep height s′ S′ T′ nest′
+              → ((c : Scope) → Scoped e c → (told : Res (List Row × ℕ)) → Goes told c base msg nest height at end deep s₀ s S₀ S T₀ T
+              → Goes told c base msg nest′ height b end deep s₀ s′ S₀ S′ T₀ T′)
+              → Looping e msg base left s₀ S₀ T₀ b end deep height s′ S′ T′ nest′
           loop-on s′ S′ T′ nest′ f p go = record {
             ordered = body-in .2;
             short = g .short;
             shallow = g .shallow;
-            above = g .above;
             room = omega (arith, g .room, p .types);
             fewer = omega (arith, g .fewer, weight-same nest nest′ height f, body-in);
             spends = spends-then (g .spends) p;
-            frame = frame-kept nest′ f;
-            inside = λ i h k. inside-same nest nest′ msg left height i k f (g .inside i h k);
+            inside = λ i k. inside-same nest nest′ msg left height i k f (g .inside i k);
             going = λ c o m k ms h d l. go c o _ (g .going c o m k ms h d l);
           }
 
-          pub loop-passed : r ≡ argument.Nothing → Looping e msg base left top s₀ S₀ T₀ nest₀ b end deep height s S T nest
+          pub loop-passed : r ≡ argument.Nothing → Looping e msg base left s₀ S₀ T₀ b end deep height s S T nest
           loop-passed v = loop-on s S T nest refl (spends-none s) λ c o told go.
               let n = next-argument go in
               let i = argument-is v (n .first) (n .cuts) in
@@ -393,7 +395,7 @@ module _ {e : Lent} {msg : List ℕ} {base left top : ℕ} {s₀ : State} {S₀ 
                 one-less : s .types ≡ 1 + s′ .types
                 one-less = subst (EnteredOne s) h (n .one)
 
-                pub push-room : {tables : Tables} {k : ℕ} → Fits tables top (s₀ .types) (length msg) k → height < k
+                pub push-room : {tables : Tables} {k : ℕ} → Fits tables (s₀ .types) (length msg) k → height < k
                 push-room (asTypes l) = omega (arith, g .room, one-less)
                 push-room (asBytes z l) = omega (arith, few-wait, body-in)
 
@@ -401,29 +403,27 @@ module _ {e : Lent} {msg : List ℕ} {base left top : ℕ} {s₀ : State} {S₀ 
                   few-here : (b ≤ 32768) × (end ≤ 32768)
                   few-here = (omega (arith, body-in), omega (arith, g .short))
 
-                  pushed-inside : (i : ℕ) → top ≤ i → i < height + 1 → Inside msg left (getD nest′ i 0)
-                  pushed-inside i l k = go (ltb i height) refl
+                  pushed-inside : (i : ℕ) → i < height + 1 → Inside msg left (getD nest′ i 0)
+                  pushed-inside i k = go (ltb i height) refl
                     where
                       go : (t : Bool) → ltb i height ≡ t → Inside msg left (getD nest′ i 0)
                       go true f =
                           let below : i < height = ltb-true i height f in
-                          inside-same nest nest′ msg left height i below (push-below nest height b end deep room p) (g .inside i l below)
+                          inside-same nest nest′ msg left height i below (push-below nest height b end deep room p) (g .inside i below)
                       go false f =
                           let here : i ≡ height = omega (arith, ltb-false i height f) in
                           rw here (inside-push nest height b end deep room p (few-here .0) (few-here .1) msg left (body-in .2) (g .short) (g .shallow))
 
-                  pub loop-entered : {deep′ : ℕ} → deep′ ≡ deep - 1 → Looping e msg base left top s₀ S₀ T₀ nest₀ first last deep′ (height + 1) s′ S′ T′ nest′
+                  pub loop-entered : {deep′ : ℕ} → deep′ ≡ deep - 1 → Looping e msg base left s₀ S₀ T₀ first last deep′ (height + 1) s′ S′ T′ nest′
                   loop-entered {deep′} less = record {
                     ordered = inline-in .1;
                     short = inline-in .3;
                     shallow = omega (arith, g .shallow);
-                    above = omega (arith, g .above);
                     room = omega (arith, g .room, one-less);
                     fewer =
                         let pushed = weight-push nest height b end deep room p (few-here .0) (few-here .1) in
                         omega (arith, g .fewer, pushed, inline-in, body-in);
                     spends = spends-then (g .spends) (subst (WalkedSpends s) h (n .spends));
-                    frame = frame-kept nest′ (push-below nest height b end deep room p);
                     inside = pushed-inside;
                     going = λ c o m k ms f d l.
                         let go = g .going c o m k ms f d l in
@@ -436,7 +436,7 @@ module _ {e : Lent} {msg : List ℕ} {base left top : ℕ} {s₀ : State} {S₀ 
                           many = in-it .2;
                           deep = omega (arith, go .here .deep);
                         } in
-                        goes-entered go next nest′ room p (few-here .0) (few-here .1) (g .above) (i .2) first last deep′ (in-it .0) inner (in-it .1) s′ S′ T′
+                        goes-entered go next nest′ room p (few-here .0) (few-here .1) (i .2) first last deep′ (in-it .0) inner (in-it .1) s′ S′ T′
                         (in-it .3) (in-it .4);
                   }
 
@@ -459,16 +459,16 @@ module _ {e : Lent} {msg : List ℕ} {base left top : ℕ} {s₀ : State} {S₀ 
             loop-refused {stop} h = refused-all stop λ c o m k d l. resolved-is h c o m k d l
 
             module _ {nest′ : List ℕ} (f : take height nest′ ≡ take height nest) where
-              pub loop-kept : {s′ : State} → p ≡ picked.Kept s′ → Looping e msg base left top s₀ S₀ T₀ nest₀ b end deep height s′ S′ T′ nest′
+              pub loop-kept : {s′ : State} → p ≡ picked.Kept s′ → Looping e msg base left s₀ S₀ T₀ b end deep height s′ S′ T′ nest′
               loop-kept {s′} h = loop-on s′ S′ T′ nest′ f (subst (PickedSpends s) h (n .spends)) λ c o told go.
                   let next = next-argument go in
                   let it = resolved-is h c o (next .first) (next .cuts) (go .wait .depth) (go .here .deep) in
                   goes-kept go next nest′ f s′ S′ T′ (it .2) (it .3)
 
-              pub loop-dropped : p ≡ picked.Dropped → Looping e msg base left top s₀ S₀ T₀ nest₀ b end deep height s S′ T′ nest′
+              pub loop-dropped : p ≡ picked.Dropped → Looping e msg base left s₀ S₀ T₀ b end deep height s S′ T′ nest′
               loop-dropped h = loop-on s S′ T′ nest′ f (spends-none s) λ c o told go.
                   let next = next-argument go in
                   let it = resolved-is h c o (next .first) (next .cuts) (go .wait .depth) (go .here .deep) in
                   let same = goes-dropped go next nest′ f (it .0) in
-                  subst (λ (l : List ℕ). Goes told c base msg nest′ top height b end deep s₀ s S₀ l T₀ T′) (sym (it .1))
-                  (subst (λ (l : List ℕ). Goes told c base msg nest′ top height b end deep s₀ s S₀ S T₀ l) (sym (it .2)) same)
+                  subst (λ (l : List ℕ). Goes told c base msg nest′ height b end deep s₀ s S₀ l T₀ T′) (sym (it .1))
+                  (subst (λ (l : List ℕ). Goes told c base msg nest′ height b end deep s₀ s S₀ S T₀ l) (sym (it .2)) same)

@@ -6,9 +6,10 @@ use Prim.Native.Nat.{ℕ}
 use Rattle.foundation.specs.Results.{ok, _from_}
 use Rattle.wire.specs.Wire.{Message, cut}
 use Rattle.sheet.specs.declared.State.{State}
+use Rattle.schema.specs.Types.{maxDepth}
 use Rattle.schema.specs.Reading.{Scope}
 use Rattle.schema.specs.Types.{declaredType}
-use Rattle.rows.specs.Rows.{typeRows}
+use Rattle.declaration_rows.specs.Rows.{typeRows}
 use Rattle.schema.specs.Told.{Lent, Scoped, WalkedSpends, WalkedTold}
 use Rattle.schema.specs.TypesTold.{ResolveTold}
 use Rattle.schema.specs.declared.Walked.{Walked}
@@ -25,7 +26,7 @@ optionalOf s (picked.Refused stop) = walked.Refused stop
 -- a type by its index, from depth 0
 pub record LookedTold (e : Lent) (index role : ℕ) (s : State) (r : Walked) (S S′ T T′ : List ℕ) : Type 0 where
   pub found : Picked
-  pub told : ResolveTold e index 64 role s found S S′ T T′
+  pub told : ResolveTold e index maxDepth role s found S S′ T T′
   pub is : r ≡ optionalOf s found
 
 -- the type and its rows, or nothing and none

@@ -8,6 +8,7 @@ use Prim.Native.Nat.{ℕ, _+_, _-_, _≤_, _<_}
 use lib.ListN.{length}
 use Rattle.foundation.specs.Choices.{isSome}
 use Rattle.foundation.specs.Results.{Res, ok, _from_}
+use Rattle.fields.specs.Fields.{Type·argument, Type·Argument·type, Type·Argument·type-id}
 use Rattle.wire.specs.Wire.{Message, cut}
 use Rattle.wire.specs.Messages.{message, messages, index}
 use Rattle.wire.specs.Told as wire
@@ -15,12 +16,11 @@ use Rattle.characters.specs.Characters.{partFrom}
 use Rattle.sheet.specs.Rows.{Row}
 use Rattle.sheet.specs.Put.{PutRows}
 use Rattle.sheet.specs.declared.State.{State}
-use Rattle.schema.specs.Fields.{Type·argument, Type·Argument·type, Type·Argument·type-id}
-use Rattle.rows.specs.Declarations.{Ty}
+use Rattle.declaration_rows.specs.Declarations.{Ty}
 use Rattle.schema.specs.Reading.{Scope, kept, allowance}
 use Rattle.schema.specs.Types.{maxDepth, argumentIn, typeAt}
 use Rattle.schema.specs.Told.{Lent, Scoped, Ready, WalkedSpends, WalkedTold, refusal}
-use Rattle.schema.specs.FoundTold.{TableOf}
+use Rattle.schema.specs.PlacesTold.{TableOf}
 use Rattle.schema.specs.TypesTold.{orNullable, rowsIn}
 use Rattle.schema.specs.declared.Tables.{Tables}
 use Rattle.schema.specs.declared.Walked.{Walked}
@@ -60,13 +60,13 @@ pub record ArgumentTold (base : ℕ) (msg : List ℕ) (a b : ℕ) (r : Argument)
   pub inside : ArgumentInside a b r
 
 -- An argument is kept, if it is read at all.
-pub record KeptTold (payload starts ends : List ℕ) (tables : Tables) (msg : List ℕ) (base left : ℕ) (r : Bool) : Type 0 where
-  pub is : (c : Scope) → TableOf payload starts ends tables c → (m : Message) → cut (_from_ base msg) ≡ ok m → (d : ℕ) → left ≡ maxDepth - d
+pub record KeptTold (payload notes : List ℕ) (tables : Tables) (msg : List ℕ) (base left : ℕ) (r : Bool) : Type 0 where
+  pub is : (c : Scope) → TableOf payload notes tables c → (m : Message) → cut (_from_ base msg) ≡ ok m → (d : ℕ) → left ≡ maxDepth - d
       → (o : Option Ty) (l b : ℕ) → argumentIn (typeAt allowance c) c d m l ≡ ok (o, b) → r ≡ isSome o
 
 -- How many arguments of a type are kept, if they are read at all.
-pub record CountTold (payload starts ends : List ℕ) (tables : Tables) (msg : List ℕ) (base left r : ℕ) : Type 0 where
-  pub is : (c : Scope) → TableOf payload starts ends tables c → (m : Message) → cut (_from_ base msg) ≡ ok m → (ms : List Message)
+pub record CountTold (payload notes : List ℕ) (tables : Tables) (msg : List ℕ) (base left r : ℕ) : Type 0 where
+  pub is : (c : Scope) → TableOf payload notes tables c → (m : Message) → cut (_from_ base msg) ≡ ok m → (ms : List Message)
       → messages Type·argument m ≡ ok ms → (d : ℕ) → left ≡ maxDepth - d → (ts : List Ty) (l b : ℕ)
       → kept (argumentIn (typeAt allowance c) c d) ms l ≡ ok (ts, b) → r ≡ length ts
 
@@ -75,13 +75,13 @@ abbrev pub ArgumentsCut : Res (List Message) → Counted → Type 0
 ArgumentsCut r (counted.Count n) = (ms : List Message) × (r ≡ ok ms)
 ArgumentsCut r (counted.Refused error) = r ≡ wire.refusal error
 
-abbrev pub ArgumentsKept : (payload starts ends : List ℕ) → Tables → List ℕ → (base left : ℕ) → Counted → Type 0
-ArgumentsKept payload starts ends tables msg base left (counted.Count n) = CountTold payload starts ends tables msg base left n
-ArgumentsKept payload starts ends tables msg base left (counted.Refused error) = Unit {0}
+abbrev pub ArgumentsKept : (payload notes : List ℕ) → Tables → List ℕ → (base left : ℕ) → Counted → Type 0
+ArgumentsKept payload notes tables msg base left (counted.Count n) = CountTold payload notes tables msg base left n
+ArgumentsKept payload notes tables msg base left (counted.Refused error) = Unit {0}
 
-pub record CountedTold (payload starts ends : List ℕ) (tables : Tables) (msg : List ℕ) (base left : ℕ) (r : Counted) : Type 0 where
+pub record CountedTold (payload notes : List ℕ) (tables : Tables) (msg : List ℕ) (base left : ℕ) (r : Counted) : Type 0 where
   pub cuts : (m : Message) → cut (_from_ base msg) ≡ ok m → ArgumentsCut (messages Type·argument m) r
-  pub kept : ArgumentsKept payload starts ends tables msg base left r
+  pub kept : ArgumentsKept payload notes tables msg base left r
 
 -- A type is entered: its own row is written, and those of its arguments are to follow.
 abbrev pub EnteredIs : Scope → ℕ → Message → ℕ → Bool → State → Walked → (S S′ T T′ : List ℕ) → Type 0
@@ -109,20 +109,20 @@ pub record ArgumentsTold (e : Lent) (msg : List ℕ) (base left : ℕ) (s : Stat
       → (d : ℕ) → left ≡ maxDepth - d
       → WalkedTold (kept (argumentIn (typeAt allowance c) c d) ms (s .types)) argumentRows s r S S′ T T′
 
--- The area that is lent has room from `top` on for all that may wait: for as many as types may still be entered, or, where there is no type to look
--- up, for as many as the message has bytes.
-pub data Fits (tables : Tables) (top types bytes room : ℕ) : Type 0 where
-  asTypes : top + types ≤ room → Fits tables top types bytes room
-  asBytes : tables .types ≡ 0 → top + bytes ≤ room → Fits tables top types bytes room
+-- The area that is lent has room for all that may wait: for as many as types may still be entered, or, where there is no type to look up, for as
+-- many as the message has bytes.
+pub data Fits (tables : Tables) (types bytes room : ℕ) : Type 0 where
+  asTypes : types ≤ room → Fits tables types bytes room
+  asBytes : tables .types ≡ 0 → bytes ≤ room → Fits tables types bytes room
 
 -- the same of a look-up, which finds nothing where there is nothing
-pub data FitsEntry (tables : Tables) (top types room : ℕ) : Type 0 where
-  roomy : top + types ≤ room → FitsEntry tables top types room
-  nowhere : tables .types ≡ 0 → FitsEntry tables top types room
+pub data FitsEntry (tables : Tables) (types room : ℕ) : Type 0 where
+  roomy : types ≤ room → FitsEntry tables types room
+  nowhere : tables .types ≡ 0 → FitsEntry tables types room
 
 -- What a walk of arguments starts from.
-pub record NestRoom (payload d2 msg nest : List ℕ) (tables : Tables) (base left top : ℕ) (s : State) : Type 0 where
+pub record NestRoom (payload d2 msg nest : List ℕ) (tables : Tables) (base left : ℕ) (s : State) : Type 0 where
   pub ready : Ready payload d2 s
   pub inside : base + length msg ≤ length payload
   pub deep : left ≤ maxDepth
-  pub room : Fits tables top (s .types) (length msg) (length nest)
+  pub room : Fits tables (s .types) (length msg) (length nest)

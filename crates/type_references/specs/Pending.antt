@@ -5,15 +5,15 @@ use mathlib.Core.List.{List, [], _∷_, _++_}
 use Prim.Native.Nat.{ℕ, zero, suc, _+_, _-_, _*_, _/_, _%_, _≤_}
 use lib.ListN.{length, getD}
 use Rattle.foundation.specs.Results.{Res, ok, refused, _from_}
+use Rattle.fields.specs.Fields.{Type·argument}
 use Rattle.wire.specs.Wire.{Message, cut}
 use Rattle.wire.specs.Messages.{messages}
 use Rattle.characters.specs.Characters.{partFrom}
 use Rattle.sheet.specs.Rows.{Row}
-use Rattle.schema.specs.Fields.{Type·argument}
-use Rattle.rows.specs.Declarations.{Ty, typesOf}
+use Rattle.declaration_rows.specs.Declarations.{Ty, typesOf}
 use Rattle.schema.specs.Reading.{Read, pure, _>>=_, kept, Scope, allowance}
 use Rattle.schema.specs.Types.{maxDepth, argumentIn, typeAt}
-use Rattle.rows.specs.Rows.{argumentRole, typesRows}
+use Rattle.declaration_rows.specs.Rows.{argumentRole, typesRows}
 
 -- what is read, as the rows that it comes to
 abbrev pub rowsRead : {A : Type 0} → (A → List Row) → Res (A × ℕ) → Res (List Row × ℕ)
@@ -62,12 +62,12 @@ pub record Pends (base : ℕ) (msg : List ℕ) (at end left : ℕ) (w : Wait) : 
   pub many : messages Type·argument rest ≡ ok (w .arguments)
   pub deep : left ≡ maxDepth - w .depth
 
--- What the area holds from the place `top` to `height`, the last one first.
-abbrev pub Stacked : ℕ → List ℕ → List ℕ → ℕ → ℕ → List Wait → Type 0
-Stacked base msg nest top height [] = height ≡ top
-Stacked base msg nest top height (w ∷ ws) =
-    (h : ℕ) × (height ≡ suc h) × (top ≤ h) × Pends base msg (atIn (getD nest h 0)) (endIn (getD nest h 0)) (leftIn (getD nest h 0)) w
-    × Stacked base msg nest top h ws
+-- What the area holds below a height, the last one first.
+abbrev pub Stacked : ℕ → List ℕ → List ℕ → ℕ → List Wait → Type 0
+Stacked base msg nest height [] = height ≡ 0
+Stacked base msg nest height (w ∷ ws) =
+    (h : ℕ) × (height ≡ suc h) × Pends base msg (atIn (getD nest h 0)) (endIn (getD nest h 0)) (leftIn (getD nest h 0)) w
+    × Stacked base msg nest h ws
 
 -- That it stands inside the message, whatever is lent, no less deep than a type's arguments.
 pub record Inside (msg : List ℕ) (left code : ℕ) : Type 0 where

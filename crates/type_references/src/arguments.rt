@@ -2,6 +2,9 @@
 ghost use Prim.Native.Nat.{_+_, _≤_};
 ghost use lib.ListN.{length};
 ghost use Rattle.type_references.specs.ParseTold.{TypeFieldTold, ArgumentTold, KeptTold, CountTold};
+use fields::TYPE_ARGUMENT;
+use fields::TYPE_ARGUMENT_TYPE;
+use fields::TYPE_ARGUMENT_TYPE_ID;
 use messages::Checked;
 use messages::Indexed;
 use messages::bytes;
@@ -13,13 +16,6 @@ use schema::Tables;
 use schema::types::entry_at;
 use wire::Piece;
 use wire::WireError;
-
-// Field numbers of metadata.proto's Type and Type.Argument.
-pub const ARGUMENT: u32 = 2;
-
-const ARGUMENT_TYPE: u32 = 2;
-
-const ARGUMENT_TYPE_ID: u32 = 3;
 
 // The type of an argument or of a declaration: inline, by its index, or not there.
 pub enum Argument {
@@ -60,7 +56,12 @@ pub fn argument_at(msg: &[u8], base: u32, from: usize, to: usize) -> Argument
     ensures { λ r. ⌜ ArgumentTold base (now (msg .entry)) from to r ⌝ }
 {
     let first = base + from as u32;
-    let inner = type_field(&msg[from..to], first, ARGUMENT_TYPE, ARGUMENT_TYPE_ID);
+    let inner = type_field(
+        &msg[from..to],
+        first,
+        TYPE_ARGUMENT_TYPE,
+        TYPE_ARGUMENT_TYPE_ID,
+    );
     match inner {
         Argument::Inline { start, end } => Argument::Inline {
             start: from + start,
@@ -78,24 +79,23 @@ fn is_kept(
     base: u32,
     left: usize,
     payload: &[u8],
-    entry_starts: &[u32],
-    entry_ends: &[u32],
+    notes: &[u64],
     tables: Tables,
 ) -> bool
-    ensures { λ r. ⌜ KeptTold (now (payload .entry)) (now («entry_starts» .entry)) (now («entry_ends» .entry)) tables (now (msg .entry)) base left r ⌝ }
+    ensures { λ r. ⌜ KeptTold (now (payload .entry)) (now (notes .entry)) tables (now (msg .entry)) base left r ⌝ }
 {
-    let inner = bytes(&*msg, base, ARGUMENT_TYPE);
+    let inner = bytes(&*msg, base, TYPE_ARGUMENT_TYPE);
     let Piece::Nothing = inner else {
         return true;
     };
     if left == 0 {
         return false;
     }
-    let found = index(&*msg, base, ARGUMENT_TYPE_ID);
+    let found = index(&*msg, base, TYPE_ARGUMENT_TYPE_ID);
     let Indexed::At { index: i } = found else {
         return false;
     };
-    let entry = entry_at(&*payload, &*entry_starts, &*entry_ends, tables.types, i);
+    let entry = entry_at(&*payload, &*notes, tables, i);
     let Piece::Nothing = entry else {
         return true;
     };
@@ -108,17 +108,16 @@ pub fn count_kept(
     base: u32,
     left: usize,
     payload: &[u8],
-    entry_starts: &[u32],
-    entry_ends: &[u32],
+    notes: &[u64],
     tables: Tables,
 ) -> usize
     requires { ⌜ base + length (now msg) ≤ 32768 ⌝ }
-    ensures { λ r. ⌜ CountTold (now (payload .entry)) (now («entry_starts» .entry)) (now («entry_ends» .entry)) tables (now (msg .entry)) base left r ⌝ }
+    ensures { λ r. ⌜ CountTold (now (payload .entry)) (now (notes .entry)) tables (now (msg .entry)) base left r ⌝ }
 {
     let mut at = 0;
     let mut count: usize = 0;
     loop {
-        let piece = next_body(&*msg, base, ARGUMENT, at);
+        let piece = next_body(&*msg, base, TYPE_ARGUMENT, at);
         let Piece::Body { start, end } = piece else {
             return count;
         };
@@ -128,8 +127,7 @@ pub fn count_kept(
             base + start as u32,
             left,
             &*payload,
-            &*entry_starts,
-            &*entry_ends,
+            &*notes,
             tables,
         ) {
             count += 1;

@@ -5,21 +5,21 @@ ghost use mathlib.Core.List.{[], _∷_};
 ghost use Prim.Native.Nat.{_+_, _-_, _≤_};
 ghost use lib.ListN.{length};
 ghost use Rattle.foundation.specs.Results.{ok, _from_};
+ghost use Rattle.fields.specs.Fields.{Type·argument};
 ghost use Rattle.wire.specs.Wire.{cut, Message};
 ghost use Rattle.messages.specs.Asked.{bodies};
 ghost use Rattle.names.specs.Name.{nameText};
-ghost use Rattle.sheet.specs.Rows.{num, bit, row};
+ghost use Rattle.sheet.specs.Rows.{row};
 ghost use Rattle.sheet.specs.Put.{PutRows};
-ghost use Rattle.schema.specs.Fields.{Type·argument};
-ghost use Rattle.rows.specs.Rows.{named};
+ghost use Rattle.declaration_rows.specs.Rows.{typeCells};
 ghost use Rattle.schema.specs.Told.{lent, Ready};
 ghost use Rattle.type_references.specs.ParseTold.{CountedTold, EnterTold};
-use crate::arguments::ARGUMENT;
 use crate::arguments::count_kept;
+use declaration_rows::put_named;
+use fields::TYPE_ARGUMENT;
 use messages::Checked;
 use messages::check_messages;
 use names::name::Name;
-use rows::put_named;
 use schema::Stop;
 use schema::Tables;
 use schema::Walked;
@@ -32,6 +32,13 @@ use sheet::put;
 use sheet::put_bit;
 use sheet::put_number;
 use wire::WireError;
+
+// Where a type stands: what is left of the depth there, its role on the sheet, and whether it is nullable by its place in the type table.
+pub struct TypePlace {
+    pub left: usize,
+    pub role: u8,
+    pub nullable: bool,
+}
 
 // A type's record.
 fn put_type(
@@ -46,7 +53,7 @@ fn put_type(
     text: &mut [u8],
 ) -> State
     requires { ⌜ Ready (now payload) (now d2) state × (1 ≤ state .types) ⌝ }
-    ensures { λ r. ⌜ PutRows (row 6 (num 1 role ∷ bit nullable ∷ named (nameText (now (payload .entry)) (now (d2 .entry)) name) ∷ num 2 count ∷ []) ∷ []) (state .types - 1) state r (now (sheet .entry)) (now (sheet .exit)) (now (text .entry)) (now (text .exit)) ⌝ }
+    ensures { λ r. ⌜ PutRows (row 6 (typeCells role nullable (nameText (now (payload .entry)) (now (d2 .entry)) name) count) ∷ []) (state .types - 1) state r (now (sheet .entry)) (now (sheet .exit)) (now (text .entry)) (now (text .exit)) ⌝ }
 {
     let at = state.sheet;
     put(sheet, at, 6);
@@ -80,32 +87,23 @@ fn count_arguments(
     left: usize,
     some: bool,
     payload: &[u8],
-    entry_starts: &[u32],
-    entry_ends: &[u32],
+    notes: &[u64],
     tables: Tables,
 ) -> Counted
     requires { ⌜ (base + length (now msg) ≤ 32768) × (some ≡ false → (m : Message) → cut (_from_ base (now msg)) ≡ ok m → bodies Type·argument m ≡ []) ⌝ }
-    ensures { λ r. ⌜ CountedTold (now (payload .entry)) (now («entry_starts» .entry)) (now («entry_ends» .entry)) tables (now (msg .entry)) base left r ⌝ }
+    ensures { λ r. ⌜ CountedTold (now (payload .entry)) (now (notes .entry)) tables (now (msg .entry)) base left r ⌝ }
 {
     if !some {
         return Counted::Count { count: 0 };
     }
-    let checked = check_messages(&*msg, base, ARGUMENT);
+    let checked = check_messages(&*msg, base, TYPE_ARGUMENT);
     let Checked::Whole = checked else {
         return Counted::Refused {
             error: checked.error(),
         };
     };
     Counted::Count {
-        count: count_kept(
-            &*msg,
-            base,
-            left,
-            &*payload,
-            &*entry_starts,
-            &*entry_ends,
-            tables,
-        ),
+        count: count_kept(&*msg, base, left, &*payload, &*notes, tables),
     }
 }
 
@@ -113,24 +111,18 @@ fn count_arguments(
 pub fn enter_type(
     msg: &[u8],
     base: u32,
-    left: usize,
-    role: u8,
-    nullable: bool,
+    place: TypePlace,
     payload: &[u8],
     d2: &[u16],
     ends: &[u32],
-    starts: &[u32],
-    stops: &[u32],
-    firsts: &[u64],
-    entry_starts: &[u32],
-    entry_ends: &[u32],
+    notes: &[u64],
     tables: Tables,
     state: State,
     sheet: &mut [u8],
     text: &mut [u8],
 ) -> Walked
     requires { ⌜ Ready (now payload) (now d2) state × (base + length (now msg) ≤ length (now payload)) ⌝ }
-    ensures { λ r. ⌜ EnterTold (lent (now (payload .entry)) (now (d2 .entry)) (now (ends .entry)) (now (starts .entry)) (now (stops .entry)) (now (firsts .entry)) (now («entry_starts» .entry)) (now («entry_ends» .entry)) tables) (now (msg .entry)) base left role nullable state r (now (sheet .entry)) (now (sheet .exit)) (now (text .entry)) (now (text .exit)) ⌝ }
+    ensures { λ r. ⌜ EnterTold (lent (now (payload .entry)) (now (d2 .entry)) (now (ends .entry)) (now (notes .entry)) tables) (now (msg .entry)) base (place .left) (place .role) (place .nullable) state r (now (sheet .entry)) (now (sheet .exit)) (now (text .entry)) (now (text .exit)) ⌝ }
 {
     let types = state.types;
     if types == 0 {
@@ -142,11 +134,10 @@ pub fn enter_type(
     let arguments = count_arguments(
         &*msg,
         base,
-        less(left),
+        less(place.left),
         own.arguments,
         &*payload,
-        &*entry_starts,
-        &*entry_ends,
+        &*notes,
         tables,
     );
     match arguments {
@@ -154,20 +145,11 @@ pub fn enter_type(
             stop: Stop::Wire { error },
         },
         Counted::Count { count } => {
-            let nulls = either(nullable, own.nullable);
+            let nulls = either(place.nullable, own.nullable);
             let found = own.name;
-            let name = class_name_at(
-                found,
-                &*payload,
-                &*d2,
-                &*ends,
-                &*starts,
-                &*stops,
-                &*firsts,
-                tables.records,
-            );
+            let name = class_name_at(found, &*payload, &*d2, &*ends, &*notes, tables.records);
             let after = put_type(
-                role,
+                place.role,
                 nulls,
                 &*payload,
                 &*d2,

@@ -8,14 +8,18 @@ ghost use Rattle.schema.specs.Told.{lent, Ready};
 ghost use Rattle.schema.specs.TypesTold.{ParseTold};
 ghost use Rattle.type_references.specs.ParseTold.{ArgumentsTold};
 ghost use Rattle.type_references.specs.OptionalTold.{LookedTold, OptionalTold};
-use arguments::ARGUMENT;
 use arguments::Argument;
 use arguments::type_field;
+use enter::TypePlace;
 use enter::enter_type;
+use fields::TYPE_ARGUMENT;
 use messages::next_body;
 use parse::arguments_at;
+use schema::ALLOWANCE;
+use schema::MAX_DEPTH;
 use schema::Stop;
 use schema::Tables;
+use schema::TypeSlot;
 use schema::Walked;
 use schema::types::entry_at;
 use schema::types::less;
@@ -27,9 +31,6 @@ pub mod arguments; // arguments.rt: the arguments of a type
 pub mod enter; // enter.rt: a type's own row
 pub mod parse; // parse.rt: types inside types
 
-// Look-ups at this depth or deeper yield no type.
-const MAX_DEPTH: usize = 64;
-
 // The arguments of a declaration's own type where there is no type to look up: as many wait as a short message has bytes at most.
 fn short_arguments(
     msg: &[u8],
@@ -38,33 +39,24 @@ fn short_arguments(
     payload: &[u8],
     d2: &[u16],
     ends: &[u32],
-    starts: &[u32],
-    stops: &[u32],
-    firsts: &[u64],
-    entry_starts: &[u32],
-    entry_ends: &[u32],
+    notes: &[u64],
     tables: Tables,
     state: State,
     sheet: &mut [u8],
     text: &mut [u8],
 ) -> Walked
     requires { ⌜ Ready (now payload) (now d2) state × (base + length (now msg) ≤ length (now payload)) × (left ≤ 64) × (tables .types ≡ 0) × (length (now msg) ≤ 128) ⌝ }
-    ensures { λ r. ⌜ ArgumentsTold (lent (now (payload .entry)) (now (d2 .entry)) (now (ends .entry)) (now (starts .entry)) (now (stops .entry)) (now (firsts .entry)) (now («entry_starts» .entry)) (now («entry_ends» .entry)) tables) (now (msg .entry)) base left state r (now (sheet .entry)) (now (sheet .exit)) (now (text .entry)) (now (text .exit)) ⌝ }
+    ensures { λ r. ⌜ ArgumentsTold (lent (now (payload .entry)) (now (d2 .entry)) (now (ends .entry)) (now (notes .entry)) tables) (now (msg .entry)) base left state r (now (sheet .entry)) (now (sheet .exit)) (now (text .entry)) (now (text .exit)) ⌝ }
 {
     let mut nest = [0u64; 128];
     arguments_at(
         &*msg,
         base,
         left,
-        0,
         &*payload,
         &*d2,
         &*ends,
-        &*starts,
-        &*stops,
-        &*firsts,
-        &*entry_starts,
-        &*entry_ends,
+        &*notes,
         tables,
         state,
         &mut nest,
@@ -81,33 +73,24 @@ fn long_arguments(
     payload: &[u8],
     d2: &[u16],
     ends: &[u32],
-    starts: &[u32],
-    stops: &[u32],
-    firsts: &[u64],
-    entry_starts: &[u32],
-    entry_ends: &[u32],
+    notes: &[u64],
     tables: Tables,
     state: State,
     sheet: &mut [u8],
     text: &mut [u8],
 ) -> Walked
     requires { ⌜ Ready (now payload) (now d2) state × (base + length (now msg) ≤ length (now payload)) × (left ≤ 64) ⌝ }
-    ensures { λ r. ⌜ ArgumentsTold (lent (now (payload .entry)) (now (d2 .entry)) (now (ends .entry)) (now (starts .entry)) (now (stops .entry)) (now (firsts .entry)) (now («entry_starts» .entry)) (now («entry_ends» .entry)) tables) (now (msg .entry)) base left state r (now (sheet .entry)) (now (sheet .exit)) (now (text .entry)) (now (text .exit)) ⌝ }
+    ensures { λ r. ⌜ ArgumentsTold (lent (now (payload .entry)) (now (d2 .entry)) (now (ends .entry)) (now (notes .entry)) tables) (now (msg .entry)) base left state r (now (sheet .entry)) (now (sheet .exit)) (now (text .entry)) (now (text .exit)) ⌝ }
 {
-    let mut nest = [0u64; 2048];
+    let mut nest = [0u64; ALLOWANCE];
     arguments_at(
         &*msg,
         base,
         left,
-        0,
         &*payload,
         &*d2,
         &*ends,
-        &*starts,
-        &*stops,
-        &*firsts,
-        &*entry_starts,
-        &*entry_ends,
+        &*notes,
         tables,
         state,
         &mut nest,
@@ -125,18 +108,14 @@ fn own_arguments(
     payload: &[u8],
     d2: &[u16],
     ends: &[u32],
-    starts: &[u32],
-    stops: &[u32],
-    firsts: &[u64],
-    entry_starts: &[u32],
-    entry_ends: &[u32],
+    notes: &[u64],
     tables: Tables,
     state: State,
     sheet: &mut [u8],
     text: &mut [u8],
 ) -> Walked
     requires { ⌜ Ready (now payload) (now d2) state × (base + length (now msg) ≤ length (now payload)) × (left ≤ 64) ⌝ }
-    ensures { λ r. ⌜ ArgumentsTold (lent (now (payload .entry)) (now (d2 .entry)) (now (ends .entry)) (now (starts .entry)) (now (stops .entry)) (now (firsts .entry)) (now («entry_starts» .entry)) (now («entry_ends» .entry)) tables) (now (msg .entry)) base left state r (now (sheet .entry)) (now (sheet .exit)) (now (text .entry)) (now (text .exit)) ⌝ }
+    ensures { λ r. ⌜ ArgumentsTold (lent (now (payload .entry)) (now (d2 .entry)) (now (ends .entry)) (now (notes .entry)) tables) (now (msg .entry)) base left state r (now (sheet .entry)) (now (sheet .exit)) (now (text .entry)) (now (text .exit)) ⌝ }
 {
     let types = tables.types;
     if types == 0 {
@@ -148,11 +127,7 @@ fn own_arguments(
                 &*payload,
                 &*d2,
                 &*ends,
-                &*starts,
-                &*stops,
-                &*firsts,
-                &*entry_starts,
-                &*entry_ends,
+                &*notes,
                 tables,
                 state,
                 sheet,
@@ -168,11 +143,7 @@ fn own_arguments(
             &*payload,
             &*d2,
             &*ends,
-            &*starts,
-            &*stops,
-            &*firsts,
-            &*entry_starts,
-            &*entry_ends,
+            &*notes,
             tables,
             state,
             sheet,
@@ -186,11 +157,7 @@ fn own_arguments(
         &*payload,
         &*d2,
         &*ends,
-        &*starts,
-        &*stops,
-        &*firsts,
-        &*entry_starts,
-        &*entry_ends,
+        &*notes,
         tables,
         state,
         sheet,
@@ -202,39 +169,27 @@ fn own_arguments(
 fn own_type(
     msg: &[u8],
     base: u32,
-    left: usize,
-    role: u8,
-    nullable: bool,
+    place: TypePlace,
     payload: &[u8],
     d2: &[u16],
     ends: &[u32],
-    starts: &[u32],
-    stops: &[u32],
-    firsts: &[u64],
-    entry_starts: &[u32],
-    entry_ends: &[u32],
+    notes: &[u64],
     tables: Tables,
     state: State,
     sheet: &mut [u8],
     text: &mut [u8],
 ) -> Walked
-    requires { ⌜ Ready (now payload) (now d2) state × (base + length (now msg) ≤ length (now payload)) × (left ≤ 64) ⌝ }
-    ensures { λ r. ⌜ ParseTold (lent (now (payload .entry)) (now (d2 .entry)) (now (ends .entry)) (now (starts .entry)) (now (stops .entry)) (now (firsts .entry)) (now («entry_starts» .entry)) (now («entry_ends» .entry)) tables) (now (msg .entry)) base left role nullable state r (now (sheet .entry)) (now (sheet .exit)) (now (text .entry)) (now (text .exit)) ⌝ }
+    requires { ⌜ Ready (now payload) (now d2) state × (base + length (now msg) ≤ length (now payload)) × (place .left ≤ 64) ⌝ }
+    ensures { λ r. ⌜ ParseTold (lent (now (payload .entry)) (now (d2 .entry)) (now (ends .entry)) (now (notes .entry)) tables) (now (msg .entry)) base (place .left) (place .role) (place .nullable) state r (now (sheet .entry)) (now (sheet .exit)) (now (text .entry)) (now (text .exit)) ⌝ }
 {
     let entered = enter_type(
         &*msg,
         base,
-        left,
-        role,
-        nullable,
+        place,
         &*payload,
         &*d2,
         &*ends,
-        &*starts,
-        &*stops,
-        &*firsts,
-        &*entry_starts,
-        &*entry_ends,
+        &*notes,
         tables,
         state,
         sheet,
@@ -243,22 +198,18 @@ fn own_type(
     let Walked::Done { state: after } = entered else {
         return entered;
     };
-    let argument = next_body(&*msg, base, ARGUMENT, 0);
+    let argument = next_body(&*msg, base, TYPE_ARGUMENT, 0);
     let Piece::Body { start: _, end: _ } = argument else {
         return entered;
     };
     own_arguments(
         &*msg,
         base,
-        less(left),
+        less(place.left),
         &*payload,
         &*d2,
         &*ends,
-        &*starts,
-        &*stops,
-        &*firsts,
-        &*entry_starts,
-        &*entry_ends,
+        &*notes,
         tables,
         after,
         sheet,
@@ -273,38 +224,33 @@ fn looked_up(
     payload: &[u8],
     d2: &[u16],
     ends: &[u32],
-    starts: &[u32],
-    stops: &[u32],
-    firsts: &[u64],
-    entry_starts: &[u32],
-    entry_ends: &[u32],
+    notes: &[u64],
     tables: Tables,
     state: State,
     sheet: &mut [u8],
     text: &mut [u8],
 ) -> Walked
     requires { ⌜ Ready (now payload) (now d2) state ⌝ }
-    ensures { λ r. ⌜ LookedTold (lent (now (payload .entry)) (now (d2 .entry)) (now (ends .entry)) (now (starts .entry)) (now (stops .entry)) (now (firsts .entry)) (now («entry_starts» .entry)) (now («entry_ends» .entry)) tables) index role state r (now (sheet .entry)) (now (sheet .exit)) (now (text .entry)) (now (text .exit)) ⌝ }
+    ensures { λ r. ⌜ LookedTold (lent (now (payload .entry)) (now (d2 .entry)) (now (ends .entry)) (now (notes .entry)) tables) index role state r (now (sheet .entry)) (now (sheet .exit)) (now (text .entry)) (now (text .exit)) ⌝ }
 {
-    let entry = entry_at(&*payload, &*entry_starts, &*entry_ends, tables.types, index);
+    let entry = entry_at(&*payload, &*notes, tables, index);
     let Piece::Body { start, end } = entry else {
         return Walked::Done { state };
     };
     let nullable = tables.first_nullable <= index as u64;
+    let place = TypePlace {
+        left: MAX_DEPTH - 1,
+        role,
+        nullable,
+    };
     own_type(
         &payload[start..end],
         start as u32,
-        MAX_DEPTH - 1,
-        role,
-        nullable,
+        place,
         &*payload,
         &*d2,
         &*ends,
-        &*starts,
-        &*stops,
-        &*firsts,
-        &*entry_starts,
-        &*entry_ends,
+        &*notes,
         tables,
         state,
         sheet,
@@ -316,57 +262,48 @@ fn looked_up(
 pub fn declared_type(
     msg: &[u8],
     base: u32,
-    inline: u32,
-    indexed: u32,
-    role: u8,
+    slot: TypeSlot,
     payload: &[u8],
     d2: &[u16],
     ends: &[u32],
-    starts: &[u32],
-    stops: &[u32],
-    firsts: &[u64],
-    entry_starts: &[u32],
-    entry_ends: &[u32],
+    notes: &[u64],
     tables: Tables,
     state: State,
     sheet: &mut [u8],
     text: &mut [u8],
 ) -> Walked
     requires { ⌜ Ready (now payload) (now d2) state × (base + length (now msg) ≤ length (now payload)) ⌝ }
-    ensures { λ r. ⌜ OptionalTold (lent (now (payload .entry)) (now (d2 .entry)) (now (ends .entry)) (now (starts .entry)) (now (stops .entry)) (now (firsts .entry)) (now («entry_starts» .entry)) (now («entry_ends» .entry)) tables) (now (msg .entry)) base inline indexed role state r (now (sheet .entry)) (now (sheet .exit)) (now (text .entry)) (now (text .exit)) ⌝ }
+    ensures { λ r. ⌜ OptionalTold (lent (now (payload .entry)) (now (d2 .entry)) (now (ends .entry)) (now (notes .entry)) tables) (now (msg .entry)) base (slot .inline) (slot .indexed) (slot .role) state r (now (sheet .entry)) (now (sheet .exit)) (now (text .entry)) (now (text .exit)) ⌝ }
 {
-    let inner = type_field(&*msg, base, inline, indexed);
+    let inner = type_field(&*msg, base, slot.inline, slot.indexed);
     match inner {
-        Argument::Inline { start, end } => own_type(
-            &msg[start..end],
-            base + start as u32,
-            MAX_DEPTH,
-            role,
-            false,
-            &*payload,
-            &*d2,
-            &*ends,
-            &*starts,
-            &*stops,
-            &*firsts,
-            &*entry_starts,
-            &*entry_ends,
-            tables,
-            state,
-            sheet,
-            text,
-        ),
+        Argument::Inline { start, end } => {
+            let place = TypePlace {
+                left: MAX_DEPTH,
+                role: slot.role,
+                nullable: false,
+            };
+            own_type(
+                &msg[start..end],
+                base + start as u32,
+                place,
+                &*payload,
+                &*d2,
+                &*ends,
+                &*notes,
+                tables,
+                state,
+                sheet,
+                text,
+            )
+        }
         Argument::ByIndex { index } => looked_up(
             index,
-            role,
+            slot.role,
             &*payload,
             &*d2,
             &*ends,
-            &*starts,
-            &*stops,
-            &*firsts,
-            &*entry_starts,
-            &*entry_ends,
+            &*notes,
             tables,
             state,
             sheet,

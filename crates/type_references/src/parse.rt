@@ -1,18 +1,19 @@
 // Types and their arguments. `parse_at`, `arguments_at` and `resolve_at` are one cycle: what falls along it is the depth left, since a look-up
 // takes one of it. Types inside types are a loop, since an input can nest 2,048 of them: what falls there is the bytes left. What is told:
 // specs/ParseTold.antt and schema's specs/TypesTold.antt.
-ghost use mathlib.Core.Path.{_≡_};
 ghost use Prim.Native.Nat.{_≤_};
-ghost use lib.ListN.{length, take};
+ghost use lib.ListN.{length};
 ghost use Rattle.schema.specs.Told.{lent, Ready};
 ghost use Rattle.schema.specs.TypesTold.{ParseTold, ResolveTold};
 ghost use Rattle.type_references.specs.ParseTold.{ArgumentsTold, FitsEntry, NestRoom};
-use crate::arguments::ARGUMENT;
 use crate::arguments::Argument;
 use crate::arguments::argument_at;
+use crate::enter::TypePlace;
 use crate::enter::enter_type;
 use crate::waiting::push;
 use crate::waiting::waiting_at;
+use declaration_rows::ARGUMENT_ROLE;
+use fields::TYPE_ARGUMENT;
 use messages::next_body;
 use schema::Picked;
 use schema::Stop;
@@ -24,44 +25,38 @@ use schema::types::picked;
 use sheet::State;
 use wire::Piece;
 
-const ARGUMENT_ROLE: u8 = 5;
-
-// The arguments of the type in a message, one after the other, and theirs. `left` is left at them; what waits stands from `top` on.
+// The arguments of the type in a message, one after the other, and theirs. `left` is left at them; what waits stands in `nest`, and a look-up is
+// lent what is free of it.
 pub fn arguments_at(
     msg: &[u8],
     base: u32,
     left: usize,
-    top: usize,
     payload: &[u8],
     d2: &[u16],
     ends: &[u32],
-    starts: &[u32],
-    stops: &[u32],
-    firsts: &[u64],
-    entry_starts: &[u32],
-    entry_ends: &[u32],
+    notes: &[u64],
     tables: Tables,
     state: State,
     nest: &mut [u64],
     sheet: &mut [u8],
     text: &mut [u8],
 ) -> Walked
-    requires { ⌜ NestRoom (now payload) (now d2) (now msg) (now nest) tables base left top state ⌝ }
-    ensures { λ r. ⌜ ArgumentsTold (lent (now (payload .entry)) (now (d2 .entry)) (now (ends .entry)) (now (starts .entry)) (now (stops .entry)) (now (firsts .entry)) (now («entry_starts» .entry)) (now («entry_ends» .entry)) tables) (now (msg .entry)) base left state r (now (sheet .entry)) (now (sheet .exit)) (now (text .entry)) (now (text .exit)) × (take top (now (nest .exit)) ≡ take top (now (nest .entry))) ⌝ }
+    requires { ⌜ NestRoom (now payload) (now d2) (now msg) (now nest) tables base left state ⌝ }
+    ensures { λ r. ⌜ ArgumentsTold (lent (now (payload .entry)) (now (d2 .entry)) (now (ends .entry)) (now (notes .entry)) tables) (now (msg .entry)) base left state r (now (sheet .entry)) (now (sheet .exit)) (now (text .entry)) (now (text .exit)) ⌝ }
 {
     let mut at = 0;
     let mut end = msg.len();
     let mut deep = left;
-    let mut height = top;
+    let mut height: usize = 0;
     let mut next = state;
     loop {
-        let piece = next_body(&msg[..end], base, ARGUMENT, at);
+        let piece = next_body(&msg[..end], base, TYPE_ARGUMENT, at);
         let Piece::Body {
             start: from,
             end: to,
         } = piece
         else {
-            if height == top {
+            if height == 0 {
                 return Walked::Done { state: next };
             }
             height -= 1;
@@ -78,20 +73,19 @@ pub fn arguments_at(
                 start: first,
                 end: last,
             } => {
+                let place = TypePlace {
+                    left: deep,
+                    role: ARGUMENT_ROLE,
+                    nullable: false,
+                };
                 let entered = enter_type(
                     &msg[first..last],
                     base + first as u32,
-                    deep,
-                    ARGUMENT_ROLE,
-                    false,
+                    place,
                     &*payload,
                     &*d2,
                     &*ends,
-                    &*starts,
-                    &*stops,
-                    &*firsts,
-                    &*entry_starts,
-                    &*entry_ends,
+                    &*notes,
                     tables,
                     next,
                     sheet,
@@ -112,18 +106,13 @@ pub fn arguments_at(
                     index,
                     deep,
                     ARGUMENT_ROLE,
-                    height,
                     &*payload,
                     &*d2,
                     &*ends,
-                    &*starts,
-                    &*stops,
-                    &*firsts,
-                    &*entry_starts,
-                    &*entry_ends,
+                    &*notes,
                     tables,
                     next,
-                    nest,
+                    &mut nest[height..],
                     sheet,
                     text,
                 );
@@ -147,41 +136,28 @@ pub fn arguments_at(
 pub fn parse_at(
     msg: &[u8],
     base: u32,
-    left: usize,
-    role: u8,
-    nullable: bool,
-    top: usize,
+    place: TypePlace,
     payload: &[u8],
     d2: &[u16],
     ends: &[u32],
-    starts: &[u32],
-    stops: &[u32],
-    firsts: &[u64],
-    entry_starts: &[u32],
-    entry_ends: &[u32],
+    notes: &[u64],
     tables: Tables,
     state: State,
     nest: &mut [u64],
     sheet: &mut [u8],
     text: &mut [u8],
 ) -> Walked
-    requires { ⌜ NestRoom (now payload) (now d2) (now msg) (now nest) tables base left top state ⌝ }
-    ensures { λ r. ⌜ ParseTold (lent (now (payload .entry)) (now (d2 .entry)) (now (ends .entry)) (now (starts .entry)) (now (stops .entry)) (now (firsts .entry)) (now («entry_starts» .entry)) (now («entry_ends» .entry)) tables) (now (msg .entry)) base left role nullable state r (now (sheet .entry)) (now (sheet .exit)) (now (text .entry)) (now (text .exit)) × (take top (now (nest .exit)) ≡ take top (now (nest .entry))) ⌝ }
+    requires { ⌜ NestRoom (now payload) (now d2) (now msg) (now nest) tables base (place .left) state ⌝ }
+    ensures { λ r. ⌜ ParseTold (lent (now (payload .entry)) (now (d2 .entry)) (now (ends .entry)) (now (notes .entry)) tables) (now (msg .entry)) base (place .left) (place .role) (place .nullable) state r (now (sheet .entry)) (now (sheet .exit)) (now (text .entry)) (now (text .exit)) ⌝ }
 {
     let entered = enter_type(
         &*msg,
         base,
-        left,
-        role,
-        nullable,
+        place,
         &*payload,
         &*d2,
         &*ends,
-        &*starts,
-        &*stops,
-        &*firsts,
-        &*entry_starts,
-        &*entry_ends,
+        &*notes,
         tables,
         state,
         sheet,
@@ -193,16 +169,11 @@ pub fn parse_at(
     arguments_at(
         &*msg,
         base,
-        less(left),
-        top,
+        less(place.left),
         &*payload,
         &*d2,
         &*ends,
-        &*starts,
-        &*stops,
-        &*firsts,
-        &*entry_starts,
-        &*entry_ends,
+        &*notes,
         tables,
         after,
         nest,
@@ -216,47 +187,40 @@ pub fn resolve_at(
     index: u32,
     left: usize,
     role: u8,
-    top: usize,
     payload: &[u8],
     d2: &[u16],
     ends: &[u32],
-    starts: &[u32],
-    stops: &[u32],
-    firsts: &[u64],
-    entry_starts: &[u32],
-    entry_ends: &[u32],
+    notes: &[u64],
     tables: Tables,
     state: State,
     nest: &mut [u64],
     sheet: &mut [u8],
     text: &mut [u8],
 ) -> Picked
-    requires { ⌜ Ready (now payload) (now d2) state × (left ≤ 64) × FitsEntry tables top (state .types) (length (now nest)) ⌝ }
-    ensures { λ r. ⌜ ResolveTold (lent (now (payload .entry)) (now (d2 .entry)) (now (ends .entry)) (now (starts .entry)) (now (stops .entry)) (now (firsts .entry)) (now («entry_starts» .entry)) (now («entry_ends» .entry)) tables) index left role state r (now (sheet .entry)) (now (sheet .exit)) (now (text .entry)) (now (text .exit)) × (take top (now (nest .exit)) ≡ take top (now (nest .entry))) ⌝ }
+    requires { ⌜ Ready (now payload) (now d2) state × (left ≤ 64) × FitsEntry tables (state .types) (length (now nest)) ⌝ }
+    ensures { λ r. ⌜ ResolveTold (lent (now (payload .entry)) (now (d2 .entry)) (now (ends .entry)) (now (notes .entry)) tables) index left role state r (now (sheet .entry)) (now (sheet .exit)) (now (text .entry)) (now (text .exit)) ⌝ }
 {
     if left == 0 {
         return Picked::Dropped;
     }
-    let entry = entry_at(&*payload, &*entry_starts, &*entry_ends, tables.types, index);
+    let entry = entry_at(&*payload, &*notes, tables, index);
     let Piece::Body { start, end } = entry else {
         return Picked::Dropped;
     };
     let nullable = tables.first_nullable <= index as u64;
+    let place = TypePlace {
+        left: left - 1,
+        role,
+        nullable,
+    };
     picked(parse_at(
         &payload[start..end],
         start as u32,
-        left - 1,
-        role,
-        nullable,
-        top,
+        place,
         &*payload,
         &*d2,
         &*ends,
-        &*starts,
-        &*stops,
-        &*firsts,
-        &*entry_starts,
-        &*entry_ends,
+        &*notes,
         tables,
         state,
         nest,

@@ -3,10 +3,10 @@
 use mathlib.Core.Path.{_≡_, refl}
 use Prim.Native.Nat.{_-_}
 use native.Mathlib.Omega.{arith}
-use borrow.Author.Needs.{needs}
 use lib.ListN.{length, drop}
 use lib.Seq.{sets}
 use Rattle.encoding.proofs.EncodingLaws.{byte-at, copy-step, copy-end}
+use borrow.Author.Needs.{needs}
 use Rattle.encoding.proofs.copy_bytes.Statement.{statement}
 use Rattle.encoding.proofs.copy_bytes.Tie as tie
 

@@ -3,13 +3,13 @@
 use mathlib.Core.Path.{_≡_, refl}
 use mathlib.Core.List.{List}
 use Prim.Native.Nat.{ℕ}
-use borrow.Author.Needs.{needs}
 use Rattle.foundation.specs.Results.{ok}
 use Rattle.encoding.specs.Encoding.{unpacked}
 use Rattle.encoding.specs.Outcome.{limited}
 use Rattle.encoding.specs.declared.Decoded.the-variants.{TooLong, Empty, NotAByte}
 use Rattle.encoding.proofs.EncodingLaws.{above-nothing, afterMarker, none-after, length-unpacked}
 use Rattle.encoding.proofs.OutcomeLaws.{limited-long, limited-empty, limited-above, limited-marked, limited-old, told-refused, told-short, told-bytes}
+use borrow.Author.Needs.{needs}
 use Rattle.encoding.proofs.decode.Statement.{statement}
 use Rattle.encoding.proofs.decode.Tie as tie
 
@@ -19,13 +19,11 @@ units s = s .args .d1 .now
 -- the marker is there, or isn't
 marked : (c : tie.Then3) → let us = units (c .before .before .before .before .before .before .before .before .before) in limited us ≡ ok (afterMarker us)
 marked c =
-    let e = c .before .before .before .before in
-    limited-marked _ (e .before .before .if1 .left) (e .before .if2 .left) (e .first-above-255 .ensures) (c .before .before .enum-told .given .1) (c .if3 .taken)
+    limited-marked _ (c .before .before .before .before .before .before .if1 .left) (c .before .before .before .before .before .if2 .left) (c .before .before .before .before .first-above-255 .ensures) (c .before .before .enum-told .given .1) (c .if3 .taken)
 
 old : (c : tie.Else3) → let us = units (c .before .before .before .before .before .before .before .before .before) in limited us ≡ ok (unpacked us)
 old c =
-    let e = c .before .before .before .before in
-    limited-old _ (e .before .before .if1 .left) (e .before .if2 .left) (e .first-above-255 .ensures) (c .before .before .enum-told .given .1) (c .if3 .left)
+    limited-old _ (c .before .before .before .before .before .before .if1 .left) (c .before .before .before .before .before .if2 .left) (c .before .before .before .before .first-above-255 .ensures) (c .before .before .enum-told .given .1) (c .if3 .left)
 
 returns : tie.Need-returns
 returns c = told-refused _ _ TooLong (limited-long _ (c .if1 .taken)) refl
@@ -41,8 +39,7 @@ enum-known-unit c = search needs
 
 returns-3 : tie.Need-returns-3
 returns-3 c =
-    let e = c .before .before .before in
-    told-refused _ _ (NotAByte _) (limited-above _ (e .before .before .if1 .left) (e .first-above-255 .ensures) (c .before .unit .given .1)) refl
+    told-refused _ _ (NotAByte _) (limited-above _ (c .before .before .before .before .before .if1 .left) (c .before .before .before .first-above-255 .ensures) (c .before .unit .given .1)) refl
 
 enum-told : tie.Need-enum-told
 enum-told c = search needs
@@ -65,8 +62,7 @@ returns-4 c =
 
 copy-bytes-requires : tie.Need-copy-bytes-requires
 copy-bytes-requires c κs =
-    let e = c .before .before .before .before .before .before .before in
-    (none-after (units (c .before .before .before .before .before .before .before .before .before .before .before .before)) (above-nothing _ (e .first-above-255 .ensures) (c .before .before .before .before .before .enum-told .given .1)), c .before .if4 .left)
+    (none-after (units (c .before .before .before .before .before .before .before .before .before .before .before .before)) (above-nothing _ (c .before .before .before .before .before .before .before .first-above-255 .ensures) (c .before .before .before .before .before .enum-told .given .1)), c .before .if4 .left)
 
 same-length : tie.Need-same-length
 same-length c = search needs
@@ -81,8 +77,7 @@ mul-length c = search needs
 
 returns-6 : tie.Need-returns-6
 returns-6 c =
-    let s = c .before .before .before .before .before .before .before .before .before .before in
-    told-short _ (s .args .area .now) _ _ (old (c .before)) (length-unpacked (units s)) (c .if5 .taken)
+    told-short _ (c .before .before .before .before .before .before .before .before .before .before .args .area .now) _ _ (old (c .before)) (length-unpacked (units (c .before .before .before .before .before .before .before .before .before .before))) (c .if5 .taken)
 
 unpack-requires : tie.Need-unpack-requires
 unpack-requires c κs = search needs
@@ -92,8 +87,7 @@ same-length-2 c = search needs
 
 returns-7 : tie.Need-returns-7
 returns-7 c =
-    let s = c .before .before .before .before .before .before .before .before .before .before .before .before .before .before in
-    told-bytes _ (s .args .area .now) _ _ _ (old (c .before .before .before .before .before)) (length-unpacked (units s)) (c .before .before .before .before .if5 .left) (c .before .before .unpack .ensures)
+    told-bytes _ (c .before .before .before .before .before .before .before .before .before .before .before .before .before .before .args .area .now) _ _ _ (old (c .before .before .before .before .before)) (length-unpacked (units (c .before .before .before .before .before .before .before .before .before .before .before .before .before .before))) (c .before .before .before .before .if5 .left) (c .before .before .unpack .ensures)
 
 pub decode-spec : {M : Type 1} → statement M
 decode-spec =

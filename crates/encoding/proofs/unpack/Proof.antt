@@ -2,9 +2,9 @@
 -- Assumes nothing.
 use Prim.Native.Nat.{_-_}
 use native.Mathlib.Omega.{arith}
-use borrow.Author.Needs.{needs}
 use lib.ListN.{length}
 use Rattle.encoding.proofs.UnpackLaws.{Unpacking, unpack-start, unpack-more, unpack-room, unpack-byte, unpack-end, taken-fits}
+use borrow.Author.Needs.{needs}
 use Rattle.encoding.proofs.unpack.Statement.{statement}
 use Rattle.encoding.proofs.unpack.Tie as tie
 
@@ -44,16 +44,14 @@ loop-less c = search needs
 
 loop-again : tie.Need-loop-again Inv-loop μ-loop
 loop-again c =
-    let t = c .before .before .before in
-    unpack-more _ _ _ _ _ _ _ _ (t .loop-test .taken) (c .before .low-seven .ensures) (t .before .loop .inv) (c .if1 .taken)
+    unpack-more _ _ _ _ _ _ _ _ (c .before .before .before .loop-test .taken) (c .before .low-seven .ensures) (c .before .before .before .before .loop .inv) (c .if1 .taken)
 
 cast-area : tie.Need-cast-area Inv-loop μ-loop
 cast-area c = search needs
 
 slice-write-area : tie.Need-slice-write-area Inv-loop μ-loop
 slice-write-area c =
-    let t = c .before .before .before in
-    unpack-room _ _ _ _ _ _ _ _ (t .loop-test .taken) (c .before .low-seven .ensures) (t .before .loop .inv) (c .if1 .left) (t .before .before .before .before .pre)
+    unpack-room _ _ _ _ _ _ _ _ (c .before .before .before .loop-test .taken) (c .before .low-seven .ensures) (c .before .before .before .before .loop .inv) (c .if1 .left) (c .before .before .before .before .before .before .before .pre)
 
 add-at : tie.Need-add-at Inv-loop μ-loop
 add-at c = search needs
@@ -63,8 +61,7 @@ loop-less-2 c = search needs
 
 loop-again-2 : tie.Need-loop-again-2 Inv-loop μ-loop
 loop-again-2 c =
-    let t = c .before .before .before in
-    unpack-byte _ _ _ _ _ _ _ _ (t .loop-test .taken) (c .before .low-seven .ensures) (t .before .loop .inv) (c .if1 .left)
+    unpack-byte _ _ _ _ _ _ _ _ (c .before .before .before .loop-test .taken) (c .before .low-seven .ensures) (c .before .before .before .before .loop .inv) (c .if1 .left)
 
 same-length : tie.Need-same-length Inv-loop μ-loop
 same-length c = c .before .loop .inv .same

@@ -6,11 +6,11 @@ use Rattle.metadata.proofs.head_alone.Statement.{statement}
 use Rattle.metadata.proofs.head_alone.Tie as tie
 use Rattle.metadata.proofs.head_alone.Reads as reads
 use Rattle.metadata.proofs.head_alone.Lts as lts
-use Rattle.areas.proofs.start.Reads as start-reads
+use Rattle.passes.proofs.start.Reads as start-reads
 use Rattle.inputs.proofs.outcome.refused.Reads as refused-reads
 use Rattle.names.proofs.name.absent.Reads as absent-reads
-use Rattle.rows.proofs.put_head.Reads as put-head-reads
-use Rattle.rows.proofs.put_head_counts.Reads as put-head-counts-reads
+use Rattle.declaration_rows.proofs.put_head.Reads as put-head-reads
+use Rattle.declaration_rows.proofs.put_head_counts.Reads as put-head-counts-reads
 
 -- src/lib.rt:43:9
 refused-requires : tie.Need-refused-requires

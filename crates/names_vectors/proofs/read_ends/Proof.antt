@@ -1,7 +1,7 @@
-use lib.ListN.{length, length-set}
 use mathlib.Core.Path.{_≡_}
 use Prim.Native.Nat.{_≤_, _-_}
 use native.Mathlib.Omega.{arith}
+use lib.ListN.{length, length-set}
 use borrow.Author.Needs.{needs}
 use Rattle.names_vectors.proofs.read_ends.Statement.{statement}
 use Rattle.names_vectors.proofs.read_ends.Tie as tie

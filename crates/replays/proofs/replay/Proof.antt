@@ -5,7 +5,7 @@ use Rattle.replays.proofs.replay.Statement.{statement}
 use Rattle.replays.proofs.replay.Tie as tie
 use Rattle.replays.proofs.replay.Reads as reads
 use Rattle.replays.proofs.replay.Lts as lts
-use Rattle.answers.proofs.answer_input.Reads as answer-input-reads
+use Rattle.answer_lines.proofs.answer_input.Reads as answer-input-reads
 use Rattle.io.proofs.read_full.Reads as read-full-reads
 use Rattle.io.proofs.write_all.Reads as write-all-reads
 use Rattle.line.proofs.input.four_in.Reads as four-in-reads

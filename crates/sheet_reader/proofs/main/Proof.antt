@@ -5,7 +5,7 @@ use Rattle.sheet_reader.proofs.main.Statement.{statement}
 use Rattle.sheet_reader.proofs.main.Tie as tie
 use Rattle.sheet_reader.proofs.main.Reads as reads
 use Rattle.sheet_reader.proofs.main.Lts as lts
-use Rattle.answers.proofs.answer_input.Reads as answer-input-reads
+use Rattle.answer_lines.proofs.answer_input.Reads as answer-input-reads
 use Rattle.io.proofs.write_all.Reads as write-all-reads
 
 -- src/main.rt:8:74

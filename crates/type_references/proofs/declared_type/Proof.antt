@@ -25,27 +25,27 @@ enum-known-inner c = search needs
 
 -- src/lib.rt:341:13
 sub-own-type : tie.Need-sub-own-type
-sub-own-type c = let h = inline-in (c .before .before .before .before .before .before .before .before .before .before .before .before .before .before .before .args .base) (c .before .before .before .before .before .before .before .before .before .before .before .before .before .before .before .args .msg .now) (c .before .before .before .before .before .before .before .before .before .before .before .before .before .before .before .args .inline) (inline-field (c .before .before .before .type-field .ensures) (c .before .inner .given .1)) refl in omega arith
+sub-own-type c = let h = inline-in (c .before .before .before .before .before .before .before .before .before .before .before .args .base) (c .before .before .before .before .before .before .before .before .before .before .before .args .msg .now) (c .before .before .before .before .before .before .before .before .before .before .before .args .slot .inline) (inline-field (c .before .before .before .type-field .ensures) (c .before .inner .given .1)) refl in omega arith
 
 -- src/lib.rt:341:13
 part-own-type-start : tie.Need-part-own-type-start
-part-own-type-start c = let h = inline-in (c .before .before .before .before .before .before .before .before .before .before .before .before .before .before .before .args .base) (c .before .before .before .before .before .before .before .before .before .before .before .before .before .before .before .args .msg .now) (c .before .before .before .before .before .before .before .before .before .before .before .before .before .before .before .args .inline) (inline-field (c .before .before .before .type-field .ensures) (c .before .inner .given .1)) refl in omega arith
+part-own-type-start c = let h = inline-in (c .before .before .before .before .before .before .before .before .before .before .before .args .base) (c .before .before .before .before .before .before .before .before .before .before .before .args .msg .now) (c .before .before .before .before .before .before .before .before .before .before .before .args .slot .inline) (inline-field (c .before .before .before .type-field .ensures) (c .before .inner .given .1)) refl in omega arith
 
 -- src/lib.rt:341:13
 part-own-type-end : tie.Need-part-own-type-end
-part-own-type-end c = let h = inline-in (c .before .before .before .before .before .before .before .before .before .before .before .before .before .before .before .args .base) (c .before .before .before .before .before .before .before .before .before .before .before .before .before .before .before .args .msg .now) (c .before .before .before .before .before .before .before .before .before .before .before .before .before .before .before .args .inline) (inline-field (c .before .before .before .type-field .ensures) (c .before .inner .given .1)) refl in omega arith
+part-own-type-end c = let h = inline-in (c .before .before .before .before .before .before .before .before .before .before .before .args .base) (c .before .before .before .before .before .before .before .before .before .before .before .args .msg .now) (c .before .before .before .before .before .before .before .before .before .before .before .args .slot .inline) (inline-field (c .before .before .before .type-field .ensures) (c .before .inner .given .1)) refl in omega arith
 
 -- src/lib.rt:342:20
 cast-own-type : tie.Need-cast-own-type
-cast-own-type c = let h = inline-in (c .before .before .before .before .before .before .before .before .before .before .before .before .before .before .before .before .args .base) (c .before .before .before .before .before .before .before .before .before .before .before .before .before .before .before .before .args .msg .now) (c .before .before .before .before .before .before .before .before .before .before .before .before .before .before .before .before .args .inline) (inline-field (c .before .before .before .before .type-field .ensures) (c .before .before .inner .given .1)) refl in omega (arith, c .before .before .before .before .before .before .before .before .before .before .before .before .before .before .before .before .pre .1, c .before .before .before .before .before .before .before .before .before .before .before .before .before .before .before .before .pre .0 .payload-short)
+cast-own-type c = let h = inline-in (c .before .before .before .before .before .before .before .before .before .before .before .before .args .base) (c .before .before .before .before .before .before .before .before .before .before .before .before .args .msg .now) (c .before .before .before .before .before .before .before .before .before .before .before .before .args .slot .inline) (inline-field (c .before .before .before .before .type-field .ensures) (c .before .before .inner .given .1)) refl in omega (arith, c .before .before .before .before .before .before .before .before .before .before .before .before .pre .1, c .before .before .before .before .before .before .before .before .before .before .before .before .pre .0 .payload-short)
 
 -- src/lib.rt:342:13
 add-own-type : tie.Need-add-own-type
-add-own-type c = let h = inline-in (c .before .before .before .before .before .before .before .before .before .before .before .before .before .before .before .before .args .base) (c .before .before .before .before .before .before .before .before .before .before .before .before .before .before .before .before .args .msg .now) (c .before .before .before .before .before .before .before .before .before .before .before .before .before .before .before .before .args .inline) (inline-field (c .before .before .before .before .type-field .ensures) (c .before .before .inner .given .1)) refl in omega (arith, c .before .before .before .before .before .before .before .before .before .before .before .before .before .before .before .before .pre .1, c .before .before .before .before .before .before .before .before .before .before .before .before .before .before .before .before .pre .0 .payload-short)
+add-own-type c = let h = inline-in (c .before .before .before .before .before .before .before .before .before .before .before .before .args .base) (c .before .before .before .before .before .before .before .before .before .before .before .before .args .msg .now) (c .before .before .before .before .before .before .before .before .before .before .before .before .args .slot .inline) (inline-field (c .before .before .before .before .type-field .ensures) (c .before .before .inner .given .1)) refl in omega (arith, c .before .before .before .before .before .before .before .before .before .before .before .before .pre .1, c .before .before .before .before .before .before .before .before .before .before .before .before .pre .0 .payload-short)
 
 -- src/lib.rt:340:44
 own-type-requires : tie.Need-own-type-requires
-own-type-requires c κs = let h = inline-in (c .before .before .before .before .before .before .before .before .before .before .before .before .before .before .before .before .before .before .args .base) (c .before .before .before .before .before .before .before .before .before .before .before .before .before .before .before .before .before .before .args .msg .now) (c .before .before .before .before .before .before .before .before .before .before .before .before .before .before .before .before .before .before .args .inline) (inline-field (c .before .before .before .before .before .before .type-field .ensures) (c .before .before .before .before .inner .given .1)) refl in (c .before .before .before .before .before .before .before .before .before .before .before .before .before .before .before .before .before .before .pre .0, part-inside (c .before .before .before .before .before .before .before .before .before .before .before .before .before .before .before .before .before .before .args .msg .now) (c .before .before .before .before .before .before .before .before .before .before .before .before .before .before .before .before .before .before .args .base) (c .before .before .before .before .inner .given .0 .0) (c .before .before .before .before .inner .given .0 .1 .0) (c .before .before .before .before .before .before .before .before .before .before .before .before .before .before .before .before .before .before .pre .1) (h .0) (h .1), omega arith)
+own-type-requires c κs = let h = inline-in (c .before .before .before .before .before .before .before .before .before .before .before .before .before .before .args .base) (c .before .before .before .before .before .before .before .before .before .before .before .before .before .before .args .msg .now) (c .before .before .before .before .before .before .before .before .before .before .before .before .before .before .args .slot .inline) (inline-field (c .before .before .before .before .before .before .type-field .ensures) (c .before .before .before .before .inner .given .1)) refl in (c .before .before .before .before .before .before .before .before .before .before .before .before .before .before .pre .0, part-inside (c .before .before .before .before .before .before .before .before .before .before .before .before .before .before .args .msg .now) (c .before .before .before .before .before .before .before .before .before .before .before .before .before .before .args .base) (c .before .before .before .before .inner .given .0 .0) (c .before .before .before .before .inner .given .0 .1 .0) (c .before .before .before .before .before .before .before .before .before .before .before .before .before .before .pre .1) (h .0) (h .1), omega arith)
 
 -- src/lib.rt:359:29
 enum-known-inner-2 : tie.Need-enum-known-inner-2
@@ -73,7 +73,7 @@ same-length-2 c = search needs
 
 -- src/lib.rt:316:1
 returns : tie.Need-returns
-returns c = optional (pickedOf (c .before .before .before .before .own-type .result)) (declared (type-inline (lent (c .before .before .before .before .before .before .before .before .before .before .before .before .before .before .before .before .before .before .before .before .before .before .before .args .payload .now) (c .before .before .before .before .before .before .before .before .before .before .before .before .before .before .before .before .before .before .before .before .before .before .before .args .d2 .now) (c .before .before .before .before .before .before .before .before .before .before .before .before .before .before .before .before .before .before .before .before .before .before .before .args .ends .now) (c .before .before .before .before .before .before .before .before .before .before .before .before .before .before .before .before .before .before .before .before .before .before .before .args .starts .now) (c .before .before .before .before .before .before .before .before .before .before .before .before .before .before .before .before .before .before .before .before .before .before .before .args .stops .now) (c .before .before .before .before .before .before .before .before .before .before .before .before .before .before .before .before .before .before .before .before .before .before .before .args .firsts .now) (c .before .before .before .before .before .before .before .before .before .before .before .before .before .before .before .before .before .before .before .before .before .before .before .args .entry-starts .now) (c .before .before .before .before .before .before .before .before .before .before .before .before .before .before .before .before .before .before .before .before .before .before .before .args .entry-ends .now) (c .before .before .before .before .before .before .before .before .before .before .before .before .before .before .before .before .before .before .before .before .before .before .before .args .tables)) (c .before .before .before .before .before .before .before .before .before .before .before .before .before .before .before .before .before .before .before .before .before .before .before .args .msg .now) (c .before .before .before .before .before .before .before .before .before .before .before .before .before .before .before .before .before .before .before .before .before .before .before .args .base) (c .before .before .before .before .before .before .before .before .before .before .before .before .before .before .before .before .before .before .before .before .before .before .before .args .inline) (c .before .before .before .before .before .before .before .before .before .before .before .before .before .before .before .before .before .before .before .before .before .before .before .args .indexed) 64 (c .before .before .before .before .before .before .before .before .before .before .before .before .before .before .before .before .before .before .before .before .before .before .before .args .role) (c .before .before .before .before .before .before .before .before .before .before .before .before .before .before .before .before .before .before .before .before .before .before .before .args .state) (inline-field (c .before .before .before .before .before .before .before .before .before .before .before .type-field .ensures) (c .before .before .before .before .before .before .before .before .before .inner .given .1)) refl (c .before .before .before .before .own-type .ensures) refl)) (walked-optional (c .before .before .before .before .before .before .before .before .before .before .before .before .before .before .before .before .before .before .before .before .before .before .before .args .state) (c .before .before .before .before .own-type .result))
+returns c = optional (pickedOf (c .before .before .before .before .own-type .result)) (declared (type-inline (lent (c .before .before .before .before .before .before .before .before .before .before .before .before .before .before .before .before .before .before .before .args .payload .now) (c .before .before .before .before .before .before .before .before .before .before .before .before .before .before .before .before .before .before .before .args .d2 .now) (c .before .before .before .before .before .before .before .before .before .before .before .before .before .before .before .before .before .before .before .args .ends .now) (c .before .before .before .before .before .before .before .before .before .before .before .before .before .before .before .before .before .before .before .args .notes .now) (c .before .before .before .before .before .before .before .before .before .before .before .before .before .before .before .before .before .before .before .args .tables)) (c .before .before .before .before .before .before .before .before .before .before .before .before .before .before .before .before .before .before .before .args .msg .now) (c .before .before .before .before .before .before .before .before .before .before .before .before .before .before .before .before .before .before .before .args .base) (c .before .before .before .before .before .before .before .before .before .before .before .before .before .before .before .before .before .before .before .args .slot .inline) (c .before .before .before .before .before .before .before .before .before .before .before .before .before .before .before .before .before .before .before .args .slot .indexed) 64 (c .before .before .before .before .before .before .before .before .before .before .before .before .before .before .before .before .before .before .before .args .slot .role) (c .before .before .before .before .before .before .before .before .before .before .before .before .before .before .before .before .before .before .before .args .state) (inline-field (c .before .before .before .before .before .before .before .before .before .before .before .type-field .ensures) (c .before .before .before .before .before .before .before .before .before .inner .given .1)) refl (c .before .before .before .before .own-type .ensures) refl)) (walked-optional (c .before .before .before .before .before .before .before .before .before .before .before .before .before .before .before .before .before .before .before .args .state) (c .before .before .before .before .own-type .result))
 
 -- src/lib.rt:316:1
 same-length-3 : tie.Need-same-length-3
@@ -85,15 +85,15 @@ same-length-4 c = search needs
 
 -- src/lib.rt:316:1
 returns-2 : tie.Need-returns-2
-returns-2 c = optional (c .before .before .before .before .looked-up .ensures .found) (declared (type-indexed (lent (c .before .before .before .before .before .before .before .before .before .before .before .before .before .before .before .before .before .before .before .before .before .before .args .payload .now) (c .before .before .before .before .before .before .before .before .before .before .before .before .before .before .before .before .before .before .before .before .before .before .args .d2 .now) (c .before .before .before .before .before .before .before .before .before .before .before .before .before .before .before .before .before .before .before .before .before .before .args .ends .now) (c .before .before .before .before .before .before .before .before .before .before .before .before .before .before .before .before .before .before .before .before .before .before .args .starts .now) (c .before .before .before .before .before .before .before .before .before .before .before .before .before .before .before .before .before .before .before .before .before .before .args .stops .now) (c .before .before .before .before .before .before .before .before .before .before .before .before .before .before .before .before .before .before .before .before .before .before .args .firsts .now) (c .before .before .before .before .before .before .before .before .before .before .before .before .before .before .before .before .before .before .before .before .before .before .args .entry-starts .now) (c .before .before .before .before .before .before .before .before .before .before .before .before .before .before .before .before .before .before .before .before .before .before .args .entry-ends .now) (c .before .before .before .before .before .before .before .before .before .before .before .before .before .before .before .before .before .before .before .before .before .before .args .tables)) (c .before .before .before .before .before .before .before .before .before .before .before .before .before .before .before .before .before .before .before .before .before .before .args .msg .now) (c .before .before .before .before .before .before .before .before .before .before .before .before .before .before .before .before .before .before .before .before .before .before .args .base) (c .before .before .before .before .before .before .before .before .before .before .before .before .before .before .before .before .before .before .before .before .before .before .args .inline) (c .before .before .before .before .before .before .before .before .before .before .before .before .before .before .before .before .before .before .before .before .before .before .args .indexed) 64 (c .before .before .before .before .before .before .before .before .before .before .before .before .before .before .before .before .before .before .before .before .before .before .args .role) (c .before .before .before .before .before .before .before .before .before .before .before .before .before .before .before .before .before .before .before .before .before .before .args .state) (by-index-field (c .before .before .before .before .before .before .before .before .before .before .type-field .ensures) (c .before .before .before .before .before .before .before .before .inner2 .given .1)) refl (by-index-index (c .before .before .before .before .before .before .before .before .before .before .type-field .ensures) (c .before .before .before .before .before .before .before .before .inner2 .given .1)) refl (c .before .before .before .before .looked-up .ensures .told))) (c .before .before .before .before .looked-up .ensures .is)
+returns-2 c = optional (c .before .before .before .before .looked-up .ensures .found) (declared (type-indexed (lent (c .before .before .before .before .before .before .before .before .before .before .before .before .before .before .before .before .before .before .args .payload .now) (c .before .before .before .before .before .before .before .before .before .before .before .before .before .before .before .before .before .before .args .d2 .now) (c .before .before .before .before .before .before .before .before .before .before .before .before .before .before .before .before .before .before .args .ends .now) (c .before .before .before .before .before .before .before .before .before .before .before .before .before .before .before .before .before .before .args .notes .now) (c .before .before .before .before .before .before .before .before .before .before .before .before .before .before .before .before .before .before .args .tables)) (c .before .before .before .before .before .before .before .before .before .before .before .before .before .before .before .before .before .before .args .msg .now) (c .before .before .before .before .before .before .before .before .before .before .before .before .before .before .before .before .before .before .args .base) (c .before .before .before .before .before .before .before .before .before .before .before .before .before .before .before .before .before .before .args .slot .inline) (c .before .before .before .before .before .before .before .before .before .before .before .before .before .before .before .before .before .before .args .slot .indexed) 64 (c .before .before .before .before .before .before .before .before .before .before .before .before .before .before .before .before .before .before .args .slot .role) (c .before .before .before .before .before .before .before .before .before .before .before .before .before .before .before .before .before .before .args .state) (by-index-field (c .before .before .before .before .before .before .before .before .before .before .type-field .ensures) (c .before .before .before .before .before .before .before .before .inner2 .given .1)) refl (by-index-index (c .before .before .before .before .before .before .before .before .before .before .type-field .ensures) (c .before .before .before .before .before .before .before .before .inner2 .given .1)) refl (c .before .before .before .before .looked-up .ensures .told))) (c .before .before .before .before .looked-up .ensures .is)
 
 -- src/lib.rt:316:1
 returns-3 : tie.Need-returns-3
-returns-3 c = optional _ (declared (type-nowhere (lent (c .before .before .before .before .before .before .before .before .before .before .before .before .before .before .args .payload .now) (c .before .before .before .before .before .before .before .before .before .before .before .before .before .before .args .d2 .now) (c .before .before .before .before .before .before .before .before .before .before .before .before .before .before .args .ends .now) (c .before .before .before .before .before .before .before .before .before .before .before .before .before .before .args .starts .now) (c .before .before .before .before .before .before .before .before .before .before .before .before .before .before .args .stops .now) (c .before .before .before .before .before .before .before .before .before .before .before .before .before .before .args .firsts .now) (c .before .before .before .before .before .before .before .before .before .before .before .before .before .before .args .entry-starts .now) (c .before .before .before .before .before .before .before .before .before .before .before .before .before .before .args .entry-ends .now) (c .before .before .before .before .before .before .before .before .before .before .before .before .before .before .args .tables)) (c .before .before .before .before .before .before .before .before .before .before .before .before .before .before .args .msg .now) (c .before .before .before .before .before .before .before .before .before .before .before .before .before .before .args .base) (c .before .before .before .before .before .before .before .before .before .before .before .before .before .before .args .inline) (c .before .before .before .before .before .before .before .before .before .before .before .before .before .before .args .indexed) 64 (c .before .before .before .before .before .before .before .before .before .before .before .before .before .before .args .role) (c .before .before .before .before .before .before .before .before .before .before .before .before .before .before .args .state) (absent-field (c .before .before .type-field .ensures) (c .enum-told .given .1)) refl (absent-index (c .before .before .type-field .ensures) (c .enum-told .given .1)) refl)) refl
+returns-3 c = optional _ (declared (type-nowhere (lent (c .before .before .before .before .before .before .before .before .before .before .args .payload .now) (c .before .before .before .before .before .before .before .before .before .before .args .d2 .now) (c .before .before .before .before .before .before .before .before .before .before .args .ends .now) (c .before .before .before .before .before .before .before .before .before .before .args .notes .now) (c .before .before .before .before .before .before .before .before .before .before .args .tables)) (c .before .before .before .before .before .before .before .before .before .before .args .msg .now) (c .before .before .before .before .before .before .before .before .before .before .args .base) (c .before .before .before .before .before .before .before .before .before .before .args .slot .inline) (c .before .before .before .before .before .before .before .before .before .before .args .slot .indexed) 64 (c .before .before .before .before .before .before .before .before .before .before .args .slot .role) (c .before .before .before .before .before .before .before .before .before .before .args .state) (absent-field (c .before .before .type-field .ensures) (c .enum-told .given .1)) refl (absent-index (c .before .before .type-field .ensures) (c .enum-told .given .1)) refl)) refl
 
 -- src/lib.rt:316:1
 returns-4 : tie.Need-returns-4
-returns-4 c = optional _ (declared (type-refused (lent (c .before .before .before .before .before .before .before .before .before .before .before .before .before .before .before .args .payload .now) (c .before .before .before .before .before .before .before .before .before .before .before .before .before .before .before .args .d2 .now) (c .before .before .before .before .before .before .before .before .before .before .before .before .before .before .before .args .ends .now) (c .before .before .before .before .before .before .before .before .before .before .before .before .before .before .before .args .starts .now) (c .before .before .before .before .before .before .before .before .before .before .before .before .before .before .before .args .stops .now) (c .before .before .before .before .before .before .before .before .before .before .before .before .before .before .before .args .firsts .now) (c .before .before .before .before .before .before .before .before .before .before .before .before .before .before .before .args .entry-starts .now) (c .before .before .before .before .before .before .before .before .before .before .before .before .before .before .before .args .entry-ends .now) (c .before .before .before .before .before .before .before .before .before .before .before .before .before .before .before .args .tables)) (c .before .before .before .before .before .before .before .before .before .before .before .before .before .before .before .args .msg .now) (c .before .before .before .before .before .before .before .before .before .before .before .before .before .before .before .args .base) (c .before .before .before .before .before .before .before .before .before .before .before .before .before .before .before .args .inline) (c .before .before .before .before .before .before .before .before .before .before .before .before .before .before .before .args .indexed) 64 (c .before .before .before .before .before .before .before .before .before .before .before .before .before .before .before .args .role) (c .before .before .before .before .before .before .before .before .before .before .before .before .before .before .before .args .state) (refused-field (c .before .before .before .type-field .ensures) (c .before .inner3 .given .1)) refl)) refl
+returns-4 c = optional _ (declared (type-refused (lent (c .before .before .before .before .before .before .before .before .before .before .before .args .payload .now) (c .before .before .before .before .before .before .before .before .before .before .before .args .d2 .now) (c .before .before .before .before .before .before .before .before .before .before .before .args .ends .now) (c .before .before .before .before .before .before .before .before .before .before .before .args .notes .now) (c .before .before .before .before .before .before .before .before .before .before .before .args .tables)) (c .before .before .before .before .before .before .before .before .before .before .before .args .msg .now) (c .before .before .before .before .before .before .before .before .before .before .before .args .base) (c .before .before .before .before .before .before .before .before .before .before .before .args .slot .inline) (c .before .before .before .before .before .before .before .before .before .before .before .args .slot .indexed) 64 (c .before .before .before .before .before .before .before .before .before .before .before .args .slot .role) (c .before .before .before .before .before .before .before .before .before .before .before .args .state) (refused-field (c .before .before .before .type-field .ensures) (c .before .inner3 .given .1)) refl)) refl
 
 pub declared-type-spec : {M : Type 1} → statement M
 declared-type-spec =

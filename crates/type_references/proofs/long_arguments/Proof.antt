@@ -12,7 +12,7 @@ slice-aggregate-arguments-at c = search needs
 
 -- src/lib.rt:101:5
 arguments-at-requires : tie.Need-arguments-at-requires
-arguments-at-requires c κs = record { ready = c .before .before .before .before .before .before .before .before .before .before .before .before .before .before .pre .0; inside = c .before .before .before .before .before .before .before .before .before .before .before .before .before .before .pre .1; deep = c .before .before .before .before .before .before .before .before .before .before .before .before .before .before .pre .2; room = asTypes (search needs) }
+arguments-at-requires c κs = record { ready = c .before .before .before .before .before .before .before .before .before .before .pre .0; inside = c .before .before .before .before .before .before .before .before .before .before .pre .1; deep = c .before .before .before .before .before .before .before .before .before .before .pre .2; room = asTypes (search needs) }
 
 -- src/lib.rt:80:1
 same-length : tie.Need-same-length

@@ -57,7 +57,7 @@ same-length-4 c = search needs
 
 -- src/lib.rt:251:9
 returns-2 : tie.Need-returns-2
-returns-2 c = parse-alone (c .before .before .before .before .before .before .before .before .before .before .enter-type .ensures) (c .before .before .before .before .entered .given .1) {less = c .before .before .before .before .before .before .before .before .before .before .before .before .before .before .before .before .before .before .before .before .before .before .before .before .args .left - 1} refl (c .before .before .next-body .ensures) (c .enum-told3 .given .1)
+returns-2 c = parse-alone (c .before .before .before .before .before .before .before .before .before .before .enter-type .ensures) (c .before .before .before .before .entered .given .1) {less = c .before .before .before .before .before .before .before .before .before .before .before .before .before .before .before .before .before .before .before .before .args .place .left - 1} refl (c .before .before .next-body .ensures) (c .enum-told3 .given .1)
 
 -- src/lib.rt:256:9
 less-requires : tie.Need-less-requires
@@ -65,7 +65,7 @@ less-requires c κs = search needs
 
 -- src/lib.rt:253:5
 own-arguments-requires : tie.Need-own-arguments-requires
-own-arguments-requires c κs = (entered-ready (c .before .before .before .before .before .before .before .before .before .before .before .before .before .enter-type .ensures) (c .before .before .before .before .before .before .before .entered .given .1) (c .before .before .less .ensures) (c .before .before .before .before .before .before .before .before .before .before .before .before .before .before .before .before .before .before .before .before .before .before .before .before .before .before .before .pre .0), c .before .before .before .before .before .before .before .before .before .before .before .before .before .before .before .before .before .before .before .before .before .before .before .before .before .before .before .pre .1, omega (arith, c .before .before .less .ensures, c .before .before .before .before .before .before .before .before .before .before .before .before .before .before .before .before .before .before .before .before .before .before .before .before .before .before .before .pre .2))
+own-arguments-requires c κs = (entered-ready (c .before .before .before .before .before .before .before .before .before .before .before .before .before .enter-type .ensures) (c .before .before .before .before .before .before .before .entered .given .1) (c .before .before .less .ensures) (c .before .before .before .before .before .before .before .before .before .before .before .before .before .before .before .before .before .before .before .before .before .before .before .pre .0), c .before .before .before .before .before .before .before .before .before .before .before .before .before .before .before .before .before .before .before .before .before .before .before .pre .1, omega (arith, c .before .before .less .ensures, c .before .before .before .before .before .before .before .before .before .before .before .before .before .before .before .before .before .before .before .before .before .before .before .pre .2))
 
 -- src/lib.rt:205:1
 same-length-5 : tie.Need-same-length-5

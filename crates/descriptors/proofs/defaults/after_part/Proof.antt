@@ -27,7 +27,7 @@ same-length c = search needs
 
 -- src/defaults.rt:421:9
 returns : tie.Need-returns
-returns c = after-suspended (lent (c .before .before .before .before .before .before .before .before .before .before .before .before .before .before .before .args .payload .now) (c .before .before .before .before .before .before .before .before .before .before .before .before .before .before .before .args .d2 .now) (c .before .before .before .before .before .before .before .before .before .before .before .before .before .before .before .args .ends .now) (c .before .before .before .before .before .before .before .before .before .before .before .before .before .before .before .args .starts .now) (c .before .before .before .before .before .before .before .before .before .before .before .before .before .before .before .args .stops .now) (c .before .before .before .before .before .before .before .before .before .before .before .before .before .before .before .args .firsts .now) (c .before .before .before .before .before .before .before .before .before .before .before .before .before .before .before .args .entry-starts .now) (c .before .before .before .before .before .before .before .before .before .before .before .before .before .before .before .args .entry-ends .now) (c .before .before .before .before .before .before .before .before .before .before .before .before .before .before .before .args .tables)) (c .before .before .before .before .before .before .before .before .before .before .before .before .before .before .before .args .start) (c .before .before .before .before .before .before .before .before .before .before .before .before .before .before .before .args .end) (c .before .before .before .before .before .before .before .before .before .before .before .before .before .before .before .args .at) (c .before .before .before .before .before .suspends .ensures) (c .before .before .before .before .if1 .taken) (c .before .before .put-suspended .ensures)
+returns c = after-suspended (lent (c .before .before .before .before .before .before .before .before .before .before .before .before .args .payload .now) (c .before .before .before .before .before .before .before .before .before .before .before .before .args .d2 .now) (c .before .before .before .before .before .before .before .before .before .before .before .before .args .ends .now) (c .before .before .before .before .before .before .before .before .before .before .before .before .args .notes .now) (c .before .before .before .before .before .before .before .before .before .before .before .before .args .tables)) (c .before .before .before .before .before .before .before .before .before .before .before .before .args .msg .now) (c .before .before .before .before .before .before .before .before .before .before .before .before .args .base) (c .before .before .before .before .before .before .before .before .before .before .before .before .args .at) (c .before .before .before .before .before .before .before .before .before .before .before .before .pre .stands) (c .before .before .before .before .before .suspends .ensures) (c .before .before .before .before .if1 .taken) (c .before .before .put-suspended .ensures)
 
 -- src/defaults.rt:423:5
 put-requires : tie.Need-put-requires
@@ -51,7 +51,7 @@ same-length-2 c = search needs
 
 -- src/defaults.rt:401:1
 returns-2 : tie.Need-returns-2
-returns-2 c = after-returned (lent (c .before .before .before .before .before .before .before .before .before .before .before .before .before .before .before .before .before .before .before .before .args .payload .now) (c .before .before .before .before .before .before .before .before .before .before .before .before .before .before .before .before .before .before .before .before .args .d2 .now) (c .before .before .before .before .before .before .before .before .before .before .before .before .before .before .before .before .before .before .before .before .args .ends .now) (c .before .before .before .before .before .before .before .before .before .before .before .before .before .before .before .before .before .before .before .before .args .starts .now) (c .before .before .before .before .before .before .before .before .before .before .before .before .before .before .before .before .before .before .before .before .args .stops .now) (c .before .before .before .before .before .before .before .before .before .before .before .before .before .before .before .before .before .before .before .before .args .firsts .now) (c .before .before .before .before .before .before .before .before .before .before .before .before .before .before .before .before .before .before .before .before .args .entry-starts .now) (c .before .before .before .before .before .before .before .before .before .before .before .before .before .before .before .before .before .before .before .before .args .entry-ends .now) (c .before .before .before .before .before .before .before .before .before .before .before .before .before .before .before .before .before .before .before .before .args .tables)) (c .before .before .before .before .before .before .before .before .before .before .before .before .before .before .before .before .before .before .before .before .args .start) (c .before .before .before .before .before .before .before .before .before .before .before .before .before .before .before .before .before .before .before .before .args .end) (c .before .before .before .before .before .before .before .before .before .before .before .before .before .before .before .before .before .before .before .before .args .at) (c .before .before .before .before .before .before .before .before .before .before .suspends .ensures) (c .before .before .before .before .before .before .before .before .before .if1 .left) (c .before .before .before .before .before .before .before .put .ensures) (c .before .before .before .type-part .ensures) (c .preceded .ensures)
+returns-2 c = after-returned (lent (c .before .before .before .before .before .before .before .before .before .before .before .before .before .before .before .before .before .args .payload .now) (c .before .before .before .before .before .before .before .before .before .before .before .before .before .before .before .before .before .args .d2 .now) (c .before .before .before .before .before .before .before .before .before .before .before .before .before .before .before .before .before .args .ends .now) (c .before .before .before .before .before .before .before .before .before .before .before .before .before .before .before .before .before .args .notes .now) (c .before .before .before .before .before .before .before .before .before .before .before .before .before .before .before .before .before .args .tables)) (c .before .before .before .before .before .before .before .before .before .before .before .before .before .before .before .before .before .args .msg .now) (c .before .before .before .before .before .before .before .before .before .before .before .before .before .before .before .before .before .args .base) (c .before .before .before .before .before .before .before .before .before .before .before .before .before .before .before .before .before .args .at) (c .before .before .before .before .before .before .before .before .before .before .before .before .before .before .before .before .before .pre .stands) (c .before .before .before .before .before .before .before .before .before .before .suspends .ensures) (c .before .before .before .before .before .before .before .before .before .if1 .left) (c .before .before .before .before .before .before .before .put .ensures) (c .before .before .before .type-part .ensures) (c .preceded .ensures)
 
 pub after-part-spec : {M : Type 1} → statement M
 after-part-spec =

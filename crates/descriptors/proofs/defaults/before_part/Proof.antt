@@ -1,6 +1,6 @@
-use Prim.Native.Nat.{_+_, _-_, _*_}
+use Prim.Native.Nat.{_+_, _*_}
+use lib.ListN.{length}
 use native.Mathlib.Omega.{arith}
-use Rattle.schema.specs.Told.{lent}
 use Rattle.descriptors.specs.DefaultsTold.{partCost}
 use Rattle.descriptors.proofs.JoinLaws.{within-more, written-within}
 use Rattle.descriptors.proofs.FunctionLaws.{room-less, before-absent, before-done}
@@ -31,19 +31,19 @@ same-length c = search needs
 
 -- src/defaults.rt:359:9
 returns : tie.Need-returns
-returns c = before-absent (lent (c .before .before .before .before .before .before .before .before .before .before .before .before .before .before .before .args .payload .now) (c .before .before .before .before .before .before .before .before .before .before .before .before .before .before .before .args .d2 .now) (c .before .before .before .before .before .before .before .before .before .before .before .before .before .before .before .args .ends .now) (c .before .before .before .before .before .before .before .before .before .before .before .before .before .before .before .args .starts .now) (c .before .before .before .before .before .before .before .before .before .before .before .before .before .before .before .args .stops .now) (c .before .before .before .before .before .before .before .before .before .before .before .before .before .before .before .args .firsts .now) (c .before .before .before .before .before .before .before .before .before .before .before .before .before .before .before .args .entry-starts .now) (c .before .before .before .before .before .before .before .before .before .before .before .before .before .before .before .args .entry-ends .now) (c .before .before .before .before .before .before .before .before .before .before .before .before .before .before .before .args .tables)) (c .before .before .before .before .before .before .before .before .before .before .before .before .before .before .before .args .start) (c .before .before .before .before .before .before .before .before .before .before .before .before .before .before .before .args .end) (c .before .before .before .before .before .before .before .before .before .before .before .before .before .before .before .args .at) (c .before .before .before .before .receiver-part .ensures) (c .enum-told .given .1)
+returns c = before-absent (c .before .before .before .before .before .before .before .before .before .before .before .before .args .msg .now) (c .before .before .before .before .receiver-part .ensures) (c .enum-told .given .1)
 
 -- src/defaults.rt:375:9
 add-parameter-parts : tie.Need-add-parameter-parts
-add-parameter-parts c = let h = written-within partCost (c .before .before .before .before .before .before .receiver-part .ensures .within) (c .before .before .receiver .given .1) in omega (arith, c .before .before .before .before .before .before .before .before .before .before .before .before .before .before .before .before .before .pre .room)
+add-parameter-parts c = let h = written-within partCost (c .before .before .before .before .before .before .receiver-part .ensures .within) (c .before .before .receiver .given .1) in omega (arith, c .before .before .before .before .before .before .before .before .before .before .before .before .before .before .pre .room)
 
 -- src/defaults.rt:361:9
 parameter-parts-requires : tie.Need-parameter-parts-requires
-parameter-parts-requires c κs = let h = written-within partCost (c .before .before .before .before .before .before .receiver-part .ensures .within) (c .before .before .receiver .given .1) in room-less (partCost * ((c .before .before .before .before .before .before .before .before .before .before .before .before .before .before .before .before .before .args .end) - (c .before .before .before .before .before .before .before .before .before .before .before .before .before .before .before .before .before .args .start))) ((c .before .before .before .before .before .before .before .before .before .before .before .before .before .before .before .before .before .args .at) + c .before .before .receiver .given .0 .0) (omega arith) (c .before .before .before .before .before .before .before .before .before .before .before .before .before .before .before .before .before .pre)
+parameter-parts-requires c κs = let h = written-within partCost (c .before .before .before .before .before .before .receiver-part .ensures .within) (c .before .before .receiver .given .1) in room-less (partCost * length (c .before .before .before .before .before .before .before .before .before .before .before .before .before .before .args .msg .now)) ((c .before .before .before .before .before .before .before .before .before .before .before .before .before .before .args .at) + c .before .before .receiver .given .0 .0) (omega arith) (c .before .before .before .before .before .before .before .before .before .before .before .before .before .before .pre)
 
 -- src/defaults.rt:377:5
 preceded-requires : tie.Need-preceded-requires
-preceded-requires c κs = let h = written-within partCost (c .before .before .before .before .before .before .before .before .before .receiver-part .ensures .within) (c .before .before .before .before .before .receiver .given .1) in (omega arith, within-more (c .before .before .parameter-parts .result) (omega (arith, c .before .before .before .before .before .before .before .before .before .before .before .before .before .before .before .before .before .before .before .before .pre .room)) (c .before .before .parameter-parts .ensures .within))
+preceded-requires c κs = let h = written-within partCost (c .before .before .before .before .before .before .before .before .before .receiver-part .ensures .within) (c .before .before .before .before .before .receiver .given .1) in (omega arith, within-more (c .before .before .parameter-parts .result) (omega (arith, c .before .before .before .before .before .before .before .before .before .before .before .before .before .before .before .before .before .pre .room)) (c .before .before .parameter-parts .ensures .within))
 
 -- src/defaults.rt:325:1
 same-length-2 : tie.Need-same-length-2
@@ -51,7 +51,7 @@ same-length-2 c = search needs
 
 -- src/defaults.rt:325:1
 returns-2 : tie.Need-returns-2
-returns-2 c = before-done (lent (c .before .before .before .before .before .before .before .before .before .before .before .before .before .before .before .before .before .before .before .before .before .args .payload .now) (c .before .before .before .before .before .before .before .before .before .before .before .before .before .before .before .before .before .before .before .before .before .args .d2 .now) (c .before .before .before .before .before .before .before .before .before .before .before .before .before .before .before .before .before .before .before .before .before .args .ends .now) (c .before .before .before .before .before .before .before .before .before .before .before .before .before .before .before .before .before .before .before .before .before .args .starts .now) (c .before .before .before .before .before .before .before .before .before .before .before .before .before .before .before .before .before .before .before .before .before .args .stops .now) (c .before .before .before .before .before .before .before .before .before .before .before .before .before .before .before .before .before .before .before .before .before .args .firsts .now) (c .before .before .before .before .before .before .before .before .before .before .before .before .before .before .before .before .before .before .before .before .before .args .entry-starts .now) (c .before .before .before .before .before .before .before .before .before .before .before .before .before .before .before .before .before .before .before .before .before .args .entry-ends .now) (c .before .before .before .before .before .before .before .before .before .before .before .before .before .before .before .before .before .before .before .before .before .args .tables)) (c .before .before .before .before .before .before .before .before .before .before .before .before .before .before .before .before .before .before .before .before .before .args .start) (c .before .before .before .before .before .before .before .before .before .before .before .before .before .before .before .before .before .before .before .before .before .args .end) (c .before .before .before .before .before .before .before .before .before .before .before .before .before .before .before .before .before .before .before .before .before .args .at) (c .before .before .before .before .before .before .before .before .before .before .receiver-part .ensures) (c .before .before .before .before .before .before .receiver .given .1) (c .before .before .before .parameter-parts .ensures) (c .preceded .ensures)
+returns-2 c = before-done (c .before .before .before .before .before .before .before .before .before .before .before .before .before .before .before .before .before .before .args .msg .now) (c .before .before .before .before .before .before .before .before .before .before .receiver-part .ensures) (c .before .before .before .before .before .before .receiver .given .1) (c .before .before .before .parameter-parts .ensures) (c .preceded .ensures)
 
 pub before-part-spec : {M : Type 1} → statement M
 before-part-spec =

@@ -1,6 +1,6 @@
-use Prim.Native.Nat.{_-_, _*_}
+use Prim.Native.Nat.{_+_, _-_, _*_}
+use lib.ListN.{length}
 use native.Mathlib.Omega.{arith}
-use Rattle.schema.specs.Told.{lent}
 use Rattle.descriptors.specs.DefaultsTold.{partCost}
 use Rattle.descriptors.proofs.JoinLaws.{written-within}
 use Rattle.descriptors.proofs.FunctionLaws.{constructor-absent, constructor-done}
@@ -13,61 +13,61 @@ use Rattle.descriptors.proofs.defaults.parameter_parts.Reads as paramet
 use Rattle.sheet.proofs.put.Reads as put-reads
 use Rattle.sheet.proofs.put_all.Reads as put-all-reads
 
--- src/defaults.rt:253:5
+-- src/defaults.rt:223:5
 put-requires : tie.Need-put-requires
 put-requires c κs = search needs
 
--- src/defaults.rt:268:9
+-- src/defaults.rt:234:9
 add-parameter-parts : tie.Need-add-parameter-parts
 add-parameter-parts c = search needs
 
--- src/defaults.rt:254:9
+-- src/defaults.rt:224:9
 parameter-parts-requires : tie.Need-parameter-parts-requires
 parameter-parts-requires c κs = search needs
 
--- src/defaults.rt:270:25
+-- src/defaults.rt:236:25
 enum-known-before : tie.Need-enum-known-before
 enum-known-before c = search needs
 
--- src/defaults.rt:271:9
+-- src/defaults.rt:237:9
 enum-told : tie.Need-enum-told
 enum-told c = search needs
 
--- src/defaults.rt:271:9
+-- src/defaults.rt:237:9
 same-length : tie.Need-same-length
 same-length c = search needs
 
--- src/defaults.rt:271:9
+-- src/defaults.rt:237:9
 returns : tie.Need-returns
-returns c = constructor-absent (lent (c .before .before .before .before .before .before .before .before .before .before .before .before .before .before .before .before .before .before .before .args .payload .now) (c .before .before .before .before .before .before .before .before .before .before .before .before .before .before .before .before .before .before .before .args .d2 .now) (c .before .before .before .before .before .before .before .before .before .before .before .before .before .before .before .before .before .before .before .args .ends .now) (c .before .before .before .before .before .before .before .before .before .before .before .before .before .before .before .before .before .before .before .args .starts .now) (c .before .before .before .before .before .before .before .before .before .before .before .before .before .before .before .before .before .before .before .args .stops .now) (c .before .before .before .before .before .before .before .before .before .before .before .before .before .before .before .before .before .before .before .args .firsts .now) (c .before .before .before .before .before .before .before .before .before .before .before .before .before .before .before .before .before .before .before .args .entry-starts .now) (c .before .before .before .before .before .before .before .before .before .before .before .before .before .before .before .before .before .before .before .args .entry-ends .now) (c .before .before .before .before .before .before .before .before .before .before .before .before .before .before .before .before .before .before .before .args .tables)) (c .before .before .before .before .before .before .before .before .before .before .before .before .before .before .before .before .before .before .before .args .start) (c .before .before .before .before .before .before .before .before .before .before .before .before .before .before .before .before .before .before .before .args .end) (c .before .before .before .before .before .before .before .before .before .before .before .before .before .before .before .before .before .before .before .args .at) (c .before .before .before .before .before .before .before .before .before .before .before .before .before .before .before .before .before .before .before .args .area .now) (c .before .before .before .before .before .before .before .before .put .ensures) (c .before .before .before .before .parameter-parts .ensures) (c .enum-told .given .1)
+returns c = constructor-absent (c .before .before .before .before .before .before .before .before .before .before .before .before .before .before .before .before .args .at) (c .before .before .before .before .before .before .before .before .before .before .before .before .before .before .before .before .args .area .now) (c .before .before .before .before .before .before .before .before .put .ensures) (c .before .before .before .before .parameter-parts .ensures) (c .enum-told .given .1)
 
--- src/defaults.rt:273:19
+-- src/defaults.rt:239:19
 add-put-all : tie.Need-add-put-all
 add-put-all c = search needs
 
--- src/defaults.rt:273:19
+-- src/defaults.rt:239:19
 add-put-all-2 : tie.Need-add-put-all-2
-add-put-all-2 c = let h = written-within (partCost * ((c .before .before .before .before .before .before .before .before .before .before .before .before .before .before .before .before .before .before .before .before .before .args .end) - (c .before .before .before .before .before .before .before .before .before .before .before .before .before .before .before .before .before .before .before .before .before .args .start))) (c .before .before .before .before .before .before .parameter-parts .ensures .within) (c .before .before .before2 .given .1) in omega (arith, c .before .before .before .before .before .before .before .before .before .before .before .before .before .before .before .before .before .before .before .before .before .pre .room)
+add-put-all-2 c = let h = written-within (partCost * (c .before .before .before .before .before .before .before .before .before .before .before .before .before .before .before .before .before .before .args .base + length (c .before .before .before .before .before .before .before .before .before .before .before .before .before .before .before .before .before .before .args .msg .now) - c .before .before .before .before .before .before .before .before .before .before .before .before .before .before .before .before .before .before .args .base)) (c .before .before .before .before .before .before .parameter-parts .ensures .within) (c .before .before .before2 .given .1) in omega (arith, c .before .before .before .before .before .before .before .before .before .before .before .before .before .before .before .before .before .before .pre .room)
 
--- src/defaults.rt:273:34
+-- src/defaults.rt:239:34
 slice-aggregate-put-all : tie.Need-slice-aggregate-put-all
 slice-aggregate-put-all c = search needs
 
--- src/defaults.rt:273:5
+-- src/defaults.rt:239:5
 put-all-requires : tie.Need-put-all-requires
 put-all-requires c κs = search needs
 
--- src/defaults.rt:274:27
-add-t22 : tie.Need-add-t22
-add-t22 c = let h = written-within (partCost * ((c .before .before .before .before .before .before .before .before .before .before .before .before .before .before .before .before .before .before .before .before .before .before .before .before .before .args .end) - (c .before .before .before .before .before .before .before .before .before .before .before .before .before .before .before .before .before .before .before .before .before .before .before .before .before .args .start))) (c .before .before .before .before .before .before .before .before .before .before .parameter-parts .ensures .within) (c .before .before .before .before .before .before .before2 .given .1) in omega (arith, c .before .before .before .before .before .before .before .before .before .before .before .before .before .before .before .before .before .before .before .before .before .before .before .before .before .pre .room)
+-- src/defaults.rt:240:27
+add-t18 : tie.Need-add-t18
+add-t18 c = let h = written-within (partCost * (c .before .before .before .before .before .before .before .before .before .before .before .before .before .before .before .before .before .before .before .before .before .before .args .base + length (c .before .before .before .before .before .before .before .before .before .before .before .before .before .before .before .before .before .before .before .before .before .before .args .msg .now) - c .before .before .before .before .before .before .before .before .before .before .before .before .before .before .before .before .before .before .before .before .before .before .args .base)) (c .before .before .before .before .before .before .before .before .before .before .parameter-parts .ensures .within) (c .before .before .before .before .before .before .before2 .given .1) in omega (arith, c .before .before .before .before .before .before .before .before .before .before .before .before .before .before .before .before .before .before .before .before .before .before .pre .room)
 
--- src/defaults.rt:235:1
+-- src/defaults.rt:209:1
 same-length-2 : tie.Need-same-length-2
 same-length-2 c = search needs
 
--- src/defaults.rt:235:1
+-- src/defaults.rt:209:1
 returns-2 : tie.Need-returns-2
-returns-2 c = constructor-done (lent (c .before .before .before .before .before .before .before .before .before .before .before .before .before .before .before .before .before .before .before .before .before .before .before .before .before .args .payload .now) (c .before .before .before .before .before .before .before .before .before .before .before .before .before .before .before .before .before .before .before .before .before .before .before .before .before .args .d2 .now) (c .before .before .before .before .before .before .before .before .before .before .before .before .before .before .before .before .before .before .before .before .before .before .before .before .before .args .ends .now) (c .before .before .before .before .before .before .before .before .before .before .before .before .before .before .before .before .before .before .before .before .before .before .before .before .before .args .starts .now) (c .before .before .before .before .before .before .before .before .before .before .before .before .before .before .before .before .before .before .before .before .before .before .before .before .before .args .stops .now) (c .before .before .before .before .before .before .before .before .before .before .before .before .before .before .before .before .before .before .before .before .before .before .before .before .before .args .firsts .now) (c .before .before .before .before .before .before .before .before .before .before .before .before .before .before .before .before .before .before .before .before .before .before .before .before .before .args .entry-starts .now) (c .before .before .before .before .before .before .before .before .before .before .before .before .before .before .before .before .before .before .before .before .before .before .before .before .before .args .entry-ends .now) (c .before .before .before .before .before .before .before .before .before .before .before .before .before .before .before .before .before .before .before .before .before .before .before .before .before .args .tables)) (c .before .before .before .before .before .before .before .before .before .before .before .before .before .before .before .before .before .before .before .before .before .before .before .before .before .args .start) (c .before .before .before .before .before .before .before .before .before .before .before .before .before .before .before .before .before .before .before .before .before .before .before .before .before .args .end) (c .before .before .before .before .before .before .before .before .before .before .before .before .before .before .before .before .before .before .before .before .before .before .before .before .before .args .at) (c .before .before .before .before .before .before .before .before .before .before .before .before .before .before .before .before .before .before .before .before .before .before .before .before .before .args .area .now) (c .before .before .before .before .before .before .before .before .before .before .before .before .before .before .put .ensures) (c .before .before .before .before .before .before .before .before .before .before .parameter-parts .ensures) (c .before .before .before .before .before .before .before2 .given .1) (c .before .before .put-all .ensures)
+returns-2 c = constructor-done (c .before .before .before .before .before .before .before .before .before .before .before .before .before .before .before .before .before .before .before .before .before .before .args .at) (c .before .before .before .before .before .before .before .before .before .before .before .before .before .before .before .before .before .before .before .before .before .before .args .area .now) (c .before .before .before .before .before .before .before .before .before .before .before .before .before .before .put .ensures) (c .before .before .before .before .before .before .before .before .before .before .parameter-parts .ensures) (c .before .before .before .before .before .before .before2 .given .1) (c .before .before .put-all .ensures)
 
 pub constructor-default-spec : {M : Type 1} → statement M
 constructor-default-spec =
@@ -84,6 +84,6 @@ constructor-default-spec =
     add-put-all-2
     slice-aggregate-put-all
     put-all-requires
-    add-t22
+    add-t18
     same-length-2
     returns-2)

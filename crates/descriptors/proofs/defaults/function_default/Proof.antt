@@ -1,6 +1,6 @@
-use Prim.Native.Nat.{_+_, _-_, _*_}
+use Prim.Native.Nat.{_+_, _*_}
+use lib.ListN.{length}
 use native.Mathlib.Omega.{arith}
-use Rattle.schema.specs.Told.{lent}
 use Rattle.descriptors.specs.DefaultsTold.{partCost}
 use Rattle.descriptors.proofs.JoinLaws.{within-more, written-within}
 use Rattle.descriptors.proofs.FunctionLaws.{room-less, function-absent, function-done}
@@ -40,7 +40,7 @@ same-length c = search needs
 
 -- src/defaults.rt:481:9
 returns : tie.Need-returns
-returns c = function-absent (lent (c .before .before .before .before .before .before .before .before .before .before .before .before .before .before .before .before .before .before .before .args .payload .now) (c .before .before .before .before .before .before .before .before .before .before .before .before .before .before .before .before .before .before .before .args .d2 .now) (c .before .before .before .before .before .before .before .before .before .before .before .before .before .before .before .before .before .before .before .args .ends .now) (c .before .before .before .before .before .before .before .before .before .before .before .before .before .before .before .before .before .before .before .args .starts .now) (c .before .before .before .before .before .before .before .before .before .before .before .before .before .before .before .before .before .before .before .args .stops .now) (c .before .before .before .before .before .before .before .before .before .before .before .before .before .before .before .before .before .before .before .args .firsts .now) (c .before .before .before .before .before .before .before .before .before .before .before .before .before .before .before .before .before .before .before .args .entry-starts .now) (c .before .before .before .before .before .before .before .before .before .before .before .before .before .before .before .before .before .before .before .args .entry-ends .now) (c .before .before .before .before .before .before .before .before .before .before .before .before .before .before .before .before .before .before .before .args .tables)) (c .before .before .before .before .before .before .before .before .before .before .before .before .before .before .before .before .before .before .before .args .start) (c .before .before .before .before .before .before .before .before .before .before .before .before .before .before .before .before .before .before .before .args .end) (c .before .before .before .before .before .before .before .before .before .before .before .before .before .before .before .before .before .before .before .args .at) (c .before .before .before .before .before .before .before .before .before .before .before .before .before .before .before .before .before .before .before .args .area .now) (c .before .before .before .before .before .before .before .before .put .ensures) (c .before .before .before .before .before-part .ensures) (c .enum-told .given .1)
+returns c = function-absent (c .before .before .before .before .before .before .before .before .before .before .before .before .before .before .before .before .args .msg .now) (c .before .before .before .before .before .before .before .before .before .before .before .before .before .before .before .before .args .at) (c .before .before .before .before .before .before .before .before .before .before .before .before .before .before .before .before .args .area .now) (c .before .before .before .before .before .before .before .before .put .ensures) (c .before .before .before .before .before-part .ensures) (c .enum-told .given .1)
 
 -- src/defaults.rt:496:9
 add-after-part : tie.Need-add-after-part
@@ -48,19 +48,19 @@ add-after-part c = search needs
 
 -- src/defaults.rt:496:9
 add-after-part-2 : tie.Need-add-after-part-2
-add-after-part-2 c = let h = written-within (partCost * (1 + ((c .before .before .before .before .before .before .before .before .before .before .before .before .before .before .before .before .before .before .before .before .before .args .end) - (c .before .before .before .before .before .before .before .before .before .before .before .before .before .before .before .before .before .before .before .before .before .args .start)))) (c .before .before .before .before .before .before .before-part .ensures .within) (c .before .before .before2 .given .1) in omega (arith, c .before .before .before .before .before .before .before .before .before .before .before .before .before .before .before .before .before .before .before .before .before .pre .room)
+add-after-part-2 c = let h = written-within (partCost * (1 + length (c .before .before .before .before .before .before .before .before .before .before .before .before .before .before .before .before .before .before .args .msg .now))) (c .before .before .before .before .before .before .before-part .ensures .within) (c .before .before .before2 .given .1) in omega (arith, c .before .before .before .before .before .before .before .before .before .before .before .before .before .before .before .before .before .before .pre .room)
 
 -- src/defaults.rt:483:9
 after-part-requires : tie.Need-after-part-requires
-after-part-requires c κs = let h = written-within (partCost * (1 + ((c .before .before .before .before .before .before .before .before .before .before .before .before .before .before .before .before .before .before .before .before .before .args .end) - (c .before .before .before .before .before .before .before .before .before .before .before .before .before .before .before .before .before .before .before .before .before .args .start)))) (c .before .before .before .before .before .before .before-part .ensures .within) (c .before .before .before2 .given .1) in room-less (partCost * 2) ((c .before .before .before .before .before .before .before .before .before .before .before .before .before .before .before .before .before .before .before .before .before .args .at) + 1 + c .before .before .before2 .given .0 .0) (omega arith) (c .before .before .before .before .before .before .before .before .before .before .before .before .before .before .before .before .before .before .before .before .before .pre)
+after-part-requires c κs = let h = written-within (partCost * (1 + length (c .before .before .before .before .before .before .before .before .before .before .before .before .before .before .before .before .before .before .args .msg .now))) (c .before .before .before .before .before .before .before-part .ensures .within) (c .before .before .before2 .given .1) in room-less (partCost * 2) ((c .before .before .before .before .before .before .before .before .before .before .before .before .before .before .before .before .before .before .args .at) + 1 + c .before .before .before2 .given .0 .0) (omega arith) (c .before .before .before .before .before .before .before .before .before .before .before .before .before .before .before .before .before .before .pre)
 
 -- src/defaults.rt:498:14
 add-preceded : tie.Need-add-preceded
-add-preceded c = let h = written-within (partCost * (1 + ((c .before .before .before .before .before .before .before .before .before .before .before .before .before .before .before .before .before .before .before .before .before .before .before .before .args .end) - (c .before .before .before .before .before .before .before .before .before .before .before .before .before .before .before .before .before .before .before .before .before .before .before .before .args .start)))) (c .before .before .before .before .before .before .before .before .before .before-part .ensures .within) (c .before .before .before .before .before .before2 .given .1) in omega (arith, c .before .before .before .before .before .before .before .before .before .before .before .before .before .before .before .before .before .before .before .before .before .before .before .before .pre .room)
+add-preceded c = let h = written-within (partCost * (1 + length (c .before .before .before .before .before .before .before .before .before .before .before .before .before .before .before .before .before .before .before .before .before .args .msg .now))) (c .before .before .before .before .before .before .before .before .before .before-part .ensures .within) (c .before .before .before .before .before .before2 .given .1) in omega (arith, c .before .before .before .before .before .before .before .before .before .before .before .before .before .before .before .before .before .before .before .before .before .pre .room)
 
 -- src/defaults.rt:498:5
 preceded-requires : tie.Need-preceded-requires
-preceded-requires c κs = let h = written-within (partCost * (1 + ((c .before .before .before .before .before .before .before .before .before .before .before .before .before .before .before .before .before .before .before .before .before .before .before .before .args .end) - (c .before .before .before .before .before .before .before .before .before .before .before .before .before .before .before .before .before .before .before .before .before .before .before .before .args .start)))) (c .before .before .before .before .before .before .before .before .before .before-part .ensures .within) (c .before .before .before .before .before .before2 .given .1) in (omega (arith, c .before .before .before .before .before .before .before .before .before .before .before .before .before .before .before .before .before .before .before .before .before .before .before .before .pre .room), within-more (c .before .before .after-part .result) (omega arith) (c .before .before .after-part .ensures .within))
+preceded-requires c κs = let h = written-within (partCost * (1 + length (c .before .before .before .before .before .before .before .before .before .before .before .before .before .before .before .before .before .before .before .before .before .args .msg .now))) (c .before .before .before .before .before .before .before .before .before .before-part .ensures .within) (c .before .before .before .before .before .before2 .given .1) in (omega (arith, c .before .before .before .before .before .before .before .before .before .before .before .before .before .before .before .before .before .before .before .before .before .pre .room), within-more (c .before .before .after-part .result) (omega arith) (c .before .before .after-part .ensures .within))
 
 -- src/defaults.rt:446:1
 same-length-2 : tie.Need-same-length-2
@@ -68,7 +68,7 @@ same-length-2 c = search needs
 
 -- src/defaults.rt:446:1
 returns-2 : tie.Need-returns-2
-returns-2 c = function-done (lent (c .before .before .before .before .before .before .before .before .before .before .before .before .before .before .before .before .before .before .before .before .before .before .before .before .before .args .payload .now) (c .before .before .before .before .before .before .before .before .before .before .before .before .before .before .before .before .before .before .before .before .before .before .before .before .before .args .d2 .now) (c .before .before .before .before .before .before .before .before .before .before .before .before .before .before .before .before .before .before .before .before .before .before .before .before .before .args .ends .now) (c .before .before .before .before .before .before .before .before .before .before .before .before .before .before .before .before .before .before .before .before .before .before .before .before .before .args .starts .now) (c .before .before .before .before .before .before .before .before .before .before .before .before .before .before .before .before .before .before .before .before .before .before .before .before .before .args .stops .now) (c .before .before .before .before .before .before .before .before .before .before .before .before .before .before .before .before .before .before .before .before .before .before .before .before .before .args .firsts .now) (c .before .before .before .before .before .before .before .before .before .before .before .before .before .before .before .before .before .before .before .before .before .before .before .before .before .args .entry-starts .now) (c .before .before .before .before .before .before .before .before .before .before .before .before .before .before .before .before .before .before .before .before .before .before .before .before .before .args .entry-ends .now) (c .before .before .before .before .before .before .before .before .before .before .before .before .before .before .before .before .before .before .before .before .before .before .before .before .before .args .tables)) (c .before .before .before .before .before .before .before .before .before .before .before .before .before .before .before .before .before .before .before .before .before .before .before .before .before .args .start) (c .before .before .before .before .before .before .before .before .before .before .before .before .before .before .before .before .before .before .before .before .before .before .before .before .before .args .end) (c .before .before .before .before .before .before .before .before .before .before .before .before .before .before .before .before .before .before .before .before .before .before .before .before .before .args .at) (c .before .before .before .before .before .before .before .before .before .before .before .before .before .before .before .before .before .before .before .before .before .before .before .before .before .args .area .now) (c .before .before .before .before .before .before .before .before .before .before .before .before .before .before .put .ensures) (c .before .before .before .before .before .before .before .before .before .before .before-part .ensures) (c .before .before .before .before .before .before .before2 .given .1) (c .before .before .before .after-part .ensures) (c .preceded .ensures)
+returns-2 c = function-done (c .before .before .before .before .before .before .before .before .before .before .before .before .before .before .before .before .before .before .before .before .before .before .args .msg .now) (c .before .before .before .before .before .before .before .before .before .before .before .before .before .before .before .before .before .before .before .before .before .before .args .at) (c .before .before .before .before .before .before .before .before .before .before .before .before .before .before .before .before .before .before .before .before .before .before .args .area .now) (c .before .before .before .before .before .before .before .before .before .before .before .before .before .before .put .ensures) (c .before .before .before .before .before .before .before .before .before .before .before-part .ensures) (c .before .before .before .before .before .before .before2 .given .1) (c .before .before .before .after-part .ensures) (c .preceded .ensures)
 
 pub function-default-spec : {M : Type 1} → statement M
 function-default-spec =

@@ -9,22 +9,6 @@ use Rattle.descriptors.proofs.defaults.type_part.Reads as type-part-rea
 use Rattle.names.proofs.name.is_there.Reads as is-there-reads
 use Rattle.schema.proofs.name.name_in.Reads as name-in-reads
 
--- src/defaults.rt:108:9
-sub-name-in : tie.Need-sub-name-in
-sub-name-in c = search needs
-
--- src/defaults.rt:108:9
-part-name-in-start : tie.Need-part-name-in-start
-part-name-in-start c = search needs
-
--- src/defaults.rt:108:9
-part-name-in-end : tie.Need-part-name-in-end
-part-name-in-end c = search needs
-
--- src/defaults.rt:109:9
-cast-name-in : tie.Need-cast-name-in
-cast-name-in c = search needs
-
 -- src/defaults.rt:107:9
 name-in-requires : tie.Need-name-in-requires
 name-in-requires c κs = search needs
@@ -43,20 +27,16 @@ same-length c = search needs
 
 -- src/defaults.rt:119:9
 returns : tie.Need-returns
-returns c = parameter-named (lent (c .before .before .before .before .before .before .before .before .before .before .before .before .before .before .before .before .before .args .payload .now) (c .before .before .before .before .before .before .before .before .before .before .before .before .before .before .before .before .before .args .d2 .now) (c .before .before .before .before .before .before .before .before .before .before .before .before .before .before .before .before .before .args .ends .now) (c .before .before .before .before .before .before .before .before .before .before .before .before .before .before .before .before .before .args .starts .now) (c .before .before .before .before .before .before .before .before .before .before .before .before .before .before .before .before .before .args .stops .now) (c .before .before .before .before .before .before .before .before .before .before .before .before .before .before .before .before .before .args .firsts .now) (c .before .before .before .before .before .before .before .before .before .before .before .before .before .before .before .before .before .args .entry-starts .now) (c .before .before .before .before .before .before .before .before .before .before .before .before .before .before .before .before .before .args .entry-ends .now) (c .before .before .before .before .before .before .before .before .before .before .before .before .before .before .before .before .before .args .tables)) (c .before .before .before .before .before .before .before .before .before .before .before .before .before .before .before .before .before .args .start) (c .before .before .before .before .before .before .before .before .before .before .before .before .before .before .before .before .before .args .end) (c .before .before .before .before .before .before .before .before .before .before .before .before .before .before .before .before .before .args .at) (c .before .before .before .before .before .before .name-in .result) (c .before .before .before .before .before .before .name-in .ensures) (c .before .before .before .before .before .is-there .ensures) (c .before .before .before .before .if1 .taken) (c .before .before .type-part .ensures)
+returns c = parameter-named (lent (c .before .before .before .before .before .before .before .before .before .before .before .before .before .args .payload .now) (c .before .before .before .before .before .before .before .before .before .before .before .before .before .args .d2 .now) (c .before .before .before .before .before .before .before .before .before .before .before .before .before .args .ends .now) (c .before .before .before .before .before .before .before .before .before .before .before .before .before .args .notes .now) (c .before .before .before .before .before .before .before .before .before .before .before .before .before .args .tables)) (c .before .before .before .before .before .before .before .before .before .before .before .before .before .args .msg .now) (c .before .before .before .before .before .before .before .before .before .before .before .before .before .args .base) (c .before .before .before .before .before .before .before .before .before .before .before .before .before .args .at) (c .before .before .before .before .before .before .name-in .result) (c .before .before .before .before .before .before .before .before .before .before .before .before .before .pre .stands) (c .before .before .before .before .before .before .name-in .ensures) (c .before .before .before .before .before .is-there .ensures) (c .before .before .before .before .if1 .taken) (c .before .before .type-part .ensures)
 
 -- src/defaults.rt:89:1
 returns-2 : tie.Need-returns-2
-returns-2 c = parameter-nameless (lent (c .before .before .before .before .before .before .before .before .before .before .before .before .before .args .payload .now) (c .before .before .before .before .before .before .before .before .before .before .before .before .before .args .d2 .now) (c .before .before .before .before .before .before .before .before .before .before .before .before .before .args .ends .now) (c .before .before .before .before .before .before .before .before .before .before .before .before .before .args .starts .now) (c .before .before .before .before .before .before .before .before .before .before .before .before .before .args .stops .now) (c .before .before .before .before .before .before .before .before .before .before .before .before .before .args .firsts .now) (c .before .before .before .before .before .before .before .before .before .before .before .before .before .args .entry-starts .now) (c .before .before .before .before .before .before .before .before .before .before .before .before .before .args .entry-ends .now) (c .before .before .before .before .before .before .before .before .before .before .before .before .before .args .tables)) (c .before .before .before .before .before .before .before .before .before .before .before .before .before .args .start) (c .before .before .before .before .before .before .before .before .before .before .before .before .before .args .end) (c .before .before .before .before .before .before .before .before .before .before .before .before .before .args .at) (c .before .before .name-in .result) (c .before .before .name-in .ensures) (c .before .is-there .ensures) (c .if1 .left) (c .before .before .before .before .before .before .before .before .before .before .before .before .before .args .area .now)
+returns-2 c = parameter-nameless (lent (c .before .before .before .before .before .before .before .before .before .args .payload .now) (c .before .before .before .before .before .before .before .before .before .args .d2 .now) (c .before .before .before .before .before .before .before .before .before .args .ends .now) (c .before .before .before .before .before .before .before .before .before .args .notes .now) (c .before .before .before .before .before .before .before .before .before .args .tables)) (c .before .before .before .before .before .before .before .before .before .args .msg .now) (c .before .before .before .before .before .before .before .before .before .args .base) (c .before .before .before .before .before .before .before .before .before .args .at) (c .before .before .name-in .result) (c .before .before .before .before .before .before .before .before .before .pre .stands) (c .before .before .name-in .ensures) (c .before .is-there .ensures) (c .if1 .left) (c .before .before .before .before .before .before .before .before .before .args .area .now)
 
 pub parameter-part-spec : {M : Type 1} → statement M
 parameter-part-spec =
     tie.close
     (tie.spec
-    sub-name-in
-    part-name-in-start
-    part-name-in-end
-    cast-name-in
     name-in-requires
     is-there-requires
     type-part-requires

@@ -13,30 +13,14 @@ use Rattle.descriptors.proofs.defaults.parameter_part.Reads as paramete
 use Rattle.messages.proofs.next_body.Reads as next-body-reads
 
 abbrev Inv-loop : tie.InvT-loop
-Inv-loop start end number payload d2 ends starts stops firsts entry-starts entry-ends tables area₀ at from₀ size₀ area from size = Parting (lent payload d2 ends starts stops firsts entry-starts entry-ends tables) start end number at area₀ from size area × (length area ≡ length area₀)
+Inv-loop msg base number payload d2 ends notes tables area₀ at from₀ size₀ area from size = Parting (lent payload d2 ends notes tables) msg base number at area₀ from size area × (length area ≡ length area₀)
 
 abbrev μ-loop : tie.MeasureT-loop
-μ-loop start end number payload d2 ends starts stops firsts entry-starts entry-ends tables area₀ at from₀ size₀ area from size = end - start - from
+μ-loop msg base number payload d2 ends notes tables area₀ at from₀ size₀ area from size = length msg - from
 
 -- src/defaults.rt:163:5
 loop-holds : tie.Need-loop-holds Inv-loop μ-loop
-loop-holds c = (parts-start (lent (c .before .before .before .before .before .before .before .before .before .args .payload .now) (c .before .before .before .before .before .before .before .before .before .args .d2 .now) (c .before .before .before .before .before .before .before .before .before .args .ends .now) (c .before .before .before .before .before .before .before .before .before .args .starts .now) (c .before .before .before .before .before .before .before .before .before .args .stops .now) (c .before .before .before .before .before .before .before .before .before .args .firsts .now) (c .before .before .before .before .before .before .before .before .before .args .entry-starts .now) (c .before .before .before .before .before .before .before .before .before .args .entry-ends .now) (c .before .before .before .before .before .before .before .before .before .args .tables)) (c .before .before .before .before .before .before .before .before .before .args .start) (c .before .before .before .before .before .before .before .before .before .args .end) (c .before .before .before .before .before .before .before .before .before .args .number) (c .before .before .before .before .before .before .before .before .before .args .at) (c .before .before .before .before .before .before .before .before .before .args .area .now), refl)
-
--- src/defaults.rt:164:31
-sub-next-body : tie.Need-sub-next-body Inv-loop μ-loop
-sub-next-body c = search needs
-
--- src/defaults.rt:164:31
-part-next-body-start : tie.Need-part-next-body-start Inv-loop μ-loop
-part-next-body-start c = search needs
-
--- src/defaults.rt:164:31
-part-next-body-end : tie.Need-part-next-body-end Inv-loop μ-loop
-part-next-body-end c = search needs
-
--- src/defaults.rt:164:53
-cast-next-body : tie.Need-cast-next-body Inv-loop μ-loop
-cast-next-body c = search needs
+loop-holds c = (parts-start (lent (c .before .before .before .before .before .before .args .payload .now) (c .before .before .before .before .before .before .args .d2 .now) (c .before .before .before .before .before .before .args .ends .now) (c .before .before .before .before .before .before .args .notes .now) (c .before .before .before .before .before .before .args .tables)) (c .before .before .before .before .before .before .args .msg .now) (c .before .before .before .before .before .before .args .base) (c .before .before .before .before .before .before .args .number) (c .before .before .before .before .before .before .args .at) (c .before .before .before .before .before .before .args .area .now) (c .before .before .before .before .before .before .pre .stands), refl)
 
 -- src/defaults.rt:164:13
 next-body-requires : tie.Need-next-body-requires Inv-loop μ-loop
@@ -52,27 +36,35 @@ enum-told c = search needs
 
 -- src/defaults.rt:170:13
 same-length : tie.Need-same-length Inv-loop μ-loop
-same-length c = c .before .before .before .before .loop .inv .1
+same-length c = c .before .before .before .loop .inv .1
 
 -- src/defaults.rt:170:13
 returns : tie.Need-returns Inv-loop μ-loop
-returns c = parts-end (lent (c .before .before .before .before .before .before .before .before .before .before .before .before .before .before .args .payload .now) (c .before .before .before .before .before .before .before .before .before .before .before .before .before .before .args .d2 .now) (c .before .before .before .before .before .before .before .before .before .before .before .before .before .before .args .ends .now) (c .before .before .before .before .before .before .before .before .before .before .before .before .before .before .args .starts .now) (c .before .before .before .before .before .before .before .before .before .before .before .before .before .before .args .stops .now) (c .before .before .before .before .before .before .before .before .before .before .before .before .before .before .args .firsts .now) (c .before .before .before .before .before .before .before .before .before .before .before .before .before .before .args .entry-starts .now) (c .before .before .before .before .before .before .before .before .before .before .before .before .before .before .args .entry-ends .now) (c .before .before .before .before .before .before .before .before .before .before .before .before .before .before .args .tables)) (c .before .before .before .before .before .before .before .before .before .before .before .before .before .before .args .start) (c .before .before .before .before .before .before .before .before .before .before .before .before .before .before .args .end) (c .before .before .before .before .before .before .before .before .before .before .before .before .before .before .args .number) (c .before .before .before .before .before .before .before .before .before .before .before .before .before .before .args .at) (c .before .before .before .before .before .before .before .before .before .before .before .before .before .before .args .area .now) (c .before .before .before .before .loop .from) (c .before .before .before .before .loop .size) (c .before .before .before .before .loop .area) (c .before .before .before .before .loop .inv .0) (c .before .before .next-body .ensures) (c .enum-told .given .1)
+returns c = parts-end (c .before .before .before .loop .inv .0) (c .before .before .next-body .ensures) (c .enum-told .given .1)
+
+sub-parameter-part : tie.Need-sub-parameter-part Inv-loop μ-loop
+sub-parameter-part c = let h = part-in (c .before .before .before .before .loop .inv .0) (c .before .before .before .next-body .ensures) (c .before .piece .given .1) in omega (arith, c .before .before .before .before .before .before .before .before .before .before .before .pre .stands .inside, c .before .before .before .before .before .before .before .before .before .before .before .pre .payload-short)
+
+part-parameter-part-start : tie.Need-part-parameter-part-start Inv-loop μ-loop
+part-parameter-part-start c = let h = part-in (c .before .before .before .before .loop .inv .0) (c .before .before .before .next-body .ensures) (c .before .piece .given .1) in omega (arith, c .before .before .before .before .before .before .before .before .before .before .before .pre .stands .inside, c .before .before .before .before .before .before .before .before .before .before .before .pre .payload-short)
+
+part-parameter-part-end : tie.Need-part-parameter-part-end Inv-loop μ-loop
+part-parameter-part-end c = let h = part-in (c .before .before .before .before .loop .inv .0) (c .before .before .before .next-body .ensures) (c .before .piece .given .1) in omega (arith, c .before .before .before .before .before .before .before .before .before .before .before .pre .stands .inside, c .before .before .before .before .before .before .before .before .before .before .before .pre .payload-short)
+
+cast-parameter-part : tie.Need-cast-parameter-part Inv-loop μ-loop
+cast-parameter-part c = let h = part-in (c .before .before .before .before .before .loop .inv .0) (c .before .before .before .before .next-body .ensures) (c .before .before .piece .given .1) in omega (arith, c .before .before .before .before .before .before .before .before .before .before .before .before .pre .stands .inside, c .before .before .before .before .before .before .before .before .before .before .before .before .pre .payload-short)
 
 -- src/defaults.rt:174:13
 add-parameter-part : tie.Need-add-parameter-part Inv-loop μ-loop
-add-parameter-part c = let h = part-in (lent (c .before .before .before .before .before .before .before .before .before .before .before .before .before .before .before .args .payload .now) (c .before .before .before .before .before .before .before .before .before .before .before .before .before .before .before .args .d2 .now) (c .before .before .before .before .before .before .before .before .before .before .before .before .before .before .before .args .ends .now) (c .before .before .before .before .before .before .before .before .before .before .before .before .before .before .before .args .starts .now) (c .before .before .before .before .before .before .before .before .before .before .before .before .before .before .before .args .stops .now) (c .before .before .before .before .before .before .before .before .before .before .before .before .before .before .before .args .firsts .now) (c .before .before .before .before .before .before .before .before .before .before .before .before .before .before .before .args .entry-starts .now) (c .before .before .before .before .before .before .before .before .before .before .before .before .before .before .before .args .entry-ends .now) (c .before .before .before .before .before .before .before .before .before .before .before .before .before .before .before .args .tables)) (c .before .before .before .before .before .before .before .before .before .before .before .before .before .before .before .args .start) (c .before .before .before .before .before .before .before .before .before .before .before .before .before .before .before .args .end) (c .before .before .before .before .before .before .before .before .before .before .before .before .before .before .before .args .number) (c .before .before .before .before .before .before .before .before .before .before .before .before .before .before .before .args .at) (c .before .before .before .before .before .before .before .before .before .before .before .before .before .before .before .args .area .now) (c .before .before .before .before .before .loop .from) (c .before .before .before .before .before .loop .size) (c .before .before .before .before .before .loop .area) (c .before .before .before .before .before .loop .inv .0) (c .before .before .before .next-body .ensures) (c .before .piece .given .1) in omega (arith, c .before .before .before .before .before .before .before .before .before .before .before .before .before .before .before .pre .inside, c .before .before .before .before .before .before .before .before .before .before .before .before .before .before .before .pre .payload-short)
+add-parameter-part c = let h = part-in (c .before .before .before .before .before .loop .inv .0) (c .before .before .before .before .next-body .ensures) (c .before .before .piece .given .1) in omega (arith, c .before .before .before .before .before .before .before .before .before .before .before .before .pre .stands .inside, c .before .before .before .before .before .before .before .before .before .before .before .before .pre .payload-short)
 
 -- src/defaults.rt:175:13
 add-parameter-part-2 : tie.Need-add-parameter-part-2 Inv-loop μ-loop
-add-parameter-part-2 c = let h = part-in (lent (c .before .before .before .before .before .before .before .before .before .before .before .before .before .before .before .args .payload .now) (c .before .before .before .before .before .before .before .before .before .before .before .before .before .before .before .args .d2 .now) (c .before .before .before .before .before .before .before .before .before .before .before .before .before .before .before .args .ends .now) (c .before .before .before .before .before .before .before .before .before .before .before .before .before .before .before .args .starts .now) (c .before .before .before .before .before .before .before .before .before .before .before .before .before .before .before .args .stops .now) (c .before .before .before .before .before .before .before .before .before .before .before .before .before .before .before .args .firsts .now) (c .before .before .before .before .before .before .before .before .before .before .before .before .before .before .before .args .entry-starts .now) (c .before .before .before .before .before .before .before .before .before .before .before .before .before .before .before .args .entry-ends .now) (c .before .before .before .before .before .before .before .before .before .before .before .before .before .before .before .args .tables)) (c .before .before .before .before .before .before .before .before .before .before .before .before .before .before .before .args .start) (c .before .before .before .before .before .before .before .before .before .before .before .before .before .before .before .args .end) (c .before .before .before .before .before .before .before .before .before .before .before .before .before .before .before .args .number) (c .before .before .before .before .before .before .before .before .before .before .before .before .before .before .before .args .at) (c .before .before .before .before .before .before .before .before .before .before .before .before .before .before .before .args .area .now) (c .before .before .before .before .before .loop .from) (c .before .before .before .before .before .loop .size) (c .before .before .before .before .before .loop .area) (c .before .before .before .before .before .loop .inv .0) (c .before .before .before .next-body .ensures) (c .before .piece .given .1) in omega (arith, c .before .before .before .before .before .before .before .before .before .before .before .before .before .before .before .pre .inside, c .before .before .before .before .before .before .before .before .before .before .before .before .before .before .before .pre .payload-short)
-
--- src/defaults.rt:186:13
-add-parameter-part-3 : tie.Need-add-parameter-part-3 Inv-loop μ-loop
-add-parameter-part-3 c = let h = part-room (lent (c .before .before .before .before .before .before .before .before .before .before .before .before .before .before .before .before .args .payload .now) (c .before .before .before .before .before .before .before .before .before .before .before .before .before .before .before .before .args .d2 .now) (c .before .before .before .before .before .before .before .before .before .before .before .before .before .before .before .before .args .ends .now) (c .before .before .before .before .before .before .before .before .before .before .before .before .before .before .before .before .args .starts .now) (c .before .before .before .before .before .before .before .before .before .before .before .before .before .before .before .before .args .stops .now) (c .before .before .before .before .before .before .before .before .before .before .before .before .before .before .before .before .args .firsts .now) (c .before .before .before .before .before .before .before .before .before .before .before .before .before .before .before .before .args .entry-starts .now) (c .before .before .before .before .before .before .before .before .before .before .before .before .before .before .before .before .args .entry-ends .now) (c .before .before .before .before .before .before .before .before .before .before .before .before .before .before .before .before .args .tables)) (c .before .before .before .before .before .before .before .before .before .before .before .before .before .before .before .before .args .start) (c .before .before .before .before .before .before .before .before .before .before .before .before .before .before .before .before .args .end) (c .before .before .before .before .before .before .before .before .before .before .before .before .before .before .before .before .args .number) (c .before .before .before .before .before .before .before .before .before .before .before .before .before .before .before .before .args .at) (c .before .before .before .before .before .before .before .before .before .before .before .before .before .before .before .before .args .area .now) (c .before .before .before .before .before .before .loop .from) (c .before .before .before .before .before .before .loop .size) (c .before .before .before .before .before .before .loop .area) (c .before .before .before .before .before .before .loop .inv .0) (c .before .before .before .before .next-body .ensures) (c .before .before .piece .given .1) (c .before .before .before .before .before .before .before .before .before .before .before .before .before .before .before .before .pre) in omega (arith, h .room)
+add-parameter-part-2 c = let h = part-room (c .before .before .before .before .before .before .loop .inv .0) (c .before .before .before .before .before .next-body .ensures) (c .before .before .before .piece .given .1) (c .before .before .before .before .before .before .before .before .before .before .before .before .before .pre) in omega (arith, h .room)
 
 -- src/defaults.rt:173:13
 parameter-part-requires : tie.Need-parameter-part-requires Inv-loop μ-loop
-parameter-part-requires c κs = part-room (lent (c .before .before .before .before .before .before .before .before .before .before .before .before .before .before .before .before .args .payload .now) (c .before .before .before .before .before .before .before .before .before .before .before .before .before .before .before .before .args .d2 .now) (c .before .before .before .before .before .before .before .before .before .before .before .before .before .before .before .before .args .ends .now) (c .before .before .before .before .before .before .before .before .before .before .before .before .before .before .before .before .args .starts .now) (c .before .before .before .before .before .before .before .before .before .before .before .before .before .before .before .before .args .stops .now) (c .before .before .before .before .before .before .before .before .before .before .before .before .before .before .before .before .args .firsts .now) (c .before .before .before .before .before .before .before .before .before .before .before .before .before .before .before .before .args .entry-starts .now) (c .before .before .before .before .before .before .before .before .before .before .before .before .before .before .before .before .args .entry-ends .now) (c .before .before .before .before .before .before .before .before .before .before .before .before .before .before .before .before .args .tables)) (c .before .before .before .before .before .before .before .before .before .before .before .before .before .before .before .before .args .start) (c .before .before .before .before .before .before .before .before .before .before .before .before .before .before .before .before .args .end) (c .before .before .before .before .before .before .before .before .before .before .before .before .before .before .before .before .args .number) (c .before .before .before .before .before .before .before .before .before .before .before .before .before .before .before .before .args .at) (c .before .before .before .before .before .before .before .before .before .before .before .before .before .before .before .before .args .area .now) (c .before .before .before .before .before .before .loop .from) (c .before .before .before .before .before .before .loop .size) (c .before .before .before .before .before .before .loop .area) (c .before .before .before .before .before .before .loop .inv .0) (c .before .before .before .before .next-body .ensures) (c .before .before .piece .given .1) (c .before .before .before .before .before .before .before .before .before .before .before .before .before .before .before .before .pre)
+parameter-part-requires c κs = part-room (c .before .before .before .before .before .before .loop .inv .0) (c .before .before .before .before .before .next-body .ensures) (c .before .before .before .piece .given .1) (c .before .before .before .before .before .before .before .before .before .before .before .before .before .pre)
 
 -- src/defaults.rt:188:35
 enum-known-part : tie.Need-enum-known-part Inv-loop μ-loop
@@ -84,25 +76,25 @@ enum-told-2 c = search needs
 
 -- src/defaults.rt:189:13
 same-length-2 : tie.Need-same-length-2 Inv-loop μ-loop
-same-length-2 c = c .before .before .before .before .parameter-part .kept .1 .1 .1 .1 .1 .1 .1 .1 .1 .1 .1 .0 ∙ c .before .before .before .before .before .before .before .before .before .before .before .loop .inv .1
+same-length-2 c = c .before .before .before .before .parameter-part .kept .1 .1 .1 .1 .1 .1 .1 .0 ∙ c .before .before .before .before .before .before .before .before .before .before .before .loop .inv .1
 
 -- src/defaults.rt:189:13
 returns-2 : tie.Need-returns-2 Inv-loop μ-loop
-returns-2 c = parts-absent (lent (c .before .before .before .before .before .before .before .before .before .before .before .before .before .before .before .before .before .before .before .before .before .args .payload .now) (c .before .before .before .before .before .before .before .before .before .before .before .before .before .before .before .before .before .before .before .before .before .args .d2 .now) (c .before .before .before .before .before .before .before .before .before .before .before .before .before .before .before .before .before .before .before .before .before .args .ends .now) (c .before .before .before .before .before .before .before .before .before .before .before .before .before .before .before .before .before .before .before .before .before .args .starts .now) (c .before .before .before .before .before .before .before .before .before .before .before .before .before .before .before .before .before .before .before .before .before .args .stops .now) (c .before .before .before .before .before .before .before .before .before .before .before .before .before .before .before .before .before .before .before .before .before .args .firsts .now) (c .before .before .before .before .before .before .before .before .before .before .before .before .before .before .before .before .before .before .before .before .before .args .entry-starts .now) (c .before .before .before .before .before .before .before .before .before .before .before .before .before .before .before .before .before .before .before .before .before .args .entry-ends .now) (c .before .before .before .before .before .before .before .before .before .before .before .before .before .before .before .before .before .before .before .before .before .args .tables)) (c .before .before .before .before .before .before .before .before .before .before .before .before .before .before .before .before .before .before .before .before .before .args .start) (c .before .before .before .before .before .before .before .before .before .before .before .before .before .before .before .before .before .before .before .before .before .args .end) (c .before .before .before .before .before .before .before .before .before .before .before .before .before .before .before .before .before .before .before .before .before .args .number) (c .before .before .before .before .before .before .before .before .before .before .before .before .before .before .before .before .before .before .before .before .before .args .at) (c .before .before .before .before .before .before .before .before .before .before .before .before .before .before .before .before .before .before .before .before .before .args .area .now) (c .before .before .before .before .before .before .before .before .before .before .before .loop .from) (c .before .before .before .before .before .before .before .before .before .before .before .loop .size) (c .before .before .before .before .before .before .before .before .before .before .before .loop .area) (c .before .before .before .before .before .before .before .before .before .before .before .loop .inv .0) (c .before .before .before .before .before .before .before .before .before .next-body .ensures) (c .before .before .before .before .before .before .before .piece .given .1) (c .before .before .before .before .parameter-part .ensures) (c .enum-told2 .given .1)
+returns-2 c = parts-absent (c .before .before .before .before .before .before .before .before .before .before .before .loop .inv .0) (c .before .before .before .before .before .before .before .before .before .before .next-body .ensures) (c .before .before .before .before .before .before .before .before .piece .given .1) (c .before .before .before .before .before .before .before .before .before .before .before .before .before .before .before .before .before .before .pre .stands) (c .before .before .before .before .parameter-part .ensures) (c .enum-told2 .given .1)
 
 -- src/defaults.rt:191:9
 add-size : tie.Need-add-size Inv-loop μ-loop
-add-size c = let h = part-room (lent (c .before .before .before .before .before .before .before .before .before .before .before .before .before .before .before .before .before .before .before .before .before .before .args .payload .now) (c .before .before .before .before .before .before .before .before .before .before .before .before .before .before .before .before .before .before .before .before .before .before .args .d2 .now) (c .before .before .before .before .before .before .before .before .before .before .before .before .before .before .before .before .before .before .before .before .before .before .args .ends .now) (c .before .before .before .before .before .before .before .before .before .before .before .before .before .before .before .before .before .before .before .before .before .before .args .starts .now) (c .before .before .before .before .before .before .before .before .before .before .before .before .before .before .before .before .before .before .before .before .before .before .args .stops .now) (c .before .before .before .before .before .before .before .before .before .before .before .before .before .before .before .before .before .before .before .before .before .before .args .firsts .now) (c .before .before .before .before .before .before .before .before .before .before .before .before .before .before .before .before .before .before .before .before .before .before .args .entry-starts .now) (c .before .before .before .before .before .before .before .before .before .before .before .before .before .before .before .before .before .before .before .before .before .before .args .entry-ends .now) (c .before .before .before .before .before .before .before .before .before .before .before .before .before .before .before .before .before .before .before .before .before .before .args .tables)) (c .before .before .before .before .before .before .before .before .before .before .before .before .before .before .before .before .before .before .before .before .before .before .args .start) (c .before .before .before .before .before .before .before .before .before .before .before .before .before .before .before .before .before .before .before .before .before .before .args .end) (c .before .before .before .before .before .before .before .before .before .before .before .before .before .before .before .before .before .before .before .before .before .before .args .number) (c .before .before .before .before .before .before .before .before .before .before .before .before .before .before .before .before .before .before .before .before .before .before .args .at) (c .before .before .before .before .before .before .before .before .before .before .before .before .before .before .before .before .before .before .before .before .before .before .args .area .now) (c .before .before .before .before .before .before .before .before .before .before .before .before .loop .from) (c .before .before .before .before .before .before .before .before .before .before .before .before .loop .size) (c .before .before .before .before .before .before .before .before .before .before .before .before .loop .area) (c .before .before .before .before .before .before .before .before .before .before .before .before .loop .inv .0) (c .before .before .before .before .before .before .before .before .before .before .next-body .ensures) (c .before .before .before .before .before .before .before .before .piece .given .1) (c .before .before .before .before .before .before .before .before .before .before .before .before .before .before .before .before .before .before .before .before .before .before .pre) in
-    let k = parts-next (lent (c .before .before .before .before .before .before .before .before .before .before .before .before .before .before .before .before .before .before .before .before .before .before .args .payload .now) (c .before .before .before .before .before .before .before .before .before .before .before .before .before .before .before .before .before .before .before .before .before .before .args .d2 .now) (c .before .before .before .before .before .before .before .before .before .before .before .before .before .before .before .before .before .before .before .before .before .before .args .ends .now) (c .before .before .before .before .before .before .before .before .before .before .before .before .before .before .before .before .before .before .before .before .before .before .args .starts .now) (c .before .before .before .before .before .before .before .before .before .before .before .before .before .before .before .before .before .before .before .before .before .before .args .stops .now) (c .before .before .before .before .before .before .before .before .before .before .before .before .before .before .before .before .before .before .before .before .before .before .args .firsts .now) (c .before .before .before .before .before .before .before .before .before .before .before .before .before .before .before .before .before .before .before .before .before .before .args .entry-starts .now) (c .before .before .before .before .before .before .before .before .before .before .before .before .before .before .before .before .before .before .before .before .before .before .args .entry-ends .now) (c .before .before .before .before .before .before .before .before .before .before .before .before .before .before .before .before .before .before .before .before .before .before .args .tables)) (c .before .before .before .before .before .before .before .before .before .before .before .before .before .before .before .before .before .before .before .before .before .before .args .start) (c .before .before .before .before .before .before .before .before .before .before .before .before .before .before .before .before .before .before .before .before .before .before .args .end) (c .before .before .before .before .before .before .before .before .before .before .before .before .before .before .before .before .before .before .before .before .before .before .args .number) (c .before .before .before .before .before .before .before .before .before .before .before .before .before .before .before .before .before .before .before .before .before .before .args .at) (c .before .before .before .before .before .before .before .before .before .before .before .before .before .before .before .before .before .before .before .before .before .before .args .area .now) (c .before .before .before .before .before .before .before .before .before .before .before .before .loop .from) (c .before .before .before .before .before .before .before .before .before .before .before .before .loop .size) (c .before .before .before .before .before .before .before .before .before .before .before .before .loop .area) (c .before .before .before .before .before .before .before .before .before .before .before .before .loop .inv .0) (c .before .before .before .before .before .before .before .before .before .before .next-body .ensures) (c .before .before .before .before .before .before .before .before .piece .given .1) (c .before .before .before .before .before .parameter-part .ensures) (c .before .part .given .1) in
-    omega (arith, h .room, k .few, k .inside, c .before .before .before .before .before .before .before .before .before .before .before .before .before .before .before .before .before .before .before .before .before .before .pre .inside, c .before .before .before .before .before .before .before .before .before .before .before .before .before .before .before .before .before .before .before .before .before .before .pre .payload-short)
+add-size c = let h = part-room (c .before .before .before .before .before .before .before .before .before .before .before .before .loop .inv .0) (c .before .before .before .before .before .before .before .before .before .before .before .next-body .ensures) (c .before .before .before .before .before .before .before .before .before .piece .given .1) (c .before .before .before .before .before .before .before .before .before .before .before .before .before .before .before .before .before .before .before .pre) in
+    let k = parts-next (c .before .before .before .before .before .before .before .before .before .before .before .before .loop .inv .0) (c .before .before .before .before .before .before .before .before .before .before .before .next-body .ensures) (c .before .before .before .before .before .before .before .before .before .piece .given .1) (c .before .before .before .before .before .before .before .before .before .before .before .before .before .before .before .before .before .before .before .pre .stands) (c .before .before .before .before .before .parameter-part .ensures) (c .before .part .given .1) in
+    omega (arith, h .room, k .few, k .inside, c .before .before .before .before .before .before .before .before .before .before .before .before .before .before .before .before .before .before .before .pre .stands .inside, c .before .before .before .before .before .before .before .before .before .before .before .before .before .before .before .before .before .before .before .pre .payload-short)
 
 -- src/defaults.rt:163:5
 loop-less : tie.Need-loop-less Inv-loop μ-loop
-loop-less c = let h = part-in (lent (c .before .before .before .before .before .before .before .before .before .before .before .before .before .before .before .before .before .before .before .before .before .before .args .payload .now) (c .before .before .before .before .before .before .before .before .before .before .before .before .before .before .before .before .before .before .before .before .before .before .args .d2 .now) (c .before .before .before .before .before .before .before .before .before .before .before .before .before .before .before .before .before .before .before .before .before .before .args .ends .now) (c .before .before .before .before .before .before .before .before .before .before .before .before .before .before .before .before .before .before .before .before .before .before .args .starts .now) (c .before .before .before .before .before .before .before .before .before .before .before .before .before .before .before .before .before .before .before .before .before .before .args .stops .now) (c .before .before .before .before .before .before .before .before .before .before .before .before .before .before .before .before .before .before .before .before .before .before .args .firsts .now) (c .before .before .before .before .before .before .before .before .before .before .before .before .before .before .before .before .before .before .before .before .before .before .args .entry-starts .now) (c .before .before .before .before .before .before .before .before .before .before .before .before .before .before .before .before .before .before .before .before .before .before .args .entry-ends .now) (c .before .before .before .before .before .before .before .before .before .before .before .before .before .before .before .before .before .before .before .before .before .before .args .tables)) (c .before .before .before .before .before .before .before .before .before .before .before .before .before .before .before .before .before .before .before .before .before .before .args .start) (c .before .before .before .before .before .before .before .before .before .before .before .before .before .before .before .before .before .before .before .before .before .before .args .end) (c .before .before .before .before .before .before .before .before .before .before .before .before .before .before .before .before .before .before .before .before .before .before .args .number) (c .before .before .before .before .before .before .before .before .before .before .before .before .before .before .before .before .before .before .before .before .before .before .args .at) (c .before .before .before .before .before .before .before .before .before .before .before .before .before .before .before .before .before .before .before .before .before .before .args .area .now) (c .before .before .before .before .before .before .before .before .before .before .before .before .loop .from) (c .before .before .before .before .before .before .before .before .before .before .before .before .loop .size) (c .before .before .before .before .before .before .before .before .before .before .before .before .loop .area) (c .before .before .before .before .before .before .before .before .before .before .before .before .loop .inv .0) (c .before .before .before .before .before .before .before .before .before .before .next-body .ensures) (c .before .before .before .before .before .before .before .before .piece .given .1) in omega arith
+loop-less c = let h = part-in (c .before .before .before .before .before .before .before .before .before .before .before .before .loop .inv .0) (c .before .before .before .before .before .before .before .before .before .before .before .next-body .ensures) (c .before .before .before .before .before .before .before .before .before .piece .given .1) in omega arith
 
 -- src/defaults.rt:163:5
 loop-again : tie.Need-loop-again Inv-loop μ-loop
-loop-again c = (parts-next (lent (c .before .before .before .before .before .before .before .before .before .before .before .before .before .before .before .before .before .before .before .before .before .before .args .payload .now) (c .before .before .before .before .before .before .before .before .before .before .before .before .before .before .before .before .before .before .before .before .before .before .args .d2 .now) (c .before .before .before .before .before .before .before .before .before .before .before .before .before .before .before .before .before .before .before .before .before .before .args .ends .now) (c .before .before .before .before .before .before .before .before .before .before .before .before .before .before .before .before .before .before .before .before .before .before .args .starts .now) (c .before .before .before .before .before .before .before .before .before .before .before .before .before .before .before .before .before .before .before .before .before .before .args .stops .now) (c .before .before .before .before .before .before .before .before .before .before .before .before .before .before .before .before .before .before .before .before .before .before .args .firsts .now) (c .before .before .before .before .before .before .before .before .before .before .before .before .before .before .before .before .before .before .before .before .before .before .args .entry-starts .now) (c .before .before .before .before .before .before .before .before .before .before .before .before .before .before .before .before .before .before .before .before .before .before .args .entry-ends .now) (c .before .before .before .before .before .before .before .before .before .before .before .before .before .before .before .before .before .before .before .before .before .before .args .tables)) (c .before .before .before .before .before .before .before .before .before .before .before .before .before .before .before .before .before .before .before .before .before .before .args .start) (c .before .before .before .before .before .before .before .before .before .before .before .before .before .before .before .before .before .before .before .before .before .before .args .end) (c .before .before .before .before .before .before .before .before .before .before .before .before .before .before .before .before .before .before .before .before .before .before .args .number) (c .before .before .before .before .before .before .before .before .before .before .before .before .before .before .before .before .before .before .before .before .before .before .args .at) (c .before .before .before .before .before .before .before .before .before .before .before .before .before .before .before .before .before .before .before .before .before .before .args .area .now) (c .before .before .before .before .before .before .before .before .before .before .before .before .loop .from) (c .before .before .before .before .before .before .before .before .before .before .before .before .loop .size) (c .before .before .before .before .before .before .before .before .before .before .before .before .loop .area) (c .before .before .before .before .before .before .before .before .before .before .before .before .loop .inv .0) (c .before .before .before .before .before .before .before .before .before .before .next-body .ensures) (c .before .before .before .before .before .before .before .before .piece .given .1) (c .before .before .before .before .before .parameter-part .ensures) (c .before .part .given .1), c .before .before .before .before .before .parameter-part .kept .1 .1 .1 .1 .1 .1 .1 .1 .1 .1 .1 .0 ∙ c .before .before .before .before .before .before .before .before .before .before .before .before .loop .inv .1)
+loop-again c = (parts-next (c .before .before .before .before .before .before .before .before .before .before .before .before .loop .inv .0) (c .before .before .before .before .before .before .before .before .before .before .before .next-body .ensures) (c .before .before .before .before .before .before .before .before .before .piece .given .1) (c .before .before .before .before .before .before .before .before .before .before .before .before .before .before .before .before .before .before .before .pre .stands) (c .before .before .before .before .before .parameter-part .ensures) (c .before .part .given .1), c .before .before .before .before .before .parameter-part .kept .1 .1 .1 .1 .1 .1 .1 .0 ∙ c .before .before .before .before .before .before .before .before .before .before .before .before .loop .inv .1)
 
 pub parameter-parts-spec : {M : Type 1} → statement M
 parameter-parts-spec =
@@ -111,18 +103,17 @@ parameter-parts-spec =
     Inv-loop
     μ-loop
     loop-holds
-    sub-next-body
-    part-next-body-start
-    part-next-body-end
-    cast-next-body
     next-body-requires
     enum-known-piece
     enum-told
     same-length
     returns
+    sub-parameter-part
+    part-parameter-part-start
+    part-parameter-part-end
+    cast-parameter-part
     add-parameter-part
     add-parameter-part-2
-    add-parameter-part-3
     parameter-part-requires
     enum-known-part
     enum-told-2

@@ -6,23 +6,7 @@ use Rattle.descriptors.proofs.defaults.receiver_part.Tie as tie
 use Rattle.descriptors.proofs.defaults.receiver_part.Reads as reads
 use Rattle.descriptors.proofs.defaults.receiver_part.Lts as lts
 use Rattle.descriptors.proofs.defaults.type_part.Reads as type-part-reads
-use Rattle.signatures.proofs.receiver.has_receiver.Reads as has-receiver-reads
-
--- src/defaults.rt:298:9
-sub-has-receiver : tie.Need-sub-has-receiver
-sub-has-receiver c = search needs
-
--- src/defaults.rt:298:9
-part-has-receiver-start : tie.Need-part-has-receiver-start
-part-has-receiver-start c = search needs
-
--- src/defaults.rt:298:9
-part-has-receiver-end : tie.Need-part-has-receiver-end
-part-has-receiver-end c = search needs
-
--- src/defaults.rt:299:9
-cast-has-receiver : tie.Need-cast-has-receiver
-cast-has-receiver c = search needs
+use Rattle.schema.proofs.receiver.has_receiver.Reads as has-receiver-reads
 
 -- src/defaults.rt:297:8
 has-receiver-requires : tie.Need-has-receiver-requires
@@ -38,20 +22,16 @@ same-length c = search needs
 
 -- src/defaults.rt:303:9
 returns : tie.Need-returns
-returns c = receiver-there (lent (c .before .before .before .before .before .before .before .before .before .before .before .before .before .before .before .before .args .payload .now) (c .before .before .before .before .before .before .before .before .before .before .before .before .before .before .before .before .args .d2 .now) (c .before .before .before .before .before .before .before .before .before .before .before .before .before .before .before .before .args .ends .now) (c .before .before .before .before .before .before .before .before .before .before .before .before .before .before .before .before .args .starts .now) (c .before .before .before .before .before .before .before .before .before .before .before .before .before .before .before .before .args .stops .now) (c .before .before .before .before .before .before .before .before .before .before .before .before .before .before .before .before .args .firsts .now) (c .before .before .before .before .before .before .before .before .before .before .before .before .before .before .before .before .args .entry-starts .now) (c .before .before .before .before .before .before .before .before .before .before .before .before .before .before .before .before .args .entry-ends .now) (c .before .before .before .before .before .before .before .before .before .before .before .before .before .before .before .before .args .tables)) (c .before .before .before .before .before .before .before .before .before .before .before .before .before .before .before .before .args .start) (c .before .before .before .before .before .before .before .before .before .before .before .before .before .before .before .before .args .end) (c .before .before .before .before .before .before .before .before .before .before .before .before .before .before .before .before .args .at) (c .before .before .before .before .before .has-receiver .ensures) (c .before .before .before .before .if1 .taken) (c .before .before .type-part .ensures)
+returns c = receiver-there (lent (c .before .before .before .before .before .before .before .before .before .before .before .before .args .payload .now) (c .before .before .before .before .before .before .before .before .before .before .before .before .args .d2 .now) (c .before .before .before .before .before .before .before .before .before .before .before .before .args .ends .now) (c .before .before .before .before .before .before .before .before .before .before .before .before .args .notes .now) (c .before .before .before .before .before .before .before .before .before .before .before .before .args .tables)) (c .before .before .before .before .before .before .before .before .before .before .before .before .args .msg .now) (c .before .before .before .before .before .before .before .before .before .before .before .before .args .base) (c .before .before .before .before .before .before .before .before .before .before .before .before .args .at) (c .before .before .before .before .before .before .before .before .before .before .before .before .pre .stands) (c .before .before .before .before .before .has-receiver .ensures) (c .before .before .before .before .if1 .taken) (c .before .before .type-part .ensures)
 
 -- src/defaults.rt:279:1
 returns-2 : tie.Need-returns-2
-returns-2 c = receiver-none (lent (c .before .before .before .before .before .before .before .before .before .before .before .before .args .payload .now) (c .before .before .before .before .before .before .before .before .before .before .before .before .args .d2 .now) (c .before .before .before .before .before .before .before .before .before .before .before .before .args .ends .now) (c .before .before .before .before .before .before .before .before .before .before .before .before .args .starts .now) (c .before .before .before .before .before .before .before .before .before .before .before .before .args .stops .now) (c .before .before .before .before .before .before .before .before .before .before .before .before .args .firsts .now) (c .before .before .before .before .before .before .before .before .before .before .before .before .args .entry-starts .now) (c .before .before .before .before .before .before .before .before .before .before .before .before .args .entry-ends .now) (c .before .before .before .before .before .before .before .before .before .before .before .before .args .tables)) (c .before .before .before .before .before .before .before .before .before .before .before .before .args .start) (c .before .before .before .before .before .before .before .before .before .before .before .before .args .end) (c .before .before .before .before .before .before .before .before .before .before .before .before .args .at) (c .before .has-receiver .ensures) (c .if1 .left) (c .before .before .before .before .before .before .before .before .before .before .before .before .args .area .now)
+returns-2 c = receiver-none (lent (c .before .before .before .before .before .before .before .before .args .payload .now) (c .before .before .before .before .before .before .before .before .args .d2 .now) (c .before .before .before .before .before .before .before .before .args .ends .now) (c .before .before .before .before .before .before .before .before .args .notes .now) (c .before .before .before .before .before .before .before .before .args .tables)) (c .before .before .before .before .before .before .before .before .args .msg .now) (c .before .before .before .before .before .before .before .before .args .base) (c .before .before .before .before .before .before .before .before .args .at) (c .before .before .before .before .before .before .before .before .pre .stands) (c .before .has-receiver .ensures) (c .if1 .left) (c .before .before .before .before .before .before .before .before .args .area .now)
 
 pub receiver-part-spec : {M : Type 1} → statement M
 receiver-part-spec =
     tie.close
     (tie.spec
-    sub-has-receiver
-    part-has-receiver-start
-    part-has-receiver-end
-    cast-has-receiver
     has-receiver-requires
     type-part-requires
     same-length

@@ -1,102 +1,140 @@
 use mathlib.Core.Path.{_≡_, refl, _∙_}
+use Prim.Native.Nat.{_+_}
 use native.Mathlib.Omega.{arith}
 use lib.ListN.{length}
 use Rattle.schema.specs.Told.{lent}
-use Rattle.schema.specs.FoundTold.{reach}
+use Rattle.schema.specs.PlacesTold.{reach}
+use Rattle.schema.proofs.StandsLaws.{part-stands}
 use Rattle.descriptors.proofs.ErasedWalk.{Walking, walking-start, walking-few, whole-short, walking-whole, walking-absent, walking-empty, walking-less, walking-on}
 use borrow.Author.Needs.{needs}
 use Rattle.descriptors.proofs.erased.put_erased.Statement.{statement}
 use Rattle.descriptors.proofs.erased.put_erased.Tie as tie
 use Rattle.descriptors.proofs.erased.put_erased.Reads as reads
 use Rattle.descriptors.proofs.erased.put_erased.Lts as lts
-use Rattle.descriptors.proofs.erased.put_type.Reads as put-type-reads
+use Rattle.descriptors.proofs.erased.put_type_part.Reads as put-type-part-reads
 use Rattle.schema.proofs.places.first_argument.Reads as first-argument-reads
 use Rattle.schema.proofs.types.less.Reads as less-reads
 
 abbrev Inv-loop : tie.InvT-loop
-Inv-loop start end nullable left payload d2 ends starts stops firsts entry-starts entry-ends tables area₀ at first₀ last₀ said₀ deep₀ here₀ next₀ area first last said deep here next = Walking (lent payload d2 ends starts stops firsts entry-starts entry-ends tables) start end nullable left here₀ at area₀ first last said deep here next area × (length area ≡ length area₀)
+Inv-loop msg base payload d2 ends notes tables area₀ at start₀ end₀ here₀ next₀ area start end here next = Walking (lent payload d2 ends notes tables) base (base + length msg) (here₀ .nullable) (here₀ .left) (here₀ .position) at area₀ start end (here .nullable) (here .left) (here .position) next area × (length area ≡ length area₀)
 
 abbrev μ-loop : tie.MeasureT-loop
-μ-loop start end nullable left payload d2 ends starts stops firsts entry-starts entry-ends tables area₀ at first₀ last₀ said₀ deep₀ here₀ next₀ area first last said deep here next = reach deep first last
+μ-loop msg base payload d2 ends notes tables area₀ at start₀ end₀ here₀ next₀ area start end here next = reach (here .left) start end
 
--- src/erased.rt:165:5
+-- src/erased.rt:173:19
+add-end : tie.Need-add-end Inv-loop μ-loop
+add-end c = omega (arith, c .before .before .before .before .before .before .pre .0 .inside, c .before .before .before .before .before .before .pre .2)
+
+-- src/erased.rt:176:5
 loop-holds : tie.Need-loop-holds Inv-loop μ-loop
-loop-holds c = (walking-start (lent (c .before .before .before .before .before .before .before .before .before .args .payload .now) (c .before .before .before .before .before .before .before .before .before .args .d2 .now) (c .before .before .before .before .before .before .before .before .before .args .ends .now) (c .before .before .before .before .before .before .before .before .before .args .starts .now) (c .before .before .before .before .before .before .before .before .before .args .stops .now) (c .before .before .before .before .before .before .before .before .before .args .firsts .now) (c .before .before .before .before .before .before .before .before .before .args .entry-starts .now) (c .before .before .before .before .before .before .before .before .before .args .entry-ends .now) (c .before .before .before .before .before .before .before .before .before .args .tables)) (c .before .before .before .before .before .before .before .before .before .args .start) (c .before .before .before .before .before .before .before .before .before .args .end) (c .before .before .before .before .before .before .before .before .before .args .nullable) (c .before .before .before .before .before .before .before .before .before .args .left) (c .before .before .before .before .before .before .before .before .before .args .position) (c .before .before .before .before .before .before .before .before .before .args .at) (c .before .before .before .before .before .before .before .before .before .args .area .now) (c .before .before .before .before .before .before .before .before .before .pre .0) (c .before .before .before .before .before .before .before .before .before .pre .1), refl)
+loop-holds c = (walking-start (lent (c .before .before .before .before .before .before .args .payload .now) (c .before .before .before .before .before .before .args .d2 .now) (c .before .before .before .before .before .before .args .ends .now) (c .before .before .before .before .before .before .args .notes .now) (c .before .before .before .before .before .before .args .tables)) (c .before .before .before .before .before .before .args .base) (c .before .before .before .before .before .before .args .base + length (c .before .before .before .before .before .before .args .msg .now)) (c .before .before .before .before .before .before .args .placed .nullable) (c .before .before .before .before .before .before .args .placed .left) (c .before .before .before .before .before .before .args .placed .position) (c .before .before .before .before .before .before .args .at) (c .before .before .before .before .before .before .args .area .now) (omega arith) (c .before .before .before .before .before .before .pre .0 .inside), refl)
 
--- src/erased.rt:166:13
-put-type-requires : tie.Need-put-type-requires Inv-loop μ-loop
-put-type-requires c κs = let h = walking-few (lent (c .before .before .before .before .before .before .before .before .before .before .before .args .payload .now) (c .before .before .before .before .before .before .before .before .before .before .before .args .d2 .now) (c .before .before .before .before .before .before .before .before .before .before .before .args .ends .now) (c .before .before .before .before .before .before .before .before .before .before .before .args .starts .now) (c .before .before .before .before .before .before .before .before .before .before .before .args .stops .now) (c .before .before .before .before .before .before .before .before .before .before .before .args .firsts .now) (c .before .before .before .before .before .before .before .before .before .before .before .args .entry-starts .now) (c .before .before .before .before .before .before .before .before .before .before .before .args .entry-ends .now) (c .before .before .before .before .before .before .before .before .before .before .before .args .tables)) (c .before .before .before .before .before .before .before .before .before .before .before .args .start) (c .before .before .before .before .before .before .before .before .before .before .before .args .end) (c .before .before .before .before .before .before .before .before .before .before .before .args .nullable) (c .before .before .before .before .before .before .before .before .before .before .before .args .left) (c .before .before .before .before .before .before .before .before .before .before .before .args .position) (c .before .before .before .before .before .before .before .before .before .before .before .args .at) (c .before .before .before .before .before .before .before .before .before .before .before .args .area .now) (c .before .loop .first) (c .before .loop .last) (c .before .loop .said) (c .before .loop .deep) (c .before .loop .here) (c .before .loop .next) (c .before .loop .area) (c .before .loop .inv .0) (c .before .before .before .before .before .before .before .before .before .before .before .pre .2) (c .before .before .before .before .before .before .before .before .before .before .before .pre .0) (c .before .before .before .before .before .before .before .before .before .before .before .pre .1) (c .before .before .before .before .before .before .before .before .before .before .before .pre .3) in (c .before .loop .inv .0 .ordered, c .before .loop .inv .0 .inside, c .before .before .before .before .before .before .before .before .before .before .before .pre .3, c .before .before .before .before .before .before .before .before .before .before .before .pre .4, omega (arith, c .before .before .before .before .before .before .before .before .before .before .before .pre .5))
+-- src/erased.rt:178:13
+sub-put-type-part : tie.Need-sub-put-type-part Inv-loop μ-loop
+sub-put-type-part c = c .loop .inv .0 .ordered
 
--- src/erased.rt:184:31
+-- src/erased.rt:178:13
+part-put-type-part-start : tie.Need-part-put-type-part-start Inv-loop μ-loop
+part-put-type-part-start c = omega (arith, c .loop .inv .0 .ordered, c .loop .inv .0 .inside)
+
+-- src/erased.rt:178:13
+part-put-type-part-end : tie.Need-part-put-type-part-end Inv-loop μ-loop
+part-put-type-part-end c = c .loop .inv .0 .inside
+
+-- src/erased.rt:179:13
+cast-put-type-part : tie.Need-cast-put-type-part Inv-loop μ-loop
+cast-put-type-part c = omega (arith, c .before .loop .inv .0 .ordered, c .before .loop .inv .0 .inside, c .before .before .before .before .before .before .before .before .pre .2)
+
+-- src/erased.rt:177:13
+put-type-part-requires : tie.Need-put-type-part-requires Inv-loop μ-loop
+put-type-part-requires c κs = let h = walking-few (c .before .before .loop .inv .0) (c .before .before .before .before .before .before .before .before .before .pre .1) (c .before .before .before .before .before .before .before .before .before .pre .0 .inside) (c .before .before .before .before .before .before .before .before .before .pre .2) in (part-stands (c .before .before .before .before .before .before .before .before .before .args .payload .now) (c .before .before .loop .start) (c .before .before .loop .end) (c .before .before .loop .inv .0 .ordered) (c .before .before .loop .inv .0 .inside), c .before .before .before .before .before .before .before .before .before .pre .2, c .before .before .before .before .before .before .before .before .before .pre .3, omega (arith, c .before .before .before .before .before .before .before .before .before .pre .4))
+
+-- src/erased.rt:190:31
 enum-known-one : tie.Need-enum-known-one Inv-loop μ-loop
 enum-known-one c = search needs
 
--- src/erased.rt:185:28
+-- src/erased.rt:191:28
 add-past : tie.Need-add-past Inv-loop μ-loop
-add-past c = let h = walking-few (lent (c .before .before .before .before .before .before .before .before .before .before .before .before .before .before .before .before .before .args .payload .now) (c .before .before .before .before .before .before .before .before .before .before .before .before .before .before .before .before .before .args .d2 .now) (c .before .before .before .before .before .before .before .before .before .before .before .before .before .before .before .before .before .args .ends .now) (c .before .before .before .before .before .before .before .before .before .before .before .before .before .before .before .before .before .args .starts .now) (c .before .before .before .before .before .before .before .before .before .before .before .before .before .before .before .before .before .args .stops .now) (c .before .before .before .before .before .before .before .before .before .before .before .before .before .before .before .before .before .args .firsts .now) (c .before .before .before .before .before .before .before .before .before .before .before .before .before .before .before .before .before .args .entry-starts .now) (c .before .before .before .before .before .before .before .before .before .before .before .before .before .before .before .before .before .args .entry-ends .now) (c .before .before .before .before .before .before .before .before .before .before .before .before .before .before .before .before .before .args .tables)) (c .before .before .before .before .before .before .before .before .before .before .before .before .before .before .before .before .before .args .start) (c .before .before .before .before .before .before .before .before .before .before .before .before .before .before .before .before .before .args .end) (c .before .before .before .before .before .before .before .before .before .before .before .before .before .before .before .before .before .args .nullable) (c .before .before .before .before .before .before .before .before .before .before .before .before .before .before .before .before .before .args .left) (c .before .before .before .before .before .before .before .before .before .before .before .before .before .before .before .before .before .args .position) (c .before .before .before .before .before .before .before .before .before .before .before .before .before .before .before .before .before .args .at) (c .before .before .before .before .before .before .before .before .before .before .before .before .before .before .before .before .before .args .area .now) (c .before .before .before .before .before .before .before .loop .first) (c .before .before .before .before .before .before .before .loop .last) (c .before .before .before .before .before .before .before .loop .said) (c .before .before .before .before .before .before .before .loop .deep) (c .before .before .before .before .before .before .before .loop .here) (c .before .before .before .before .before .before .before .loop .next) (c .before .before .before .before .before .before .before .loop .area) (c .before .before .before .before .before .before .before .loop .inv .0) (c .before .before .before .before .before .before .before .before .before .before .before .before .before .before .before .before .before .pre .2) (c .before .before .before .before .before .before .before .before .before .before .before .before .before .before .before .before .before .pre .0) (c .before .before .before .before .before .before .before .before .before .before .before .before .before .before .before .before .before .pre .1) (c .before .before .before .before .before .before .before .before .before .before .before .before .before .before .before .before .before .pre .3) in let s = whole-short (lent (c .before .before .before .before .before .before .before .before .before .before .before .before .before .before .before .before .before .args .payload .now) (c .before .before .before .before .before .before .before .before .before .before .before .before .before .before .before .before .before .args .d2 .now) (c .before .before .before .before .before .before .before .before .before .before .before .before .before .before .before .before .before .args .ends .now) (c .before .before .before .before .before .before .before .before .before .before .before .before .before .before .before .before .before .args .starts .now) (c .before .before .before .before .before .before .before .before .before .before .before .before .before .before .before .before .before .args .stops .now) (c .before .before .before .before .before .before .before .before .before .before .before .before .before .before .before .before .before .args .firsts .now) (c .before .before .before .before .before .before .before .before .before .before .before .before .before .before .before .before .before .args .entry-starts .now) (c .before .before .before .before .before .before .before .before .before .before .before .before .before .before .before .before .before .args .entry-ends .now) (c .before .before .before .before .before .before .before .before .before .before .before .before .before .before .before .before .before .args .tables)) (c .before .before .before .before .before .before .before .before .before .before .before .before .before .before .before .before .before .args .start) (c .before .before .before .before .before .before .before .before .before .before .before .before .before .before .before .before .before .args .end) (c .before .before .before .before .before .before .before .before .before .before .before .before .before .before .before .before .before .args .nullable) (c .before .before .before .before .before .before .before .before .before .before .before .before .before .before .before .before .before .args .left) (c .before .before .before .before .before .before .before .before .before .before .before .before .before .before .before .before .before .args .position) (c .before .before .before .before .before .before .before .before .before .before .before .before .before .before .before .before .before .args .at) (c .before .before .before .before .before .before .before .before .before .before .before .before .before .before .before .before .before .args .area .now) (c .before .before .before .before .before .before .before .loop .first) (c .before .before .before .before .before .before .before .loop .last) (c .before .before .before .before .before .before .before .loop .said) (c .before .before .before .before .before .before .before .loop .deep) (c .before .before .before .before .before .before .before .loop .here) (c .before .before .before .before .before .before .before .loop .next) (c .before .before .before .before .before .before .before .loop .area) (c .before .before .before .before .before .before .before .loop .inv .0) (c .before .before .before .before .before .put-type .result) (c .before .before .before .before .before .put-type .ensures) (c .before .one .given .1) in omega (arith, c .before .before .before .before .before .before .before .before .before .before .before .before .before .before .before .before .before .pre .5)
+add-past c = let h = walking-few (c .before .before .before .before .before .before .before .before .loop .inv .0) (c .before .before .before .before .before .before .before .before .before .before .before .before .before .before .before .pre .1) (c .before .before .before .before .before .before .before .before .before .before .before .before .before .before .before .pre .0 .inside) (c .before .before .before .before .before .before .before .before .before .before .before .before .before .before .before .pre .2) in let s = whole-short (c .before .before .before .before .before .before .before .before .loop .inv .0) (c .before .before .before .before .before .put-type-part .ensures) (c .before .one .given .1) in omega (arith, c .before .before .before .before .before .before .before .before .before .before .before .before .before .before .before .pre .4)
 
--- src/erased.rt:186:29
+-- src/erased.rt:192:29
 sub-whole : tie.Need-sub-whole Inv-loop μ-loop
-sub-whole c = omega (arith, c .before .before .before .before .before .before .before .loop .inv .0 .later)
+sub-whole c = omega (arith, c .before .before .before .before .before .before .before .before .loop .inv .0 .later)
 
--- src/erased.rt:187:17
+-- src/erased.rt:193:17
 same-length : tie.Need-same-length Inv-loop μ-loop
-same-length c = c .before .before .before .before .before .put-type .kept .1 .1 .1 .1 .1 .1 .1 .1 .1 .1 .1 .1 .1 .0 ∙ c .before .before .before .before .before .before .before .loop .inv .1
+same-length c = c .before .before .before .before .before .put-type-part .kept .1 .1 .1 .1 .1 .1 .1 .1 .0 ∙ c .before .before .before .before .before .before .before .before .loop .inv .1
 
--- src/erased.rt:187:17
+-- src/erased.rt:193:17
 returns : tie.Need-returns Inv-loop μ-loop
-returns c = walking-whole (lent (c .before .before .before .before .before .before .before .before .before .before .before .before .before .before .before .before .before .args .payload .now) (c .before .before .before .before .before .before .before .before .before .before .before .before .before .before .before .before .before .args .d2 .now) (c .before .before .before .before .before .before .before .before .before .before .before .before .before .before .before .before .before .args .ends .now) (c .before .before .before .before .before .before .before .before .before .before .before .before .before .before .before .before .before .args .starts .now) (c .before .before .before .before .before .before .before .before .before .before .before .before .before .before .before .before .before .args .stops .now) (c .before .before .before .before .before .before .before .before .before .before .before .before .before .before .before .before .before .args .firsts .now) (c .before .before .before .before .before .before .before .before .before .before .before .before .before .before .before .before .before .args .entry-starts .now) (c .before .before .before .before .before .before .before .before .before .before .before .before .before .before .before .before .before .args .entry-ends .now) (c .before .before .before .before .before .before .before .before .before .before .before .before .before .before .before .before .before .args .tables)) (c .before .before .before .before .before .before .before .before .before .before .before .before .before .before .before .before .before .args .start) (c .before .before .before .before .before .before .before .before .before .before .before .before .before .before .before .before .before .args .end) (c .before .before .before .before .before .before .before .before .before .before .before .before .before .before .before .before .before .args .nullable) (c .before .before .before .before .before .before .before .before .before .before .before .before .before .before .before .before .before .args .left) (c .before .before .before .before .before .before .before .before .before .before .before .before .before .before .before .before .before .args .position) (c .before .before .before .before .before .before .before .before .before .before .before .before .before .before .before .before .before .args .at) (c .before .before .before .before .before .before .before .before .before .before .before .before .before .before .before .before .before .args .area .now) (c .before .before .before .before .before .before .before .loop .first) (c .before .before .before .before .before .before .before .loop .last) (c .before .before .before .before .before .before .before .loop .said) (c .before .before .before .before .before .before .before .loop .deep) (c .before .before .before .before .before .before .before .loop .here) (c .before .before .before .before .before .before .before .loop .next) (c .before .before .before .before .before .before .before .loop .area) (c .before .before .before .before .before .before .before .loop .inv .0) (c .before .before .before .before .before .put-type .result) (c .before .before .before .before .before .put-type .ensures) (c .before .before .before .before .before .before .before .before .before .before .before .before .before .before .before .before .before .pre .2) (c .before .before .before .before .before .before .before .before .before .before .before .before .before .before .before .before .before .pre .0) (c .before .before .before .before .before .before .before .before .before .before .before .before .before .before .before .before .before .pre .1) (c .before .before .before .before .before .before .before .before .before .before .before .before .before .before .before .before .before .pre .3) (c .before .one .given .1)
+returns c = walking-whole (c .before .before .before .before .before .before .before .before .loop .inv .0) (c .before .before .before .before .before .put-type-part .ensures) (c .before .before .before .before .before .before .before .before .before .before .before .before .before .before .before .pre .1) (c .before .before .before .before .before .before .before .before .before .before .before .before .before .before .before .pre .0 .inside) (c .before .before .before .before .before .before .before .before .before .before .before .before .before .before .before .pre .2) (c .before .one .given .1)
 
--- src/erased.rt:189:33
+-- src/erased.rt:195:33
 enum-told : tie.Need-enum-told Inv-loop μ-loop
 enum-told c = search needs
 
--- src/erased.rt:189:33
+-- src/erased.rt:195:33
 same-length-2 : tie.Need-same-length-2 Inv-loop μ-loop
-same-length-2 c = c .before .before .before .before .put-type .kept .1 .1 .1 .1 .1 .1 .1 .1 .1 .1 .1 .1 .1 .0 ∙ c .before .before .before .before .before .before .loop .inv .1
+same-length-2 c = c .before .before .before .before .put-type-part .kept .1 .1 .1 .1 .1 .1 .1 .1 .0 ∙ c .before .before .before .before .before .before .before .loop .inv .1
 
--- src/erased.rt:189:33
+-- src/erased.rt:195:33
 returns-2 : tie.Need-returns-2 Inv-loop μ-loop
-returns-2 c = walking-absent (lent (c .before .before .before .before .before .before .before .before .before .before .before .before .before .before .before .before .args .payload .now) (c .before .before .before .before .before .before .before .before .before .before .before .before .before .before .before .before .args .d2 .now) (c .before .before .before .before .before .before .before .before .before .before .before .before .before .before .before .before .args .ends .now) (c .before .before .before .before .before .before .before .before .before .before .before .before .before .before .before .before .args .starts .now) (c .before .before .before .before .before .before .before .before .before .before .before .before .before .before .before .before .args .stops .now) (c .before .before .before .before .before .before .before .before .before .before .before .before .before .before .before .before .args .firsts .now) (c .before .before .before .before .before .before .before .before .before .before .before .before .before .before .before .before .args .entry-starts .now) (c .before .before .before .before .before .before .before .before .before .before .before .before .before .before .before .before .args .entry-ends .now) (c .before .before .before .before .before .before .before .before .before .before .before .before .before .before .before .before .args .tables)) (c .before .before .before .before .before .before .before .before .before .before .before .before .before .before .before .before .args .start) (c .before .before .before .before .before .before .before .before .before .before .before .before .before .before .before .before .args .end) (c .before .before .before .before .before .before .before .before .before .before .before .before .before .before .before .before .args .nullable) (c .before .before .before .before .before .before .before .before .before .before .before .before .before .before .before .before .args .left) (c .before .before .before .before .before .before .before .before .before .before .before .before .before .before .before .before .args .position) (c .before .before .before .before .before .before .before .before .before .before .before .before .before .before .before .before .args .at) (c .before .before .before .before .before .before .before .before .before .before .before .before .before .before .before .before .args .area .now) (c .before .before .before .before .before .before .loop .first) (c .before .before .before .before .before .before .loop .last) (c .before .before .before .before .before .before .loop .said) (c .before .before .before .before .before .before .loop .deep) (c .before .before .before .before .before .before .loop .here) (c .before .before .before .before .before .before .loop .next) (c .before .before .before .before .before .before .loop .area) (c .before .before .before .before .before .before .loop .inv .0) (c .before .before .before .before .put-type .result) (c .before .before .before .before .put-type .ensures) (c .enum-told .given .1)
+returns-2 c = walking-absent (c .before .before .before .before .before .before .before .loop .inv .0) (c .before .before .before .before .put-type-part .ensures) (c .enum-told .given .1)
 
 enum-told-2 : tie.Need-enum-told-2 Inv-loop μ-loop
 enum-told-2 c = search needs
 
--- src/erased.rt:196:13
+-- src/erased.rt:199:13
+sub-first-argument : tie.Need-sub-first-argument Inv-loop μ-loop
+sub-first-argument c = c .before .before .before .before .before .before .before .loop .inv .0 .ordered
+
+-- src/erased.rt:199:13
+part-first-argument-start : tie.Need-part-first-argument-start Inv-loop μ-loop
+part-first-argument-start c = omega (arith, c .before .before .before .before .before .before .before .loop .inv .0 .ordered, c .before .before .before .before .before .before .before .loop .inv .0 .inside)
+
+-- src/erased.rt:199:13
+part-first-argument-end : tie.Need-part-first-argument-end Inv-loop μ-loop
+part-first-argument-end c = c .before .before .before .before .before .before .before .loop .inv .0 .inside
+
+-- src/erased.rt:200:13
+cast-first-argument : tie.Need-cast-first-argument Inv-loop μ-loop
+cast-first-argument c = omega (arith, c .before .before .before .before .before .before .before .before .loop .inv .0 .ordered, c .before .before .before .before .before .before .before .before .loop .inv .0 .inside, c .before .before .before .before .before .before .before .before .before .before .before .before .before .before .before .pre .2)
+
+-- src/erased.rt:201:13
 less-requires : tie.Need-less-requires Inv-loop μ-loop
 less-requires c κs = search needs
 
--- src/erased.rt:192:13
+-- src/erased.rt:198:13
 first-argument-requires : tie.Need-first-argument-requires Inv-loop μ-loop
-first-argument-requires c κs = (c .before .before .before .before .before .before .before .loop .inv .0 .ordered, c .before .before .before .before .before .before .before .loop .inv .0 .inside, c .before .before .before .before .before .before .before .before .before .before .before .before .before .before .before .before .before .pre .3)
+first-argument-requires c κs = (part-stands (c .before .before .before .before .before .before .before .before .before .before .before .before .before .before .before .before .args .payload .now) (c .before .before .before .before .before .before .before .before .before .loop .start) (c .before .before .before .before .before .before .before .before .before .loop .end) (c .before .before .before .before .before .before .before .before .before .loop .inv .0 .ordered) (c .before .before .before .before .before .before .before .before .before .loop .inv .0 .inside), c .before .before .before .before .before .before .before .before .before .before .before .before .before .before .before .before .pre .2)
 
--- src/erased.rt:202:20
+-- src/erased.rt:207:20
 enum-known-found : tie.Need-enum-known-found Inv-loop μ-loop
 enum-known-found c = search needs
 
--- src/erased.rt:208:13
+-- src/erased.rt:213:13
 enum-told-3 : tie.Need-enum-told-3 Inv-loop μ-loop
 enum-told-3 c = search needs
 
--- src/erased.rt:208:13
+-- src/erased.rt:213:13
 same-length-3 : tie.Need-same-length-3 Inv-loop μ-loop
-same-length-3 c = c .before .before .before .before .before .before .before .before .put-type .kept .1 .1 .1 .1 .1 .1 .1 .1 .1 .1 .1 .1 .1 .0 ∙ c .before .before .before .before .before .before .before .before .before .before .loop .inv .1
+same-length-3 c = c .before .before .before .before .before .before .before .before .before .put-type-part .kept .1 .1 .1 .1 .1 .1 .1 .1 .0 ∙ c .before .before .before .before .before .before .before .before .before .before .before .before .loop .inv .1
 
--- src/erased.rt:208:13
+-- src/erased.rt:213:13
 returns-3 : tie.Need-returns-3 Inv-loop μ-loop
-returns-3 c = walking-empty (lent (c .before .before .before .before .before .before .before .before .before .before .before .before .before .before .before .before .before .before .before .before .args .payload .now) (c .before .before .before .before .before .before .before .before .before .before .before .before .before .before .before .before .before .before .before .before .args .d2 .now) (c .before .before .before .before .before .before .before .before .before .before .before .before .before .before .before .before .before .before .before .before .args .ends .now) (c .before .before .before .before .before .before .before .before .before .before .before .before .before .before .before .before .before .before .before .before .args .starts .now) (c .before .before .before .before .before .before .before .before .before .before .before .before .before .before .before .before .before .before .before .before .args .stops .now) (c .before .before .before .before .before .before .before .before .before .before .before .before .before .before .before .before .before .before .before .before .args .firsts .now) (c .before .before .before .before .before .before .before .before .before .before .before .before .before .before .before .before .before .before .before .before .args .entry-starts .now) (c .before .before .before .before .before .before .before .before .before .before .before .before .before .before .before .before .before .before .before .before .args .entry-ends .now) (c .before .before .before .before .before .before .before .before .before .before .before .before .before .before .before .before .before .before .before .before .args .tables)) (c .before .before .before .before .before .before .before .before .before .before .before .before .before .before .before .before .before .before .before .before .args .start) (c .before .before .before .before .before .before .before .before .before .before .before .before .before .before .before .before .before .before .before .before .args .end) (c .before .before .before .before .before .before .before .before .before .before .before .before .before .before .before .before .before .before .before .before .args .nullable) (c .before .before .before .before .before .before .before .before .before .before .before .before .before .before .before .before .before .before .before .before .args .left) (c .before .before .before .before .before .before .before .before .before .before .before .before .before .before .before .before .before .before .before .before .args .position) (c .before .before .before .before .before .before .before .before .before .before .before .before .before .before .before .before .before .before .before .before .args .at) (c .before .before .before .before .before .before .before .before .before .before .before .before .before .before .before .before .before .before .before .before .args .area .now) (c .before .before .before .before .before .before .before .before .before .before .loop .first) (c .before .before .before .before .before .before .before .before .before .before .loop .last) (c .before .before .before .before .before .before .before .before .before .before .loop .said) (c .before .before .before .before .before .before .before .before .before .before .loop .deep) (c .before .before .before .before .before .before .before .before .before .before .loop .here) (c .before .before .before .before .before .before .before .before .before .before .loop .next) (c .before .before .before .before .before .before .before .before .before .before .loop .area) (c .before .before .before .before .before .before .before .before .before .before .loop .inv .0) (c .before .before .before .before .before .before .before .before .put-type .result) (c .before .before .before .before .before .before .before .before .put-type .ensures) (c .before .before .before .before .enum-told2 .given .1) (c .before .before .before .less .ensures) (c .before .before .first-argument .ensures) (c .enum-told3 .given .1)
+returns-3 c = walking-empty (c .before .before .before .before .before .before .before .before .before .before .before .before .loop .inv .0) (c .before .before .before .before .before .before .before .before .before .put-type-part .ensures) (c .before .before .before .before .before .enum-told2 .given .1) (c .before .before .before .less .ensures) (c .before .before .first-argument .ensures) (c .enum-told3 .given .1)
 
--- src/erased.rt:215:9
+-- src/erased.rt:222:9
 add-next : tie.Need-add-next Inv-loop μ-loop
-add-next c = let h = walking-few (lent (c .before .before .before .before .before .before .before .before .before .before .before .before .before .before .before .before .before .before .before .before .before .args .payload .now) (c .before .before .before .before .before .before .before .before .before .before .before .before .before .before .before .before .before .before .before .before .before .args .d2 .now) (c .before .before .before .before .before .before .before .before .before .before .before .before .before .before .before .before .before .before .before .before .before .args .ends .now) (c .before .before .before .before .before .before .before .before .before .before .before .before .before .before .before .before .before .before .before .before .before .args .starts .now) (c .before .before .before .before .before .before .before .before .before .before .before .before .before .before .before .before .before .before .before .before .before .args .stops .now) (c .before .before .before .before .before .before .before .before .before .before .before .before .before .before .before .before .before .before .before .before .before .args .firsts .now) (c .before .before .before .before .before .before .before .before .before .before .before .before .before .before .before .before .before .before .before .before .before .args .entry-starts .now) (c .before .before .before .before .before .before .before .before .before .before .before .before .before .before .before .before .before .before .before .before .before .args .entry-ends .now) (c .before .before .before .before .before .before .before .before .before .before .before .before .before .before .before .before .before .before .before .before .before .args .tables)) (c .before .before .before .before .before .before .before .before .before .before .before .before .before .before .before .before .before .before .before .before .before .args .start) (c .before .before .before .before .before .before .before .before .before .before .before .before .before .before .before .before .before .before .before .before .before .args .end) (c .before .before .before .before .before .before .before .before .before .before .before .before .before .before .before .before .before .before .before .before .before .args .nullable) (c .before .before .before .before .before .before .before .before .before .before .before .before .before .before .before .before .before .before .before .before .before .args .left) (c .before .before .before .before .before .before .before .before .before .before .before .before .before .before .before .before .before .before .before .before .before .args .position) (c .before .before .before .before .before .before .before .before .before .before .before .before .before .before .before .before .before .before .before .before .before .args .at) (c .before .before .before .before .before .before .before .before .before .before .before .before .before .before .before .before .before .before .before .before .before .args .area .now) (c .before .before .before .before .before .before .before .before .before .before .before .loop .first) (c .before .before .before .before .before .before .before .before .before .before .before .loop .last) (c .before .before .before .before .before .before .before .before .before .before .before .loop .said) (c .before .before .before .before .before .before .before .before .before .before .before .loop .deep) (c .before .before .before .before .before .before .before .before .before .before .before .loop .here) (c .before .before .before .before .before .before .before .before .before .before .before .loop .next) (c .before .before .before .before .before .before .before .before .before .before .before .loop .area) (c .before .before .before .before .before .before .before .before .before .before .before .loop .inv .0) (c .before .before .before .before .before .before .before .before .before .before .before .before .before .before .before .before .before .before .before .before .before .pre .2) (c .before .before .before .before .before .before .before .before .before .before .before .before .before .before .before .before .before .before .before .before .before .pre .0) (c .before .before .before .before .before .before .before .before .before .before .before .before .before .before .before .before .before .before .before .before .before .pre .1) (c .before .before .before .before .before .before .before .before .before .before .before .before .before .before .before .before .before .before .before .before .before .pre .3) in omega (arith, c .before .before .before .before .before .before .before .before .before .before .before .before .before .before .before .before .before .before .before .before .before .pre .5)
+add-next c = let h = walking-few (c .before .before .before .before .before .before .before .before .before .before .before .before .before .loop .inv .0) (c .before .before .before .before .before .before .before .before .before .before .before .before .before .before .before .before .before .before .before .before .pre .1) (c .before .before .before .before .before .before .before .before .before .before .before .before .before .before .before .before .before .before .before .before .pre .0 .inside) (c .before .before .before .before .before .before .before .before .before .before .before .before .before .before .before .before .before .before .before .before .pre .2) in omega (arith, c .before .before .before .before .before .before .before .before .before .before .before .before .before .before .before .before .before .before .before .before .pre .4)
 
--- src/erased.rt:165:5
+-- src/erased.rt:176:5
 loop-less : tie.Need-loop-less Inv-loop μ-loop
-loop-less c = walking-less (lent (c .before .before .before .before .before .before .before .before .before .before .before .before .before .before .before .before .before .before .before .before .before .args .payload .now) (c .before .before .before .before .before .before .before .before .before .before .before .before .before .before .before .before .before .before .before .before .before .args .d2 .now) (c .before .before .before .before .before .before .before .before .before .before .before .before .before .before .before .before .before .before .before .before .before .args .ends .now) (c .before .before .before .before .before .before .before .before .before .before .before .before .before .before .before .before .before .before .before .before .before .args .starts .now) (c .before .before .before .before .before .before .before .before .before .before .before .before .before .before .before .before .before .before .before .before .before .args .stops .now) (c .before .before .before .before .before .before .before .before .before .before .before .before .before .before .before .before .before .before .before .before .before .args .firsts .now) (c .before .before .before .before .before .before .before .before .before .before .before .before .before .before .before .before .before .before .before .before .before .args .entry-starts .now) (c .before .before .before .before .before .before .before .before .before .before .before .before .before .before .before .before .before .before .before .before .before .args .entry-ends .now) (c .before .before .before .before .before .before .before .before .before .before .before .before .before .before .before .before .before .before .before .before .before .args .tables)) (c .before .before .before .before .before .before .before .before .before .before .before .before .before .before .before .before .before .before .before .before .before .args .start) (c .before .before .before .before .before .before .before .before .before .before .before .before .before .before .before .before .before .before .before .before .before .args .end) (c .before .before .before .before .before .before .before .before .before .before .before .before .before .before .before .before .before .before .before .before .before .args .nullable) (c .before .before .before .before .before .before .before .before .before .before .before .before .before .before .before .before .before .before .before .before .before .args .left) (c .before .before .before .before .before .before .before .before .before .before .before .before .before .before .before .before .before .before .before .before .before .args .position) (c .before .before .before .before .before .before .before .before .before .before .before .before .before .before .before .before .before .before .before .before .before .args .at) (c .before .before .before .before .before .before .before .before .before .before .before .before .before .before .before .before .before .before .before .before .before .args .area .now) (c .before .before .before .before .before .before .before .before .before .before .before .loop .first) (c .before .before .before .before .before .before .before .before .before .before .before .loop .last) (c .before .before .before .before .before .before .before .before .before .before .before .loop .said) (c .before .before .before .before .before .before .before .before .before .before .before .loop .deep) (c .before .before .before .before .before .before .before .before .before .before .before .loop .here) (c .before .before .before .before .before .before .before .before .before .before .before .loop .next) (c .before .before .before .before .before .before .before .before .before .before .before .loop .area) (c .before .before .before .before .before .before .before .before .before .before .before .loop .inv .0) (c .before .before .before .before .before .before .before .before .before .put-type .result) (c .before .before .before .before .before .before .before .before .before .put-type .ensures) (c .before .before .before .before .before .enum-told2 .given .1) (c .before .before .before .before .less .ensures) (c .before .before .before .first-argument .ensures) (c .before .found .given .1)
+loop-less c = walking-less (c .before .before .before .before .before .before .before .before .before .before .before .before .before .loop .inv .0) (c .before .before .before .before .before .before .before .before .before .before .put-type-part .ensures) (c .before .before .before .before .before .before .enum-told2 .given .1) (c .before .before .before .before .less .ensures) (c .before .before .before .first-argument .ensures) (c .before .found .given .1)
 
--- src/erased.rt:165:5
+-- src/erased.rt:176:5
 loop-again : tie.Need-loop-again Inv-loop μ-loop
-loop-again c = (walking-on (lent (c .before .before .before .before .before .before .before .before .before .before .before .before .before .before .before .before .before .before .before .before .before .args .payload .now) (c .before .before .before .before .before .before .before .before .before .before .before .before .before .before .before .before .before .before .before .before .before .args .d2 .now) (c .before .before .before .before .before .before .before .before .before .before .before .before .before .before .before .before .before .before .before .before .before .args .ends .now) (c .before .before .before .before .before .before .before .before .before .before .before .before .before .before .before .before .before .before .before .before .before .args .starts .now) (c .before .before .before .before .before .before .before .before .before .before .before .before .before .before .before .before .before .before .before .before .before .args .stops .now) (c .before .before .before .before .before .before .before .before .before .before .before .before .before .before .before .before .before .before .before .before .before .args .firsts .now) (c .before .before .before .before .before .before .before .before .before .before .before .before .before .before .before .before .before .before .before .before .before .args .entry-starts .now) (c .before .before .before .before .before .before .before .before .before .before .before .before .before .before .before .before .before .before .before .before .before .args .entry-ends .now) (c .before .before .before .before .before .before .before .before .before .before .before .before .before .before .before .before .before .before .before .before .before .args .tables)) (c .before .before .before .before .before .before .before .before .before .before .before .before .before .before .before .before .before .before .before .before .before .args .start) (c .before .before .before .before .before .before .before .before .before .before .before .before .before .before .before .before .before .before .before .before .before .args .end) (c .before .before .before .before .before .before .before .before .before .before .before .before .before .before .before .before .before .before .before .before .before .args .nullable) (c .before .before .before .before .before .before .before .before .before .before .before .before .before .before .before .before .before .before .before .before .before .args .left) (c .before .before .before .before .before .before .before .before .before .before .before .before .before .before .before .before .before .before .before .before .before .args .position) (c .before .before .before .before .before .before .before .before .before .before .before .before .before .before .before .before .before .before .before .before .before .args .at) (c .before .before .before .before .before .before .before .before .before .before .before .before .before .before .before .before .before .before .before .before .before .args .area .now) (c .before .before .before .before .before .before .before .before .before .before .before .loop .first) (c .before .before .before .before .before .before .before .before .before .before .before .loop .last) (c .before .before .before .before .before .before .before .before .before .before .before .loop .said) (c .before .before .before .before .before .before .before .before .before .before .before .loop .deep) (c .before .before .before .before .before .before .before .before .before .before .before .loop .here) (c .before .before .before .before .before .before .before .before .before .before .before .loop .next) (c .before .before .before .before .before .before .before .before .before .before .before .loop .area) (c .before .before .before .before .before .before .before .before .before .before .before .loop .inv .0) (c .before .before .before .before .before .before .before .before .before .put-type .result) (c .before .before .before .before .before .before .before .before .before .put-type .ensures) (c .before .before .before .before .before .enum-told2 .given .1) (c .before .before .before .before .less .ensures) (c .before .before .before .first-argument .ensures) (c .before .found .given .1), c .before .before .before .before .before .before .before .before .before .put-type .kept .1 .1 .1 .1 .1 .1 .1 .1 .1 .1 .1 .1 .1 .0 ∙ c .before .before .before .before .before .before .before .before .before .before .before .loop .inv .1)
+loop-again c = (walking-on (c .before .before .before .before .before .before .before .before .before .before .before .before .before .loop .inv .0) (c .before .before .before .before .before .before .before .before .before .before .put-type-part .ensures) (c .before .before .before .before .before .before .enum-told2 .given .1) (c .before .before .before .before .less .ensures) (c .before .before .before .first-argument .ensures) (c .before .found .given .1), c .before .before .before .before .before .before .before .before .before .before .put-type-part .kept .1 .1 .1 .1 .1 .1 .1 .1 .0 ∙ c .before .before .before .before .before .before .before .before .before .before .before .before .before .loop .inv .1)
 
 pub put-erased-spec : {M : Type 1} → statement M
 put-erased-spec =
@@ -104,8 +142,13 @@ put-erased-spec =
     (tie.spec
     Inv-loop
     μ-loop
+    add-end
     loop-holds
-    put-type-requires
+    sub-put-type-part
+    part-put-type-part-start
+    part-put-type-part-end
+    cast-put-type-part
+    put-type-part-requires
     enum-known-one
     add-past
     sub-whole
@@ -115,6 +158,10 @@ put-erased-spec =
     same-length-2
     returns-2
     enum-told-2
+    sub-first-argument
+    part-first-argument-start
+    part-first-argument-end
+    cast-first-argument
     less-requires
     first-argument-requires
     enum-known-found

@@ -1,8 +1,6 @@
-use mathlib.Core.Path.{refl, ap}
-use Rattle.foundation.specs.Results.{d1TooLong, d2TooLong, stringEnds, newerVersion}
+use mathlib.Core.Path.{refl}
 use Rattle.inputs.specs.Refusals.{numberOf, detailOf}
-use Rattle.inputs.specs.Told.{faultTold}
-use Rattle.inputs.proofs.OutcomeLaws.{fault-as, fault-never}
+use Rattle.inputs.proofs.OutcomeLaws.{fault-as}
 use borrow.Author.Needs.{needs}
 use Rattle.inputs.proofs.outcome.fault_refusal.Statement.{statement}
 use Rattle.inputs.proofs.outcome.fault_refusal.Tie as tie
@@ -10,69 +8,57 @@ use Rattle.inputs.proofs.outcome.fault_refusal.Reads as reads
 use Rattle.inputs.proofs.outcome.fault_refusal.Lts as lts
 use Rattle.inputs.proofs.outcome.refused.Reads as refused-reads
 
--- src/outcome.rt:62:29
+-- src/outcome.rt:60:29
 enum-told : tie.Need-enum-told
 enum-told c = search needs
 
--- src/outcome.rt:62:29
+-- src/outcome.rt:60:29
 refused-requires : tie.Need-refused-requires
 refused-requires c κs = search needs
 
--- src/outcome.rt:63:29
+-- src/outcome.rt:61:29
 enum-told-2 : tie.Need-enum-told-2
 enum-told-2 c = search needs
 
--- src/outcome.rt:63:29
+-- src/outcome.rt:61:29
 refused-requires-2 : tie.Need-refused-requires-2
 refused-requires-2 c κs = search needs
 
--- src/outcome.rt:64:30
+-- src/outcome.rt:62:30
 enum-told-3 : tie.Need-enum-told-3
 enum-told-3 c = search needs
 
--- src/outcome.rt:64:30
+-- src/outcome.rt:62:30
 refused-requires-3 : tie.Need-refused-requires-3
 refused-requires-3 c κs = search needs
 
--- src/outcome.rt:65:32
+-- src/outcome.rt:63:32
 enum-told-4 : tie.Need-enum-told-4
 enum-told-4 c = search needs
 
--- src/outcome.rt:65:32
+-- src/outcome.rt:63:32
 refused-requires-4 : tie.Need-refused-requires-4
 refused-requires-4 c κs = search needs
 
--- src/outcome.rt:66:27
-enum-told-5 : tie.Need-enum-told-5
-enum-told-5 c = search needs
-
--- src/outcome.rt:66:27
-refused-requires-5 : tie.Need-refused-requires-5
-refused-requires-5 c κs = search needs
-
--- src/outcome.rt:58:1
+-- src/outcome.rt:56:1
 returns : tie.Need-returns
 unfolding numberOf detailOf
-returns c = fault-as (c .refused .ensures) d1TooLong (c .before .before .before .args .fault) (ap faultTold (c .before .enum-told .given .1)) refl refl
+returns c = fault-as (c .refused .ensures) _ (c .before .enum-told .given .1) refl refl
 
--- src/outcome.rt:58:1
+-- src/outcome.rt:56:1
 returns-2 : tie.Need-returns-2
 unfolding numberOf detailOf
-returns-2 c = fault-as (c .refused2 .ensures) d2TooLong (c .before .before .before .args .fault) (ap faultTold (c .before .enum-told2 .given .1)) refl refl
+returns-2 c = fault-as (c .refused2 .ensures) _ (c .before .enum-told2 .given .1) refl refl
 
--- src/outcome.rt:58:1
+-- src/outcome.rt:56:1
 returns-3 : tie.Need-returns-3
 unfolding numberOf detailOf
-returns-3 c = fault-as (c .refused3 .ensures) stringEnds (c .before .before .before .args .fault) (ap faultTold (c .before .enum-told3 .given .1)) refl refl
+returns-3 c = fault-as (c .refused3 .ensures) _ (c .before .enum-told3 .given .1) refl refl
 
--- src/outcome.rt:58:1
+-- src/outcome.rt:56:1
 returns-4 : tie.Need-returns-4
 unfolding numberOf detailOf
-returns-4 c = fault-as (c .refused4 .ensures) newerVersion (c .before .before .before .args .fault) (ap faultTold (c .before .enum-told4 .given .1)) refl refl
-
--- src/outcome.rt:58:1
-returns-5 : tie.Need-returns-5
-returns-5 c = fault-never (c .before .before .before .args .fault) (c .before .enum-told5 .given .1)
+returns-4 c = fault-as (c .refused4 .ensures) _ (c .before .enum-told4 .given .1) refl refl
 
 pub fault-refusal-spec : {M : Type 1} → statement M
 fault-refusal-spec =
@@ -86,10 +72,7 @@ fault-refusal-spec =
     refused-requires-3
     enum-told-4
     refused-requires-4
-    enum-told-5
-    refused-requires-5
     returns
     returns-2
     returns-3
-    returns-4
-    returns-5)
+    returns-4)

@@ -8,95 +8,91 @@ use Rattle.members.proofs.callables.constructor_in.Tie as tie
 use Rattle.members.proofs.callables.constructor_in.Reads as reads
 use Rattle.members.proofs.callables.constructor_in.Lts as lts
 use Rattle.members.proofs.callables.names_of.Reads as names-of-reads
-use Rattle.members.proofs.callables.refused_list.Reads as refused-list-reads
-use Rattle.signatures.proofs.flags.flags_in.Reads as flags-in-reads
 use Rattle.members.proofs.parameters.parameters_in.Reads as parameters-in-reads
-use Rattle.rows.proofs.put_constructor.Reads as put-constructor-reads
-use Rattle.rows.proofs.put_count.Reads as put-count-reads
-use Rattle.signatures.proofs.signatures.signature_in.Reads as signature-in-reads
+use Rattle.declaration_rows.proofs.put_constructor.Reads as put-constructor-reads
+use Rattle.declaration_rows.proofs.put_count.Reads as put-count-reads
+use Rattle.schema.proofs.flags.flags_in.Reads as flags-in-reads
+use Rattle.members.proofs.signatures.signature_in.Reads as signature-in-reads
 
--- src/callables.rt:123:9
+-- src/callables.rt:89:9
 flags-in-requires : tie.Need-flags-in-requires
 flags-in-requires c κs = search needs
 
--- src/callables.rt:124:9
+-- src/callables.rt:90:9
 signature-in-requires : tie.Need-signature-in-requires
 signature-in-requires c κs = search needs
 
--- src/callables.rt:135:9
+-- src/callables.rt:91:9
 names-of-requires : tie.Need-names-of-requires
 names-of-requires c κs = search needs
 
--- src/callables.rt:136:9
+-- src/callables.rt:92:9
 put-constructor-requires : tie.Need-put-constructor-requires
-put-constructor-requires c κs = affords-room (c .before .before .before .before .before .before .before .before .before .before .before .before .before .before .before .before .pre .0)
+put-constructor-requires c κs = affords-room (c .before .before .before .before .before .before .before .before .before .before .before .before .pre .0)
 
--- src/callables.rt:138:16
+-- src/callables.rt:94:16
 add-past : tie.Need-add-past
-add-past c = let a = c .before .before .before .before .before .before .before .before .before .before .before .before .before .before .before .before .before .before .before .before .before .args in let e = lent (a .payload .now) (a .d2 .now) (a .ends .now) (a .starts .now) (a .stops .now) (a .firsts .now) (a .entry-starts .now) (a .entry-ends .now) (a .tables) in let h = constructor-affords e (a .msg .now) (a .base) (a .state) (c .before .before .before .before .before .before .before .before .before .before .before .before .before .before .before .before .before .before .before .before .before .pre .0) (c .before .before .before .before .before .before .before .before .before .flags-in .result) (c .before .before .before .before .before .before .before .names-of .result) (c .before .before .before .before .put-constructor .ensures) in omega (arith, h .room)
+add-past c = let a = c .before .before .before .before .before .before .before .before .before .before .before .before .before .before .before .before .before .args in let e = lent (a .payload .now) (a .d2 .now) (a .ends .now) (a .notes .now) (a .tables) in let h = constructor-affords e (a .msg .now) (a .base) (a .state) (c .before .before .before .before .before .before .before .before .before .before .before .before .before .before .before .before .before .pre .0) (c .before .before .before .before .before .before .before .before .before .flags-in .result) (c .before .before .before .before .before .before .before .names-of .result) (c .before .before .before .before .put-constructor .ensures) in omega (arith, h .room)
 
--- src/callables.rt:144:9
+-- src/callables.rt:100:9
 parameters-in-requires : tie.Need-parameters-in-requires
-parameters-in-requires c κs = let a = c .before .before .before .before .before .before .before .before .before .before .before .before .before .before .before .before .before .before .before .before .before .before .before .args in let e = lent (a .payload .now) (a .d2 .now) (a .ends .now) (a .starts .now) (a .stops .now) (a .firsts .now) (a .entry-starts .now) (a .entry-ends .now) (a .tables) in (constructor-affords e (a .msg .now) (a .base) (a .state) (c .before .before .before .before .before .before .before .before .before .before .before .before .before .before .before .before .before .before .before .before .before .before .before .pre .0) (c .before .before .before .before .before .before .before .before .before .before .before .flags-in .result) (c .before .before .before .before .before .before .before .before .before .names-of .result) (c .before .before .before .before .before .before .put-constructor .ensures), c .before .before .before .before .before .before .before .before .before .before .before .before .before .before .before .before .before .before .before .before .before .before .before .pre .1)
+parameters-in-requires c κs = let a = c .before .before .before .before .before .before .before .before .before .before .before .before .before .before .before .before .before .before .before .args in let e = lent (a .payload .now) (a .d2 .now) (a .ends .now) (a .notes .now) (a .tables) in (constructor-affords e (a .msg .now) (a .base) (a .state) (c .before .before .before .before .before .before .before .before .before .before .before .before .before .before .before .before .before .before .before .pre .0) (c .before .before .before .before .before .before .before .before .before .before .before .flags-in .result) (c .before .before .before .before .before .before .before .before .before .names-of .result) (c .before .before .before .before .before .before .put-constructor .ensures), c .before .before .before .before .before .before .before .before .before .before .before .before .before .before .before .before .before .before .before .pre .1)
 
--- src/callables.rt:161:31
+-- src/callables.rt:114:27
 enum-known-parameters : tie.Need-enum-known-parameters
 enum-known-parameters c = search needs
 
--- src/callables.rt:162:9
-enum-told : tie.Need-enum-told
-enum-told c = search needs
+-- src/callables.rt:115:31
+enum-known-parameters-2 : tie.Need-enum-known-parameters-2
+enum-known-parameters-2 c = search needs
 
--- src/callables.rt:162:9
-refused-list-requires : tie.Need-refused-list-requires
-refused-list-requires c κs = search needs
-
--- src/callables.rt:162:9
-same-length : tie.Need-same-length
-same-length c = search needs
-
--- src/callables.rt:162:9
-same-length-2 : tie.Need-same-length-2
-same-length-2 c = search needs
-
--- src/callables.rt:162:9
-returns : tie.Need-returns
-returns c = let a = c .before .before .before .before .before .before .before .before .before .before .before .before .before .before .before .before .before .before .before .before .before .before .before .before .before .before .before .before .before .before .before .args in let e = lent (a .payload .now) (a .d2 .now) (a .ends .now) (a .starts .now) (a .stops .now) (a .firsts .now) (a .entry-starts .now) (a .entry-ends .now) (a .tables) in constructor-refused e (a .msg .now) (a .base) (a .state) (c .before .before .before .before .before .before .before .before .before .before .before .before .before .before .before .before .before .before .before .before .before .before .before .before .before .before .before .before .before .before .before .pre .0) (c .before .before .before .before .before .before .before .before .before .before .before .before .before .before .before .before .before .before .before .flags-in .result) (c .before .before .before .before .before .before .before .before .before .before .before .before .before .before .before .before .before .names-of .result) (c .before .before .before .before .before .before .before .before .before .before .before .before .before .before .put-constructor .ensures) (c .before .before .before .before .before .before .before .parameters-in .ensures) (c .before .enum-told .given .1) (c .refused-list .ensures _ (c .before .enum-told .given .1))
-
--- src/callables.rt:164:30
+-- src/callables.rt:116:31
 enum-known-signed : tie.Need-enum-known-signed
 enum-known-signed c = search needs
 
--- src/callables.rt:165:9
-same-length-3 : tie.Need-same-length-3
-same-length-3 c = search needs
+-- src/callables.rt:120:27
+enum-told : tie.Need-enum-told
+enum-told c = search needs
 
--- src/callables.rt:165:9
-same-length-4 : tie.Need-same-length-4
-same-length-4 c = search needs
-
--- src/callables.rt:165:9
-returns-2 : tie.Need-returns-2
-returns-2 c = let a = c .before .before .before .before .before .before .before .before .before .before .before .before .before .before .before .before .before .before .before .before .before .before .before .before .before .before .before .before .before .before .before .before .before .before .args in let e = lent (a .payload .now) (a .d2 .now) (a .ends .now) (a .starts .now) (a .stops .now) (a .firsts .now) (a .entry-starts .now) (a .entry-ends .now) (a .tables) in constructor-unsigned-told e (a .msg .now) (a .base) (a .state) (c .before .before .before .before .before .before .before .before .before .before .before .before .before .before .before .before .before .before .before .before .before .before .before .before .before .before .before .before .before .before .before .before .before .before .pre .0) (c .before .before .before .before .before .before .before .before .before .before .before .before .before .before .before .before .before .before .before .before .before .before .flags-in .result) (c .before .before .before .before .before .before .before .before .before .before .before .before .before .before .before .before .before .before .before .before .names-of .result) (c .before .before .before .before .before .before .before .before .before .before .before .before .before .before .before .before .before .put-constructor .ensures) (c .before .before .before .before .before .before .before .before .before .before .parameters-in .ensures) (c .before .before .before .before .parameters .given .1) (c .before .before .before .before .before .before .before .before .before .before .before .before .before .before .before .before .before .before .before .before .before .signature-in .result) (c .before .before .before .before .before .before .before .before .before .before .before .before .before .before .before .before .before .before .before .before .before .signature-in .ensures) (c .before .signed .given .1)
-
-enum-told-2 : tie.Need-enum-told-2
-enum-told-2 c = search needs
-
--- src/callables.rt:169:5
+-- src/callables.rt:120:17
 put-count-requires : tie.Need-put-count-requires
 put-count-requires c κs = search needs
 
--- src/callables.rt:104:1
+-- src/callables.rt:74:1
+same-length : tie.Need-same-length
+same-length c = search needs
+
+-- src/callables.rt:74:1
+same-length-2 : tie.Need-same-length-2
+same-length-2 c = search needs
+
+-- src/callables.rt:74:1
+returns : tie.Need-returns
+returns c = let a = c .before .before .before .before .before .before .before .before .before .before .before .before .before .before .before .before .before .before .before .before .before .before .before .before .before .before .before .args in let e = lent (a .payload .now) (a .d2 .now) (a .ends .now) (a .notes .now) (a .tables) in constructor-refused e (a .msg .now) (a .base) (a .state) (c .before .before .before .before .before .before .before .before .before .before .before .before .before .before .before .before .before .before .before .before .before .before .before .before .before .before .before .pre .0) (c .before .before .before .before .before .before .before .before .before .before .before .before .before .before .before .before .before .before .before .flags-in .result) (c .before .before .before .before .before .before .before .before .before .before .before .before .before .before .before .before .before .names-of .result) (c .before .before .before .before .before .before .before .before .before .before .before .before .before .before .put-constructor .ensures) (c .before .before .before .before .before .before .before .parameters-in .ensures) (c .before .parameters .given .1)
+
+-- src/callables.rt:74:1
+same-length-3 : tie.Need-same-length-3
+same-length-3 c = search needs
+
+-- src/callables.rt:74:1
+same-length-4 : tie.Need-same-length-4
+same-length-4 c = search needs
+
+-- src/callables.rt:74:1
+returns-2 : tie.Need-returns-2
+returns-2 c = let a = c .before .before .before .before .before .before .before .before .before .before .before .before .before .before .before .before .before .before .before .before .before .before .before .before .before .before .before .before .before .before .args in let e = lent (a .payload .now) (a .d2 .now) (a .ends .now) (a .notes .now) (a .tables) in constructor-unsigned-told e (a .msg .now) (a .base) (a .state) (c .before .before .before .before .before .before .before .before .before .before .before .before .before .before .before .before .before .before .before .before .before .before .before .before .before .before .before .before .before .before .pre .0) (c .before .before .before .before .before .before .before .before .before .before .before .before .before .before .before .before .before .before .before .before .before .before .flags-in .result) (c .before .before .before .before .before .before .before .before .before .before .before .before .before .before .before .before .before .before .before .before .names-of .result) (c .before .before .before .before .before .before .before .before .before .before .before .before .before .before .before .before .before .put-constructor .ensures) (c .before .before .before .before .before .before .before .before .before .before .parameters-in .ensures) (c .before .before .before .before .parameters2 .given .1) (c .before .before .before .before .before .before .before .before .before .before .before .before .before .before .before .before .before .before .before .before .before .signature-in .result) (c .before .before .before .before .before .before .before .before .before .before .before .before .before .before .before .before .before .before .before .before .before .signature-in .ensures) (c .before .signed .given .1)
+
+-- src/callables.rt:74:1
 same-length-5 : tie.Need-same-length-5
 same-length-5 c = search needs
 
--- src/callables.rt:104:1
+-- src/callables.rt:74:1
 same-length-6 : tie.Need-same-length-6
 same-length-6 c = search needs
 
--- src/callables.rt:104:1
+-- src/callables.rt:74:1
 returns-3 : tie.Need-returns-3
-returns-3 c = let a = c .before .before .before .before .before .before .before .before .before .before .before .before .before .before .before .before .before .before .before .before .before .before .before .before .before .before .before .before .before .before .before .before .before .before .before .before .before .args in let e = lent (a .payload .now) (a .d2 .now) (a .ends .now) (a .starts .now) (a .stops .now) (a .firsts .now) (a .entry-starts .now) (a .entry-ends .now) (a .tables) in constructor-told e (a .msg .now) (a .base) (a .state) (c .before .before .before .before .before .before .before .before .before .before .before .before .before .before .before .before .before .before .before .before .before .before .before .before .before .before .before .before .before .before .before .before .before .before .before .before .before .pre .0) (c .before .before .before .before .before .before .before .before .before .before .before .before .before .before .before .before .before .before .before .before .before .before .before .before .before .flags-in .result) (c .before .before .before .before .before .before .before .before .before .before .before .before .before .before .before .before .before .before .before .before .before .before .before .names-of .result) (c .before .before .before .before .before .before .before .before .before .before .before .before .before .before .before .before .before .before .before .before .put-constructor .ensures) (c .before .before .before .before .before .before .before .before .before .before .before .before .before .parameters-in .ensures) (c .before .before .before .before .before .before .before .parameters .given .1) (c .before .before .before .before .before .before .before .before .before .before .before .before .before .before .before .before .before .before .before .before .before .before .before .before .signature-in .result) (c .before .before .before .before .before .before .before .before .before .before .before .before .before .before .before .before .before .before .before .before .before .before .before .before .signature-in .ensures) (c .before .before .before .before .enum-told2 .given .1) (c .before .before .before .before .before .before .before .before .before .before .before .before .before .before .before .before .before .before .before .before .before .before .before .names-of .ensures _ (c .before .before .before .before .enum-told2 .given .1)) (c .before .before .before .before .before .before .before .before .before .before .before .before .before .before .before .before .before .before .before .before .before .before .before .before .before .flags-in .ensures) (c .before .before .put-count .ensures)
+returns-3 c = let a = c .before .before .before .before .before .before .before .before .before .before .before .before .before .before .before .before .before .before .before .before .before .before .before .before .before .before .before .before .before .before .before .before .before .args in let e = lent (a .payload .now) (a .d2 .now) (a .ends .now) (a .notes .now) (a .tables) in constructor-told e (a .msg .now) (a .base) (a .state) (c .before .before .before .before .before .before .before .before .before .before .before .before .before .before .before .before .before .before .before .before .before .before .before .before .before .before .before .before .before .before .before .before .before .pre .0) (c .before .before .before .before .before .before .before .before .before .before .before .before .before .before .before .before .before .before .before .before .before .before .before .before .before .flags-in .result) (c .before .before .before .before .before .before .before .before .before .before .before .before .before .before .before .before .before .before .before .before .before .before .before .names-of .result) (c .before .before .before .before .before .before .before .before .before .before .before .before .before .before .before .before .before .before .before .before .put-constructor .ensures) (c .before .before .before .before .before .before .before .before .before .before .before .before .before .parameters-in .ensures) (c .before .before .before .before .before .before .before .parameters2 .given .1) (c .before .before .before .before .before .before .before .before .before .before .before .before .before .before .before .before .before .before .before .before .before .before .before .before .signature-in .result) (c .before .before .before .before .before .before .before .before .before .before .before .before .before .before .before .before .before .before .before .before .before .before .before .before .signature-in .ensures) (c .before .before .before .before .enum-told .given .1) (c .before .before .before .before .before .before .before .before .before .before .before .before .before .before .before .before .before .before .before .before .before .before .before .names-of .ensures _ (c .before .before .before .before .enum-told .given .1)) (c .before .before .before .before .before .before .before .before .before .before .before .before .before .before .before .before .before .before .before .before .before .before .before .before .before .flags-in .ensures) (c .before .before .put-count .ensures)
 
 pub constructor-in-spec : {M : Type 1} → statement M
 constructor-in-spec =
@@ -109,17 +105,16 @@ constructor-in-spec =
     add-past
     parameters-in-requires
     enum-known-parameters
+    enum-known-parameters-2
+    enum-known-signed
     enum-told
-    refused-list-requires
+    put-count-requires
     same-length
     same-length-2
     returns
-    enum-known-signed
     same-length-3
     same-length-4
     returns-2
-    enum-told-2
-    put-count-requires
     same-length-5
     same-length-6
     returns-3)

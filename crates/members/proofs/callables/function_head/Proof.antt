@@ -4,11 +4,11 @@ use Rattle.members.proofs.callables.function_head.Statement.{statement}
 use Rattle.members.proofs.callables.function_head.Tie as tie
 use Rattle.members.proofs.callables.function_head.Reads as reads
 use Rattle.members.proofs.callables.function_head.Lts as lts
-use Rattle.signatures.proofs.receiver.has_receiver.Reads as has-receiver-reads
+use Rattle.schema.proofs.receiver.has_receiver.Reads as has-receiver-reads
 use Rattle.members.proofs.callables.names_of.Reads as names-of-reads
-use Rattle.signatures.proofs.flags.flags_in.Reads as flags-in-reads
-use Rattle.rows.proofs.put_function.Reads as put-function-reads
-use Rattle.signatures.proofs.signatures.or_name.Reads as or-name-reads
+use Rattle.schema.proofs.flags.flags_in.Reads as flags-in-reads
+use Rattle.declaration_rows.proofs.put_function.Reads as put-function-reads
+use Rattle.members.proofs.signatures.or_name.Reads as or-name-reads
 
 -- src/callables.rt:187:9
 flags-in-requires : tie.Need-flags-in-requires

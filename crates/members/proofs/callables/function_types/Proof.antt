@@ -31,7 +31,7 @@ same-length-2 c = search needs
 
 -- src/callables.rt:251:9
 returns : tie.Need-returns
-returns c = receiver-refused (c .before .before .before .before .before .before .before .before .before .before .before .before .before .before .before .before .before .before .before .before .args .signed) (c .before .before .before .before .before .before .declared-type .ensures) (c .enum-told .given .1)
+returns c = receiver-refused (c .before .before .before .before .before .before .before .before .before .before .before .before .before .before .before .before .args .signed) (c .before .before .before .before .before .before .declared-type .ensures) (c .enum-told .given .1)
 
 -- src/callables.rt:253:30
 enum-known-signed : tie.Need-enum-known-signed
@@ -47,14 +47,14 @@ same-length-4 c = search needs
 
 -- src/callables.rt:254:9
 returns-2 : tie.Need-returns-2
-returns-2 c = types-unsigned (c .before .before .before .before .before .before .before .before .before .before .before .before .before .before .before .before .before .before .before .before .before .before .before .before .args .signed) (c .before .before .before .before .before .before .before .before .before .before .declared-type .ensures) (c .before .before .before .before .receiver .given .1) (c .before .signed .given .1)
+returns-2 c = types-unsigned (c .before .before .before .before .before .before .before .before .before .before .before .before .before .before .before .before .before .before .before .before .args .signed) (c .before .before .before .before .before .before .before .before .before .before .declared-type .ensures) (c .before .before .before .before .receiver .given .1) (c .before .signed .given .1)
 
 enum-told-2 : tie.Need-enum-told-2
 enum-told-2 c = search needs
 
 -- src/callables.rt:258:5
 declared-type-requires-2 : tie.Need-declared-type-requires-2
-declared-type-requires-2 c κs = (ready-after (c .before .before .before .before .before .before .before .before .before .before .before .before .before .before .before .before .before .before .before .before .before .before .before .before .before .pre .0) (subst (WalkedSpends (c .before .before .before .before .before .before .before .before .before .before .before .before .before .before .before .before .before .before .before .before .before .before .before .before .before .args .state)) (c .before .before .before .before .before .receiver .given .1) (c .before .before .before .before .before .before .before .before .before .before .before .declared-type .ensures .spends)), c .before .before .before .before .before .before .before .before .before .before .before .before .before .before .before .before .before .before .before .before .before .before .before .before .before .pre .1)
+declared-type-requires-2 c κs = (ready-after (c .before .before .before .before .before .before .before .before .before .before .before .before .before .before .before .before .before .before .before .before .before .pre .0) (subst (WalkedSpends (c .before .before .before .before .before .before .before .before .before .before .before .before .before .before .before .before .before .before .before .before .before .args .state)) (c .before .before .before .before .before .receiver .given .1) (c .before .before .before .before .before .before .before .before .before .before .before .declared-type .ensures .spends)), c .before .before .before .before .before .before .before .before .before .before .before .before .before .before .before .before .before .before .before .before .before .pre .1)
 
 -- src/callables.rt:211:1
 same-length-5 : tie.Need-same-length-5
@@ -66,7 +66,7 @@ same-length-6 c = search needs
 
 -- src/callables.rt:211:1
 returns-3 : tie.Need-returns-3
-returns-3 c = types-returned (c .before .before .before .before .before .before .before .before .before .before .before .before .before .before .before .before .before .before .before .before .before .before .before .before .before .before .before .before .before .before .args .signed) (c .before .before .before .before .before .before .before .before .before .before .before .before .before .before .before .before .declared-type .ensures) (c .before .before .before .before .before .before .before .before .before .before .receiver .given .1) (c .before .before .before .before .before .before .before .enum-told2 .given .1) (c .before .before .before .before .declared-type2 .ensures)
+returns-3 c = types-returned (c .before .before .before .before .before .before .before .before .before .before .before .before .before .before .before .before .before .before .before .before .before .before .before .before .before .before .args .signed) (c .before .before .before .before .before .before .before .before .before .before .before .before .before .before .before .before .declared-type .ensures) (c .before .before .before .before .before .before .before .before .before .before .receiver .given .1) (c .before .before .before .before .before .before .before .enum-told2 .given .1) (c .before .before .before .before .declared-type2 .ensures)
 
 pub function-types-spec : {M : Type 1} → statement M
 function-types-spec =

@@ -6,7 +6,7 @@ use Rattle.members.proofs.parameters.declares_default.Statement.{statem
 use Rattle.members.proofs.parameters.declares_default.Tie as tie
 use Rattle.members.proofs.parameters.declares_default.Reads as reads
 use Rattle.members.proofs.parameters.declares_default.Lts as lts
-use Rattle.signatures.proofs.flags.flags_in.Reads as flags-in-reads
+use Rattle.schema.proofs.flags.flags_in.Reads as flags-in-reads
 
 -- src/parameters.rt:54:9
 flags-in-requires : tie.Need-flags-in-requires

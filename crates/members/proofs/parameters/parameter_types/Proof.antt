@@ -35,7 +35,7 @@ returns c = types-refused (c .before .before .before .before .before .before .de
 
 -- src/parameters.rt:100:5
 declared-type-requires-2 : tie.Need-declared-type-requires-2
-declared-type-requires-2 c κs = (ready-after (c .before .before .before .before .before .before .before .before .before .before .before .before .before .before .before .before .before .before .before .before .before .before .before .pre .0) (subst (WalkedSpends (c .before .before .before .before .before .before .before .before .before .before .before .before .before .before .before .before .before .before .before .before .before .before .before .args .state)) (c .before .before .before .own .given .1) (c .before .before .before .before .before .before .before .before .before .declared-type .ensures .spends)), c .before .before .before .before .before .before .before .before .before .before .before .before .before .before .before .before .before .before .before .before .before .before .before .pre .1)
+declared-type-requires-2 c κs = (ready-after (c .before .before .before .before .before .before .before .before .before .before .before .before .before .before .before .before .before .before .before .pre .0) (subst (WalkedSpends (c .before .before .before .before .before .before .before .before .before .before .before .before .before .before .before .before .before .before .before .args .state)) (c .before .before .before .own .given .1) (c .before .before .before .before .before .before .before .before .before .declared-type .ensures .spends)), c .before .before .before .before .before .before .before .before .before .before .before .before .before .before .before .before .before .before .before .pre .1)
 
 -- src/parameters.rt:59:1
 same-length-3 : tie.Need-same-length-3

@@ -3,7 +3,7 @@ use Prim.Native.Nat.{_-_}
 use native.Mathlib.Omega.{arith}
 use lib.ListN.{length}
 use Rattle.schema.specs.Members.{parameterIn}
-use Rattle.rows.specs.Rows.{parameterRows}
+use Rattle.declaration_rows.specs.Rows.{parameterRows}
 use Rattle.schema.specs.Told.{lent}
 use Rattle.schema.specs.MembersTold.{parameterCost}
 use Rattle.schema.proofs.ParseLaws.{part-inside}
@@ -17,10 +17,10 @@ use Rattle.members.proofs.parameters.parameter_in.Reads as parameter-in
 use Rattle.messages.proofs.next_body.Reads as next-body-reads
 
 abbrev Inv-loop : tie.InvT-loop
-Inv-loop msg base number payload d2 ends starts stops firsts entry-starts entry-ends tables sheet₀ text₀ at₀ count₀ next₀ sheet text at count next = Looping parameterIn parameterRows parameterCost (lent payload d2 ends starts stops firsts entry-starts entry-ends tables) msg base number next₀ sheet₀ text₀ at count next sheet text × (length sheet ≡ length sheet₀) × (length text ≡ length text₀)
+Inv-loop msg base number payload d2 ends notes tables sheet₀ text₀ at₀ count₀ next₀ sheet text at count next = Looping parameterIn parameterRows parameterCost (lent payload d2 ends notes tables) msg base number next₀ sheet₀ text₀ at count next sheet text × (length sheet ≡ length sheet₀) × (length text ≡ length text₀)
 
 abbrev μ-loop : tie.MeasureT-loop
-μ-loop msg base number payload d2 ends starts stops firsts entry-starts entry-ends tables sheet₀ text₀ at₀ count₀ next₀ sheet text at count next = length msg - at
+μ-loop msg base number payload d2 ends notes tables sheet₀ text₀ at₀ count₀ next₀ sheet text at count next = length msg - at
 
 -- src/parameters.rt:199:5
 loop-holds : tie.Need-loop-holds Inv-loop μ-loop
@@ -64,15 +64,15 @@ part-parameter-in-end c = let h = member-in (c .before .before .before .before .
 
 -- src/parameters.rt:207:20
 cast-parameter-in : tie.Need-cast-parameter-in Inv-loop μ-loop
-cast-parameter-in c = let h = member-in (c .before .before .before .before .before .loop .inv .0) (c .before .before .before .before .next-body .ensures) (c .before .before .piece .given .1) in omega (arith, c .before .before .before .before .before .before .before .before .before .before .before .before .before .before .before .before .before .pre .1, c .before .before .before .before .before .before .before .before .before .before .before .before .before .before .before .before .before .pre .0 .payload-short)
+cast-parameter-in c = let h = member-in (c .before .before .before .before .before .loop .inv .0) (c .before .before .before .before .next-body .ensures) (c .before .before .piece .given .1) in omega (arith, c .before .before .before .before .before .before .before .before .before .before .before .before .before .pre .1, c .before .before .before .before .before .before .before .before .before .before .before .before .before .pre .0 .payload-short)
 
 -- src/parameters.rt:207:13
 add-parameter-in : tie.Need-add-parameter-in Inv-loop μ-loop
-add-parameter-in c = let h = member-in (c .before .before .before .before .before .loop .inv .0) (c .before .before .before .before .next-body .ensures) (c .before .before .piece .given .1) in omega (arith, c .before .before .before .before .before .before .before .before .before .before .before .before .before .before .before .before .before .pre .1, c .before .before .before .before .before .before .before .before .before .before .before .before .before .before .before .before .before .pre .0 .payload-short)
+add-parameter-in c = let h = member-in (c .before .before .before .before .before .loop .inv .0) (c .before .before .before .before .next-body .ensures) (c .before .before .piece .given .1) in omega (arith, c .before .before .before .before .before .before .before .before .before .before .before .before .before .pre .1, c .before .before .before .before .before .before .before .before .before .before .before .before .before .pre .0 .payload-short)
 
 -- src/parameters.rt:205:13
 parameter-in-requires : tie.Need-parameter-in-requires Inv-loop μ-loop
-parameter-in-requires c κs = let h = member-in (c .before .before .before .before .before .before .before .loop .inv .0) (c .before .before .before .before .before .before .next-body .ensures) (c .before .before .before .before .piece .given .1) in (member-affords (c .before .before .before .before .before .before .before .loop .inv .0) (c .before .before .before .before .before .before .next-body .ensures) (c .before .before .before .before .piece .given .1) (unit-cheap parameterCost (c .before .before .before .before .piece .given .0 .1 .0 - c .before .before .before .before .piece .given .0 .0)) (c .before .before .before .before .before .before .before .before .before .before .before .before .before .before .before .before .before .before .before .pre .0), part-inside (c .before .before .before .before .before .before .before .before .before .before .before .before .before .before .before .before .before .before .before .args .msg .now) (c .before .before .before .before .before .before .before .before .before .before .before .before .before .before .before .before .before .before .before .args .base) (c .before .before .before .before .piece .given .0 .0) (c .before .before .before .before .piece .given .0 .1 .0) (c .before .before .before .before .before .before .before .before .before .before .before .before .before .before .before .before .before .before .before .pre .1) (h .1) (h .2))
+parameter-in-requires c κs = let h = member-in (c .before .before .before .before .before .before .before .loop .inv .0) (c .before .before .before .before .before .before .next-body .ensures) (c .before .before .before .before .piece .given .1) in (member-affords (c .before .before .before .before .before .before .before .loop .inv .0) (c .before .before .before .before .before .before .next-body .ensures) (c .before .before .before .before .piece .given .1) (unit-cheap parameterCost (c .before .before .before .before .piece .given .0 .1 .0 - c .before .before .before .before .piece .given .0 .0)) (c .before .before .before .before .before .before .before .before .before .before .before .before .before .before .before .pre .0), part-inside (c .before .before .before .before .before .before .before .before .before .before .before .before .before .before .before .args .msg .now) (c .before .before .before .before .before .before .before .before .before .before .before .before .before .before .before .args .base) (c .before .before .before .before .piece .given .0 .0) (c .before .before .before .before .piece .given .0 .1 .0) (c .before .before .before .before .before .before .before .before .before .before .before .before .before .before .before .pre .1) (h .1) (h .2))
 
 -- src/parameters.rt:222:35
 enum-known-parameter : tie.Need-enum-known-parameter Inv-loop μ-loop
@@ -88,7 +88,7 @@ loop-less c = let h = member-in (c .before .before .before .before .before .befo
 
 -- src/parameters.rt:199:5
 loop-again : tie.Need-loop-again Inv-loop μ-loop
-loop-again c = (loop-kept (c .before .before .before .before .before .before .before .before .before .before .before .before .before .before .before .loop .inv .0) (c .before .before .before .before .before .before .before .before .before .before .before .before .before .before .next-body .ensures) (c .before .before .before .before .before .before .before .before .before .before .before .before .piece .given .1) (unit-cheap parameterCost (c .before .before .before .before .before .before .before .before .before .before .before .before .piece .given .0 .1 .0 - c .before .before .before .before .before .before .before .before .before .before .before .before .piece .given .0 .0)) (c .before .before .before .before .before .before .before .parameter-in .ensures) (c .before .parameter .given .1), c .before .before .before .before .before .before .before .parameter-in .kept .1 .1 .1 .1 .1 .1 .1 .1 .1 .1 .1 .1 .0 ∙ c .before .before .before .before .before .before .before .before .before .before .before .before .before .before .before .loop .inv .1, c .before .before .before .before .before .before .before .parameter-in .kept .1 .1 .1 .1 .1 .1 .1 .1 .1 .1 .1 .1 .1 .0 ∙ c .before .before .before .before .before .before .before .before .before .before .before .before .before .before .before .loop .inv .2)
+loop-again c = (loop-kept (c .before .before .before .before .before .before .before .before .before .before .before .before .before .before .before .loop .inv .0) (c .before .before .before .before .before .before .before .before .before .before .before .before .before .before .next-body .ensures) (c .before .before .before .before .before .before .before .before .before .before .before .before .piece .given .1) (unit-cheap parameterCost (c .before .before .before .before .before .before .before .before .before .before .before .before .piece .given .0 .1 .0 - c .before .before .before .before .before .before .before .before .before .before .before .before .piece .given .0 .0)) (c .before .before .before .before .before .before .before .parameter-in .ensures) (c .before .parameter .given .1), c .before .before .before .before .before .before .before .parameter-in .kept .1 .1 .1 .1 .1 .1 .1 .1 .0 ∙ c .before .before .before .before .before .before .before .before .before .before .before .before .before .before .before .loop .inv .1, c .before .before .before .before .before .before .before .parameter-in .kept .1 .1 .1 .1 .1 .1 .1 .1 .1 .0 ∙ c .before .before .before .before .before .before .before .before .before .before .before .before .before .before .before .loop .inv .2)
 
 enum-told-2 : tie.Need-enum-told-2 Inv-loop μ-loop
 enum-told-2 c = search needs
@@ -99,7 +99,7 @@ loop-less-2 c = let h = member-in (c .before .before .before .before .before .be
 
 -- src/parameters.rt:199:5
 loop-again-2 : tie.Need-loop-again-2 Inv-loop μ-loop
-loop-again-2 c = (loop-dropped (c .before .before .before .before .before .before .before .before .before .before .before .before .before .before .loop .inv .0) (c .before .before .before .before .before .before .before .before .before .before .before .before .before .next-body .ensures) (c .before .before .before .before .before .before .before .before .before .before .before .piece .given .1) (unit-cheap parameterCost (c .before .before .before .before .before .before .before .before .before .before .before .piece .given .0 .1 .0 - c .before .before .before .before .before .before .before .before .before .before .before .piece .given .0 .0)) (c .before .before .before .before .before .before .parameter-in .ensures) (c .enum-told2 .given .1), c .before .before .before .before .before .before .parameter-in .kept .1 .1 .1 .1 .1 .1 .1 .1 .1 .1 .1 .1 .0 ∙ c .before .before .before .before .before .before .before .before .before .before .before .before .before .before .loop .inv .1, c .before .before .before .before .before .before .parameter-in .kept .1 .1 .1 .1 .1 .1 .1 .1 .1 .1 .1 .1 .1 .0 ∙ c .before .before .before .before .before .before .before .before .before .before .before .before .before .before .loop .inv .2)
+loop-again-2 c = (loop-dropped (c .before .before .before .before .before .before .before .before .before .before .before .before .before .before .loop .inv .0) (c .before .before .before .before .before .before .before .before .before .before .before .before .before .next-body .ensures) (c .before .before .before .before .before .before .before .before .before .before .before .piece .given .1) (unit-cheap parameterCost (c .before .before .before .before .before .before .before .before .before .before .before .piece .given .0 .1 .0 - c .before .before .before .before .before .before .before .before .before .before .before .piece .given .0 .0)) (c .before .before .before .before .before .before .parameter-in .ensures) (c .enum-told2 .given .1), c .before .before .before .before .before .before .parameter-in .kept .1 .1 .1 .1 .1 .1 .1 .1 .0 ∙ c .before .before .before .before .before .before .before .before .before .before .before .before .before .before .loop .inv .1, c .before .before .before .before .before .before .parameter-in .kept .1 .1 .1 .1 .1 .1 .1 .1 .1 .0 ∙ c .before .before .before .before .before .before .before .before .before .before .before .before .before .before .loop .inv .2)
 
 -- src/parameters.rt:227:31
 enum-known-parameter-2 : tie.Need-enum-known-parameter-2 Inv-loop μ-loop
@@ -107,11 +107,11 @@ enum-known-parameter-2 c = search needs
 
 -- src/parameters.rt:227:41
 same-length-3 : tie.Need-same-length-3 Inv-loop μ-loop
-same-length-3 c = c .before .before .before .before .before .before .before .parameter-in .kept .1 .1 .1 .1 .1 .1 .1 .1 .1 .1 .1 .1 .0 ∙ c .before .before .before .before .before .before .before .before .before .before .before .before .before .before .before .loop .inv .1
+same-length-3 c = c .before .before .before .before .before .before .before .parameter-in .kept .1 .1 .1 .1 .1 .1 .1 .1 .0 ∙ c .before .before .before .before .before .before .before .before .before .before .before .before .before .before .before .loop .inv .1
 
 -- src/parameters.rt:227:41
 same-length-4 : tie.Need-same-length-4 Inv-loop μ-loop
-same-length-4 c = c .before .before .before .before .before .before .before .parameter-in .kept .1 .1 .1 .1 .1 .1 .1 .1 .1 .1 .1 .1 .1 .0 ∙ c .before .before .before .before .before .before .before .before .before .before .before .before .before .before .before .loop .inv .2
+same-length-4 c = c .before .before .before .before .before .before .before .parameter-in .kept .1 .1 .1 .1 .1 .1 .1 .1 .1 .0 ∙ c .before .before .before .before .before .before .before .before .before .before .before .before .before .before .before .loop .inv .2
 
 -- src/parameters.rt:227:41
 returns-2 : tie.Need-returns-2 Inv-loop μ-loop

@@ -7,7 +7,7 @@ use Rattle.members.proofs.properties.is_default.Statement.{statement}
 use Rattle.members.proofs.properties.is_default.Tie as tie
 use Rattle.members.proofs.properties.is_default.Reads as reads
 use Rattle.members.proofs.properties.is_default.Lts as lts
-use Rattle.signatures.proofs.flags.flags_in.Reads as flags-in-reads
+use Rattle.schema.proofs.flags.flags_in.Reads as flags-in-reads
 
 -- src/properties.rt:58:9
 flags-in-requires : tie.Need-flags-in-requires

@@ -10,7 +10,7 @@ use Rattle.members.proofs.properties.property_in.Lts as lts
 use Rattle.names.proofs.name.is_there.Reads as is-there-reads
 use Rattle.schema.proofs.name.name_in.Reads as name-in-reads
 use Rattle.members.proofs.properties.named_property.Reads as named-property-reads
-use Rattle.signatures.proofs.signatures.property_signatures.Reads as property-signatures-reads
+use Rattle.members.proofs.signatures.property_signatures.Reads as property-signatures-reads
 
 -- src/properties.rt:203:9
 name-in-requires : tie.Need-name-in-requires
@@ -22,7 +22,7 @@ is-there-requires c κs = search needs
 
 -- src/properties.rt:207:9
 returns : tie.Need-returns
-returns c = property-dropped (lent (c .before .before .before .before .before .before .before .before .before .before .before .before .before .before .args .payload .now) (c .before .before .before .before .before .before .before .before .before .before .before .before .before .before .args .d2 .now) (c .before .before .before .before .before .before .before .before .before .before .before .before .before .before .args .ends .now) (c .before .before .before .before .before .before .before .before .before .before .before .before .before .before .args .starts .now) (c .before .before .before .before .before .before .before .before .before .before .before .before .before .before .args .stops .now) (c .before .before .before .before .before .before .before .before .before .before .before .before .before .before .args .firsts .now) (c .before .before .before .before .before .before .before .before .before .before .before .before .before .before .args .entry-starts .now) (c .before .before .before .before .before .before .before .before .before .before .before .before .before .before .args .entry-ends .now) (c .before .before .before .before .before .before .before .before .before .before .before .before .before .before .args .tables)) (c .before .before .before .before .before .before .before .before .before .before .before .before .before .before .args .msg .now) (c .before .before .before .before .before .before .before .before .before .before .before .before .before .before .args .base) (c .before .before .before .before .before .before .before .before .before .before .before .before .before .before .args .state) (c .before .before .name-in .result) (λ s o m k l. c .before .before .name-in .ensures (c .before .before .before .before .before .before .before .before .before .before .before .before .before .before .args .d2 .now) s (o .names) m k l) (c .before .is-there .ensures (c .before .before .before .before .before .before .before .before .before .before .before .before .before .before .args .payload .now) (c .before .before .before .before .before .before .before .before .before .before .before .before .before .before .args .d2 .now) ∙ not-true _ (c .if1 .taken))
+returns c = property-dropped (lent (c .before .before .before .before .before .before .before .before .before .before .args .payload .now) (c .before .before .before .before .before .before .before .before .before .before .args .d2 .now) (c .before .before .before .before .before .before .before .before .before .before .args .ends .now) (c .before .before .before .before .before .before .before .before .before .before .args .notes .now) (c .before .before .before .before .before .before .before .before .before .before .args .tables)) (c .before .before .before .before .before .before .before .before .before .before .args .msg .now) (c .before .before .before .before .before .before .before .before .before .before .args .base) (c .before .before .before .before .before .before .before .before .before .before .args .state) (c .before .before .name-in .result) (λ s o m k l. c .before .before .name-in .ensures (c .before .before .before .before .before .before .before .before .before .before .args .d2 .now) s (o .names) m k l) (c .before .is-there .ensures (c .before .before .before .before .before .before .before .before .before .before .args .payload .now) (c .before .before .before .before .before .before .before .before .before .before .args .d2 .now) ∙ not-true _ (c .if1 .taken))
 
 -- src/properties.rt:209:9
 property-signatures-requires : tie.Need-property-signatures-requires
@@ -38,11 +38,11 @@ enum-known-signed-2 c = search needs
 
 -- src/properties.rt:214:44
 named-property-requires : tie.Need-named-property-requires
-named-property-requires c κs = c .before .before .before .before .before .before .before .before .before .before .before .before .before .before .before .before .before .before .before .before .pre
+named-property-requires c κs = c .before .before .before .before .before .before .before .before .before .before .before .before .before .before .before .before .pre
 
 -- src/properties.rt:183:1
 returns-2 : tie.Need-returns-2
-returns-2 c = property-unsigned (lent (c .before .before .before .before .before .before .before .before .before .before .before .before .before .before .before .before .before .before .args .payload .now) (c .before .before .before .before .before .before .before .before .before .before .before .before .before .before .before .before .before .before .args .d2 .now) (c .before .before .before .before .before .before .before .before .before .before .before .before .before .before .before .before .before .before .args .ends .now) (c .before .before .before .before .before .before .before .before .before .before .before .before .before .before .before .before .before .before .args .starts .now) (c .before .before .before .before .before .before .before .before .before .before .before .before .before .before .before .before .before .before .args .stops .now) (c .before .before .before .before .before .before .before .before .before .before .before .before .before .before .before .before .before .before .args .firsts .now) (c .before .before .before .before .before .before .before .before .before .before .before .before .before .before .before .before .before .before .args .entry-starts .now) (c .before .before .before .before .before .before .before .before .before .before .before .before .before .before .before .before .before .before .args .entry-ends .now) (c .before .before .before .before .before .before .before .before .before .before .before .before .before .before .before .before .before .before .args .tables)) (c .before .before .before .before .before .before .before .before .before .before .before .before .before .before .before .before .before .before .args .msg .now) (c .before .before .before .before .before .before .before .before .before .before .before .before .before .before .before .before .before .before .args .base) (c .before .before .before .before .before .before .before .before .before .before .before .before .before .before .before .before .before .before .args .state) (c .before .before .before .before .before .before .name-in .result) (λ s o m k l. c .before .before .before .before .before .before .name-in .ensures (c .before .before .before .before .before .before .before .before .before .before .before .before .before .before .before .before .before .before .args .d2 .now) s (o .names) m k l) (c .before .before .before .before .before .is-there .ensures (c .before .before .before .before .before .before .before .before .before .before .before .before .before .before .before .before .before .before .args .payload .now) (c .before .before .before .before .before .before .before .before .before .before .before .before .before .before .before .before .before .before .args .d2 .now) ∙ not-false _ (c .before .before .before .before .if1 .left)) (λ s o m k. c .before .before .before .property-signatures .ensures (c .before .before .before .before .before .before .before .before .before .before .before .before .before .before .before .before .before .before .args .d2 .now) s (o .names) m k) (c .before .signed .given .1)
+returns-2 c = property-unsigned (lent (c .before .before .before .before .before .before .before .before .before .before .before .before .before .before .args .payload .now) (c .before .before .before .before .before .before .before .before .before .before .before .before .before .before .args .d2 .now) (c .before .before .before .before .before .before .before .before .before .before .before .before .before .before .args .ends .now) (c .before .before .before .before .before .before .before .before .before .before .before .before .before .before .args .notes .now) (c .before .before .before .before .before .before .before .before .before .before .before .before .before .before .args .tables)) (c .before .before .before .before .before .before .before .before .before .before .before .before .before .before .args .msg .now) (c .before .before .before .before .before .before .before .before .before .before .before .before .before .before .args .base) (c .before .before .before .before .before .before .before .before .before .before .before .before .before .before .args .state) (c .before .before .before .before .before .before .name-in .result) (λ s o m k l. c .before .before .before .before .before .before .name-in .ensures (c .before .before .before .before .before .before .before .before .before .before .before .before .before .before .args .d2 .now) s (o .names) m k l) (c .before .before .before .before .before .is-there .ensures (c .before .before .before .before .before .before .before .before .before .before .before .before .before .before .args .payload .now) (c .before .before .before .before .before .before .before .before .before .before .before .before .before .before .args .d2 .now) ∙ not-false _ (c .before .before .before .before .if1 .left)) (λ s o m k. c .before .before .before .property-signatures .ensures (c .before .before .before .before .before .before .before .before .before .before .before .before .before .before .args .d2 .now) s (o .names) m k) (c .before .signed .given .1)
 
 -- src/properties.rt:183:1
 same-length : tie.Need-same-length
@@ -54,7 +54,7 @@ same-length-2 c = search needs
 
 -- src/properties.rt:183:1
 returns-3 : tie.Need-returns-3
-returns-3 c = property-named (lent (c .before .before .before .before .before .before .before .before .before .before .before .before .before .before .before .before .before .before .before .before .before .before .before .before .before .args .payload .now) (c .before .before .before .before .before .before .before .before .before .before .before .before .before .before .before .before .before .before .before .before .before .before .before .before .before .args .d2 .now) (c .before .before .before .before .before .before .before .before .before .before .before .before .before .before .before .before .before .before .before .before .before .before .before .before .before .args .ends .now) (c .before .before .before .before .before .before .before .before .before .before .before .before .before .before .before .before .before .before .before .before .before .before .before .before .before .args .starts .now) (c .before .before .before .before .before .before .before .before .before .before .before .before .before .before .before .before .before .before .before .before .before .before .before .before .before .args .stops .now) (c .before .before .before .before .before .before .before .before .before .before .before .before .before .before .before .before .before .before .before .before .before .before .before .before .before .args .firsts .now) (c .before .before .before .before .before .before .before .before .before .before .before .before .before .before .before .before .before .before .before .before .before .before .before .before .before .args .entry-starts .now) (c .before .before .before .before .before .before .before .before .before .before .before .before .before .before .before .before .before .before .before .before .before .before .before .before .before .args .entry-ends .now) (c .before .before .before .before .before .before .before .before .before .before .before .before .before .before .before .before .before .before .before .before .before .before .before .before .before .args .tables)) (c .before .before .before .before .before .before .before .before .before .before .before .before .before .before .before .before .before .before .before .before .before .before .before .before .before .args .msg .now) (c .before .before .before .before .before .before .before .before .before .before .before .before .before .before .before .before .before .before .before .before .before .before .before .before .before .args .base) (c .before .before .before .before .before .before .before .before .before .before .before .before .before .before .before .before .before .before .before .before .before .before .before .before .before .args .state) (c .before .before .before .before .before .before .before .before .before .before .before .before .before .name-in .result) (λ s o m k l. c .before .before .before .before .before .before .before .before .before .before .before .before .before .name-in .ensures (c .before .before .before .before .before .before .before .before .before .before .before .before .before .before .before .before .before .before .before .before .before .before .before .before .before .args .d2 .now) s (o .names) m k l) (c .before .before .before .before .before .before .before .before .before .before .before .before .is-there .ensures (c .before .before .before .before .before .before .before .before .before .before .before .before .before .before .before .before .before .before .before .before .before .before .before .before .before .args .payload .now) (c .before .before .before .before .before .before .before .before .before .before .before .before .before .before .before .before .before .before .before .before .before .before .before .before .before .args .d2 .now) ∙ not-false _ (c .before .before .before .before .before .before .before .before .before .before .before .if1 .left)) (λ s o m k. c .before .before .before .before .before .before .before .before .before .before .property-signatures .ensures (c .before .before .before .before .before .before .before .before .before .before .before .before .before .before .before .before .before .before .before .before .before .before .before .before .before .args .d2 .now) s (o .names) m k) (c .before .before .before .before .before .before .before .before .signed2 .given .1) (c .before .before .before .before .named-property .ensures)
+returns-3 c = property-named (lent (c .before .before .before .before .before .before .before .before .before .before .before .before .before .before .before .before .before .before .before .before .before .args .payload .now) (c .before .before .before .before .before .before .before .before .before .before .before .before .before .before .before .before .before .before .before .before .before .args .d2 .now) (c .before .before .before .before .before .before .before .before .before .before .before .before .before .before .before .before .before .before .before .before .before .args .ends .now) (c .before .before .before .before .before .before .before .before .before .before .before .before .before .before .before .before .before .before .before .before .before .args .notes .now) (c .before .before .before .before .before .before .before .before .before .before .before .before .before .before .before .before .before .before .before .before .before .args .tables)) (c .before .before .before .before .before .before .before .before .before .before .before .before .before .before .before .before .before .before .before .before .before .args .msg .now) (c .before .before .before .before .before .before .before .before .before .before .before .before .before .before .before .before .before .before .before .before .before .args .base) (c .before .before .before .before .before .before .before .before .before .before .before .before .before .before .before .before .before .before .before .before .before .args .state) (c .before .before .before .before .before .before .before .before .before .before .before .before .before .name-in .result) (λ s o m k l. c .before .before .before .before .before .before .before .before .before .before .before .before .before .name-in .ensures (c .before .before .before .before .before .before .before .before .before .before .before .before .before .before .before .before .before .before .before .before .before .args .d2 .now) s (o .names) m k l) (c .before .before .before .before .before .before .before .before .before .before .before .before .is-there .ensures (c .before .before .before .before .before .before .before .before .before .before .before .before .before .before .before .before .before .before .before .before .before .args .payload .now) (c .before .before .before .before .before .before .before .before .before .before .before .before .before .before .before .before .before .before .before .before .before .args .d2 .now) ∙ not-false _ (c .before .before .before .before .before .before .before .before .before .before .before .if1 .left)) (λ s o m k. c .before .before .before .before .before .before .before .before .before .before .property-signatures .ensures (c .before .before .before .before .before .before .before .before .before .before .before .before .before .before .before .before .before .before .before .before .before .args .d2 .now) s (o .names) m k) (c .before .before .before .before .before .before .before .before .signed2 .given .1) (c .before .before .before .before .named-property .ensures)
 
 pub property-in-spec : {M : Type 1} → statement M
 property-in-spec =

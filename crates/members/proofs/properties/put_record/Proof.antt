@@ -4,11 +4,11 @@ use Rattle.members.proofs.properties.put_record.Statement.{statement}
 use Rattle.members.proofs.properties.put_record.Tie as tie
 use Rattle.members.proofs.properties.put_record.Reads as reads
 use Rattle.members.proofs.properties.put_record.Lts as lts
-use Rattle.signatures.proofs.receiver.has_receiver.Reads as has-receiver-reads
-use Rattle.signatures.proofs.flags.flags_in.Reads as flags-in-reads
+use Rattle.schema.proofs.receiver.has_receiver.Reads as has-receiver-reads
+use Rattle.schema.proofs.flags.flags_in.Reads as flags-in-reads
 use Rattle.members.proofs.properties.is_default.Reads as is-default-reads
-use Rattle.rows.proofs.put_property.Reads as put-property-reads
-use Rattle.signatures.proofs.signatures.Signed.names.Reads as names-reads
+use Rattle.declaration_rows.proofs.put_property.Reads as put-property-reads
+use Rattle.members.proofs.signatures.Signed.names.Reads as names-reads
 
 -- src/properties.rt:77:9
 flags-in-requires : tie.Need-flags-in-requires
@@ -36,7 +36,7 @@ names-requires-2 c κs = search needs
 
 -- src/properties.rt:84:5
 put-property-requires : tie.Need-put-property-requires
-put-property-requires c κs = c .before .before .before .before .before .before .before .before .before .before .before .before .before .before .pre
+put-property-requires c κs = c .before .before .before .before .before .before .before .before .before .before .before .before .before .before .before .before .pre
 
 -- src/properties.rt:63:1
 same-length : tie.Need-same-length
@@ -48,7 +48,7 @@ same-length-2 c = search needs
 
 -- src/properties.rt:63:1
 returns : tie.Need-returns
-returns c = record-told (c .before .before .before .before .before .before .before .before .before .before .before .before .before .before .before .before .before .before .before .args .payload .now) (c .before .before .before .before .before .before .before .before .before .before .before .before .before .before .before .before .before .before .before .args .d2 .now) (c .before .before .before .before .before .before .before .before .before .before .before .before .before .before .before .before .before .before .before .args .msg .now) (c .before .before .before .before .before .before .before .before .before .before .before .before .before .before .before .before .before .before .before .args .base) (c .before .before .before .before .before .before .before .before .before .before .before .before .before .before .before .before .before .before .before .args .name) (c .before .before .before .before .before .before .before .before .before .before .before .before .before .before .before .before .before .before .before .args .names) (c .before .before .before .before .before .before .before .before .before .before .before .before .before .before .before .before .before .before .before .pre) (c .before .before .before .before .before .before .before .before .names .result) (c .before .before .before .before .before .before .before .names2 .result) (c .before .before .before .before .before .before .before .before .before .before .before .before .before .flags-in .ensures) (c .before .before .before .before .before .before .before .before .before .before .before .before .has-receiver .ensures) (c .before .before .before .before .before .before .before .before .before .before .before .is-default .ensures) (c .before .before .before .before .before .before .before .before .before .before .is-default2 .ensures) (c .before .before .before .before .before .before .before .before .names .ensures) (c .before .before .before .before .before .before .before .names2 .ensures) (c .before .before .before .before .put-property .ensures)
+returns c = record-told (c .before .before .before .before .before .before .before .before .before .before .before .before .before .before .before .before .before .before .before .before .before .args .payload .now) (c .before .before .before .before .before .before .before .before .before .before .before .before .before .before .before .before .before .before .before .before .before .args .d2 .now) (c .before .before .before .before .before .before .before .before .before .before .before .before .before .before .before .before .before .before .before .before .before .args .msg .now) (c .before .before .before .before .before .before .before .before .before .before .before .before .before .before .before .before .before .before .before .before .before .args .base) (c .before .before .before .before .before .before .before .before .before .before .before .before .before .before .before .before .before .before .before .before .before .args .own .name) (c .before .before .before .before .before .before .before .before .before .before .before .before .before .before .before .before .before .before .before .before .before .args .own .names) (c .before .before .before .before .before .before .before .before .before .before .before .before .before .before .before .before .before .before .before .before .before .pre) (c .before .before .before .before .before .before .before .before .names2 .result) (c .before .before .before .before .before .before .before .names3 .result) (c .before .before .before .before .before .before .before .before .before .before .before .before .before .before .before .flags-in .ensures) (c .before .before .before .before .before .before .before .before .before .before .before .before .before .before .has-receiver .ensures) (c .before .before .before .before .before .before .before .before .before .before .before .before .before .is-default .ensures) (c .before .before .before .before .before .before .before .before .before .before .before .before .is-default2 .ensures) (c .before .before .before .before .before .before .before .before .names2 .ensures) (c .before .before .before .before .before .before .before .names3 .ensures) (c .before .before .before .before .put-property .ensures)
 
 pub put-record-spec : {M : Type 1} → statement M
 put-record-spec =

@@ -27,7 +27,7 @@ absent-requires c κs = search needs
 -- src/name.rt:54:9
 returns : tie.Need-returns
 unfolding classNameIn
-returns c = λ s o k m e l. looked-none (qualifiedName (s .names)) e l (c .before .enum-told .given .1) (absent-name (c .before .before .before .before .before .before .before .before .before .args .payload .now) (c .before .before .before .before .before .before .before .before .before .args .d2 .now) (c .absent .result) (ap (λ (n : Name). n .source) (c .absent .ensures)))
+returns c = λ s o k m e l. looked-none (qualifiedName (s .names)) e l (c .before .enum-told .given .1) (absent-name (c .before .before .before .before .before .before .before .args .payload .now) (c .before .before .before .before .before .before .before .args .d2 .now) (c .absent .result) (ap (λ (n : Name). n .source) (c .absent .ensures)))
 
 -- src/name.rt:56:5
 qualified-name-requires : tie.Need-qualified-name-requires

@@ -16,7 +16,7 @@ class-name-at-requires c κs = search needs
 
 -- src/name.rt:60:1
 returns : tie.Need-returns
-returns c = λ s o m k l. c .class-name-at .ensures s o (c .before .before .before .before .before .before .before .before .before .args .number) m (c .before .index .ensures m k) l
+returns c = λ s o m k l. c .class-name-at .ensures s o (c .before .before .before .before .before .before .before .args .number) m (c .before .index .ensures m k) l
 
 pub class-name-in-spec : {M : Type 1} → statement M
 class-name-in-spec = tie.close (tie.spec index-requires class-name-at-requires returns)

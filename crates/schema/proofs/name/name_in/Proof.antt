@@ -32,7 +32,7 @@ absent-requires c κs = search needs
 -- src/name.rt:40:9
 returns : tie.Need-returns
 unfolding nameIn
-returns c = λ units s o m k l. looked-none (string (s .names)) (c .before .before .before .index .ensures m k) l (c .before .enum-told .given .1) (absent-name (c .before .before .before .before .before .before .before .before .before .before .args .payload .now) units (c .absent .result) (ap (λ (n : Name). n .source) (c .absent .ensures)))
+returns c = λ units s o m k l. looked-none (string (s .names)) (c .before .before .before .index .ensures m k) l (c .before .enum-told .given .1) (absent-name (c .before .before .before .before .before .before .before .before .args .payload .now) units (c .absent .result) (ap (λ (n : Name). n .source) (c .absent .ensures)))
 
 -- src/name.rt:42:5
 string-requires : tie.Need-string-requires

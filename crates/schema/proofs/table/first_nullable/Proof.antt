@@ -1,6 +1,6 @@
 use native.Mathlib.Omega.{arith}
+use Rattle.fields.specs.Fields.{TypeTable·first-nullable}
 use Rattle.wire.specs.Messages.{index}
-use Rattle.schema.specs.Fields.{TypeTable·first-nullable}
 use Rattle.schema.proofs.TableLaws.{first-none, first-some}
 use borrow.Author.Needs.{needs}
 use Rattle.schema.proofs.table.first_nullable.Statement.{statement}

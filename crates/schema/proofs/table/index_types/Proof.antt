@@ -42,15 +42,15 @@ enum-known-table c = search needs
 
 -- src/table.rt:132:64
 add-note-table : tie.Need-add-note-table
-add-note-table c = let h = table-place (c .before .before .before .before .before .before .before .before .before .before .args .payload .now) (c .before .before .before .before .before .before .before .before .before .before .args .at) (c .before .before .before .before .before .before .before .before .before .before .args .number) (c .before .before .before .message .ensures) (c .before .table .given .1) in omega arith
+add-note-table c = let h = table-place (c .before .before .before .before .before .before .before .before .before .args .payload .now) (c .before .before .before .before .before .before .before .before .before .args .at) (c .before .before .before .before .before .before .before .before .before .args .number) (c .before .before .before .message .ensures) (c .before .table .given .1) in omega arith
 
 -- src/table.rt:132:76
 add-note-table-2 : tie.Need-add-note-table-2
-add-note-table-2 c = let h = table-place (c .before .before .before .before .before .before .before .before .before .before .args .payload .now) (c .before .before .before .before .before .before .before .before .before .before .args .at) (c .before .before .before .before .before .before .before .before .before .before .args .number) (c .before .before .before .message .ensures) (c .before .table .given .1) in omega arith
+add-note-table-2 c = let h = table-place (c .before .before .before .before .before .before .before .before .before .args .payload .now) (c .before .before .before .before .before .before .before .before .before .args .at) (c .before .before .before .before .before .before .before .before .before .args .number) (c .before .before .before .message .ensures) (c .before .table .given .1) in omega arith
 
 -- src/table.rt:132:44
 note-table-requires : tie.Need-note-table-requires
-note-table-requires c κs = let h = table-place (c .before .before .before .before .before .before .before .before .before .before .before .before .args .payload .now) (c .before .before .before .before .before .before .before .before .before .before .before .before .args .at) (c .before .before .before .before .before .before .before .before .before .before .before .before .args .number) (c .before .before .before .before .before .message .ensures) (c .before .before .before .table .given .1) in (omega arith, omega arith, omega arith)
+note-table-requires c κs = let h = table-place (c .before .before .before .before .before .before .before .before .before .before .args .payload .now) (c .before .before .before .before .before .before .before .before .before .before .args .at) (c .before .before .before .before .before .before .before .before .before .before .args .number) (c .before .before .before .before .message .ensures) (c .before .before .table .given .1) in (omega arith, omega arith, omega arith)
 
 -- src/table.rt:133:29
 enum-known-table-2 : tie.Need-enum-known-table-2
@@ -65,20 +65,16 @@ same-length : tie.Need-same-length
 same-length c = search needs
 
 -- src/table.rt:115:1
-same-length-2 : tie.Need-same-length-2
-same-length-2 c = search needs
-
--- src/table.rt:115:1
 returns-3 : tie.Need-returns-3
-returns-3 c = λ m k. index-inline (c .before .before .before .before .before .before .before .before .before .before .before .before .before .before .before .before .before .args .payload .now) (c .before .before .before .before .before .before .before .before .before .before .before .before .before .before .before .before .before .args .at) (c .before .before .before .before .before .before .before .before .before .before .before .before .before .before .before .before .before .args .number) (c .before .before .before .before .note-table .last .1 .1 .1 .0) (c .before .before .before .before .note-table .last .1 .1 .1 .1 .0) m k (c .before .before .before .before .before .before .before .before .before .before .message .ensures) (c .before .before .before .before .before .before .before .before .table .given .1) (c .before .before .before .before .note-table .result) (c .before .before .before .before .note-table .ensures)
+returns-3 c = λ m k. index-inline (c .before .before .before .before .before .before .before .before .before .before .before .before .before .args .payload .now) (c .before .before .before .before .before .before .before .before .before .before .before .before .before .args .at) (c .before .before .before .before .before .before .before .before .before .before .before .before .before .args .number) (c .before .before .note-table .last .1 .1 .1 .0) m k (c .before .before .before .before .before .before .before .message .ensures) (c .before .before .before .before .before .table .given .1) (c .before .before .note-table .result) (c .before .before .note-table .ensures)
 
 -- src/table.rt:115:1
 returns-4 : tie.Need-returns-4
-returns-4 c = λ m k. index-refused (c .before .before .before .before .before .before .before .before .before .before .args .payload .now) (c .before .before .before .before .before .before .before .before .before .before .args .at) (c .before .before .before .before .before .before .before .before .before .before .args .number) (c .before .before .before .before .before .before .before .before .before .before .args .starts .now) (c .before .before .before .before .before .before .before .before .before .before .args .ends .now) m k (c .before .before .before .message .ensures) (c .before .table2 .given .1)
+returns-4 c = λ m k. index-refused (c .before .before .before .before .before .before .before .before .before .args .payload .now) (c .before .before .before .before .before .before .before .before .before .args .at) (c .before .before .before .before .before .before .before .before .before .args .number) (c .before .before .before .before .before .before .before .before .before .args .notes .now) m k (c .before .before .before .message .ensures) (c .before .table2 .given .1)
 
 -- src/table.rt:115:1
 returns-5 : tie.Need-returns-5
-returns-5 c = λ m k. index-none (c .before .before .before .before .before .before .before .before .before .args .payload .now) (c .before .before .before .before .before .before .before .before .before .args .at) (c .before .before .before .before .before .before .before .before .before .args .number) (c .before .before .before .before .before .before .before .before .before .args .starts .now) (c .before .before .before .before .before .before .before .before .before .args .ends .now) m k (c .before .before .message .ensures) (c .enum-told .given .1)
+returns-5 c = λ m k. index-none (c .before .before .before .before .before .before .before .before .args .payload .now) (c .before .before .before .before .before .before .before .before .args .at) (c .before .before .before .before .before .before .before .before .args .number) (c .before .before .before .before .before .before .before .before .args .notes .now) m k (c .before .before .message .ensures) (c .enum-told .given .1)
 
 pub index-types-spec : {M : Type 1} → statement M
 index-types-spec =
@@ -98,7 +94,6 @@ index-types-spec =
     enum-known-table-2
     enum-told
     same-length
-    same-length-2
     returns-3
     returns-4
     returns-5)

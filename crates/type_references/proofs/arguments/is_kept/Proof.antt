@@ -22,11 +22,11 @@ enum-told-2 c = search needs
 
 -- src/arguments.rt:68:9
 returns : tie.Need-returns
-returns c = kept-inline (c .before .before .before .before .before .before .before .args .payload .now) (c .before .before .before .before .before .before .before .args .entry-starts .now) (c .before .before .before .before .before .before .before .args .entry-ends .now) (c .before .before .before .before .before .before .before .args .tables) (c .before .before .before .before .before .before .before .args .msg .now) (c .before .before .before .before .before .before .before .args .base) (c .before .before .before .before .before .before .before .args .left) (c .before .before .bytes .ensures) (c .enum-told2 .given .1)
+returns c = kept-inline (c .before .before .before .before .before .before .args .payload .now) (c .before .before .before .before .before .before .args .notes .now) (c .before .before .before .before .before .before .args .tables) (c .before .before .before .before .before .before .args .msg .now) (c .before .before .before .before .before .before .args .base) (c .before .before .before .before .before .before .args .left) (c .before .before .bytes .ensures) (c .enum-told2 .given .1)
 
 -- src/arguments.rt:71:9
 returns-2 : tie.Need-returns-2
-returns-2 c = kept-deep (c .before .before .before .before .before .before .before .before .args .payload .now) (c .before .before .before .before .before .before .before .before .args .entry-starts .now) (c .before .before .before .before .before .before .before .before .args .entry-ends .now) (c .before .before .before .before .before .before .before .before .args .tables) (c .before .before .before .before .before .before .before .before .args .msg .now) (c .before .before .before .before .before .before .before .before .args .base) (c .before .before .before .before .before .before .before .before .args .left) (c .before .before .before .bytes .ensures) (c .before .enum-told .given .1) (c .if1 .taken)
+returns-2 c = kept-deep (c .before .before .before .before .before .before .before .args .payload .now) (c .before .before .before .before .before .before .before .args .notes .now) (c .before .before .before .before .before .before .before .args .tables) (c .before .before .before .before .before .before .before .args .msg .now) (c .before .before .before .before .before .before .before .args .base) (c .before .before .before .before .before .before .before .args .left) (c .before .before .before .bytes .ensures) (c .before .enum-told .given .1) (c .if1 .taken)
 
 -- src/arguments.rt:73:9
 index-requires : tie.Need-index-requires
@@ -42,7 +42,7 @@ enum-told-3 c = search needs
 
 -- src/arguments.rt:75:9
 returns-3 : tie.Need-returns-3
-returns-3 c = kept-nowhere (c .before .before .before .before .before .before .before .before .before .before .before .args .payload .now) (c .before .before .before .before .before .before .before .before .before .before .before .args .entry-starts .now) (c .before .before .before .before .before .before .before .before .before .before .before .args .entry-ends .now) (c .before .before .before .before .before .before .before .before .before .before .before .args .tables) (c .before .before .before .before .before .before .before .before .before .before .before .args .msg .now) (c .before .before .before .before .before .before .before .before .before .before .before .args .base) (c .before .before .before .before .before .before .before .before .before .before .before .args .left) (c .before .before .before .before .before .before .bytes .ensures) (c .before .before .before .before .enum-told .given .1) (c .before .before .index .ensures) (c .enum-told3 .given .1)
+returns-3 c = kept-nowhere (c .before .before .before .before .before .before .before .before .before .before .args .payload .now) (c .before .before .before .before .before .before .before .before .before .before .args .notes .now) (c .before .before .before .before .before .before .before .before .before .before .args .tables) (c .before .before .before .before .before .before .before .before .before .before .args .msg .now) (c .before .before .before .before .before .before .before .before .before .before .args .base) (c .before .before .before .before .before .before .before .before .before .before .args .left) (c .before .before .before .before .before .before .bytes .ensures) (c .before .before .before .before .enum-told .given .1) (c .before .before .index .ensures) (c .enum-told3 .given .1)
 
 -- src/arguments.rt:77:9
 entry-at-requires : tie.Need-entry-at-requires
@@ -57,11 +57,11 @@ enum-told-5 c = search needs
 
 -- src/arguments.rt:79:9
 returns-4 : tie.Need-returns-4
-returns-4 c = kept-entry (c .before .before .before .before .before .before .before .before .before .before .before .before .before .before .before .args .payload .now) (c .before .before .before .before .before .before .before .before .before .before .before .before .before .before .before .args .entry-starts .now) (c .before .before .before .before .before .before .before .before .before .before .before .before .before .before .before .args .entry-ends .now) (c .before .before .before .before .before .before .before .before .before .before .before .before .before .before .before .args .tables) (c .before .before .before .before .before .before .before .before .before .before .before .before .before .before .before .args .msg .now) (c .before .before .before .before .before .before .before .before .before .before .before .before .before .before .before .args .base) (c .before .before .before .before .before .before .before .before .before .before .before .before .before .before .before .args .left) (c .before .before .before .before .before .before .before .before .before .before .bytes .ensures) (c .before .before .before .before .before .before .before .before .enum-told .given .1) (c .before .before .before .before .before .before .index .ensures) (c .before .before .before .before .found .given .1) (c .before .before .entry-at .ensures) (c .before .before .before .before .before .before .before .if1 .left) (omega arith) (c .enum-told5 .given .1)
+returns-4 c = kept-entry (c .before .before .before .before .before .before .before .before .before .before .before .before .before .before .args .payload .now) (c .before .before .before .before .before .before .before .before .before .before .before .before .before .before .args .notes .now) (c .before .before .before .before .before .before .before .before .before .before .before .before .before .before .args .tables) (c .before .before .before .before .before .before .before .before .before .before .before .before .before .before .args .msg .now) (c .before .before .before .before .before .before .before .before .before .before .before .before .before .before .args .base) (c .before .before .before .before .before .before .before .before .before .before .before .before .before .before .args .left) (c .before .before .before .before .before .before .before .before .before .before .bytes .ensures) (c .before .before .before .before .before .before .before .before .enum-told .given .1) (c .before .before .before .before .before .before .index .ensures) (c .before .before .before .before .found .given .1) (c .before .before .entry-at .ensures) (c .before .before .before .before .before .before .before .if1 .left) (omega arith) (c .enum-told5 .given .1)
 
 -- src/arguments.rt:55:1
 returns-5 : tie.Need-returns-5
-returns-5 c = kept-past (c .before .before .before .before .before .before .before .before .before .before .before .before .before .before .before .args .payload .now) (c .before .before .before .before .before .before .before .before .before .before .before .before .before .before .before .args .entry-starts .now) (c .before .before .before .before .before .before .before .before .before .before .before .before .before .before .before .args .entry-ends .now) (c .before .before .before .before .before .before .before .before .before .before .before .before .before .before .before .args .tables) (c .before .before .before .before .before .before .before .before .before .before .before .before .before .before .before .args .msg .now) (c .before .before .before .before .before .before .before .before .before .before .before .before .before .before .before .args .base) (c .before .before .before .before .before .before .before .before .before .before .before .before .before .before .before .args .left) (c .before .before .before .before .before .before .before .before .before .before .bytes .ensures) (c .before .before .before .before .before .before .before .before .enum-told .given .1) (c .before .before .before .before .before .before .index .ensures) (c .before .before .before .before .found .given .1) (c .before .before .entry-at .ensures) (c .enum-told4 .given .1)
+returns-5 c = kept-past (c .before .before .before .before .before .before .before .before .before .before .before .before .before .before .args .payload .now) (c .before .before .before .before .before .before .before .before .before .before .before .before .before .before .args .notes .now) (c .before .before .before .before .before .before .before .before .before .before .before .before .before .before .args .tables) (c .before .before .before .before .before .before .before .before .before .before .before .before .before .before .args .msg .now) (c .before .before .before .before .before .before .before .before .before .before .before .before .before .before .args .base) (c .before .before .before .before .before .before .before .before .before .before .before .before .before .before .args .left) (c .before .before .before .before .before .before .before .before .before .before .bytes .ensures) (c .before .before .before .before .before .before .before .before .enum-told .given .1) (c .before .before .before .before .before .before .index .ensures) (c .before .before .before .before .found .given .1) (c .before .before .entry-at .ensures) (c .enum-told4 .given .1)
 
 pub is-kept-spec : {M : Type 1} → statement M
 is-kept-spec =

@@ -1,14 +1,14 @@
 use native.Mathlib.Omega.{arith}
 use Rattle.names.specs.Name.{nameText}
-use Rattle.rows.specs.Rows.{named}
-use Rattle.rows.proofs.WrittenLaws.{cell-sheet}
+use Rattle.declaration_rows.specs.Rows.{named}
+use Rattle.declaration_rows.proofs.WrittenLaws.{cell-sheet}
 use Rattle.type_references.proofs.EnterLaws.{type-put}
 use borrow.Author.Needs.{needs}
 use Rattle.type_references.proofs.enter.put_type.Statement.{statement}
 use Rattle.type_references.proofs.enter.put_type.Tie as tie
 use Rattle.type_references.proofs.enter.put_type.Reads as reads
 use Rattle.type_references.proofs.enter.put_type.Lts as lts
-use Rattle.rows.proofs.put_named.Reads as put-named-reads
+use Rattle.declaration_rows.proofs.put_named.Reads as put-named-reads
 use Rattle.sheet.proofs.put.Reads as put-reads
 use Rattle.sheet.proofs.put_bit.Reads as put-bit-reads
 use Rattle.sheet.proofs.put_number.Reads as put-number-reads

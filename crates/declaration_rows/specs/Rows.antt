@@ -1,0 +1,76 @@
+-- The rows of what is declared, each owner before what it owns, up to the default descriptors that close constructors and functions.
+-- Assumes nothing.
+use mathlib.Core.Bool.{Bool}
+use mathlib.Core.List.{List, [], _∷_, _++_, map}
+use mathlib.Core.Option.{Option, none, some}
+use Prim.Native.Nat.{ℕ}
+use lib.ListN.{length}
+use Rattle.foundation.specs.Choices.{mapOption, concat}
+use Rattle.foundation.specs.Texts.{Text}
+use Rattle.characters.specs.Characters.{utf8}
+use Rattle.sheet.specs.Rows.{Cell, num, ref, bit, Row, row}
+use Rattle.declaration_rows.specs.Declarations.{Types, noTypes, andType, Ty, countOf, Signature, Parameter, Constructor, Function, Property}
+
+abbrev pub named : Option Text → Cell
+named name = ref (mapOption utf8 name)
+
+-- roles: 1 return or property type, 2 receiver, 3 parameter, 4 vararg element, 5 argument
+abbrev pub returnRole : ℕ
+returnRole = 1
+
+abbrev pub receiverRole : ℕ
+receiverRole = 2
+
+abbrev pub parameterRole : ℕ
+parameterRole = 3
+
+abbrev pub varargRole : ℕ
+varargRole = 4
+
+abbrev pub argumentRole : ℕ
+argumentRole = 5
+
+-- the cells of a type's record: its role, whether it is nullable, its name, and how many arguments follow it
+abbrev pub typeCells : ℕ → Bool → Option Text → ℕ → List Cell
+typeCells role nullable name count = num 1 role ∷ bit nullable ∷ named name ∷ num 2 count ∷ []
+
+-- a type's arguments follow it, depth first
+unfoldable pub typesRows : ℕ → Types → List Row
+typesRows role noTypes = []
+typesRows role (andType nullable name arguments after) =
+    row 6 (typeCells role nullable name (countOf arguments))
+    ∷ (typesRows argumentRole arguments ++ typesRows role after)
+
+abbrev pub typeRows : ℕ → Option Ty → List Row
+typeRows role none = []
+typeRows role (some t) = typesRows role (andType (t .nullable) (t .name) (t .arguments) noTypes)
+
+unfoldable pub parameterRows : Parameter → List Row
+parameterRows p =
+    row 5 (named (p .name) ∷ bit (p .declaresDefault) ∷ [])
+    ∷ (typeRows parameterRole (p .type) ++ typeRows varargRole (p .varargElement))
+
+abbrev pub parametersRows : List Parameter → List Row
+parametersRows ps = concat (map parameterRows ps)
+
+-- name and descriptor, absent together
+abbrev pub signatureCells : Option Signature → List Cell
+signatureCells s = named (mapOption (λ t. t .name) s) ∷ named (mapOption (λ t. t .descriptor) s) ∷ []
+
+unfoldable pub constructorRows : Constructor → List Row
+constructorRows c =
+    row 2 (num 8 (c .flags) ∷ (signatureCells (c .signature) ++ (num 2 (length (c .parameters)) ∷ []))) ∷ parametersRows (c .parameters)
+
+unfoldable pub functionRows : Function → List Row
+functionRows f =
+    row 3 (
+    named (some (f .name)) ∷ num 8 (f .flags)
+    ∷ (signatureCells (f .signature) ++ (bit (f .hasReceiver) ∷ num 2 (length (f .parameters)) ∷ [])))
+    ∷ (parametersRows (f .parameters) ++ (typeRows receiverRole (f .receiver) ++ typeRows returnRole (f .returned)))
+
+unfoldable pub propertyRows : Property → List Row
+propertyRows p =
+    row 4 (
+    named (some (p .name)) ∷ num 8 (p .flags) ∷ bit (p .hasReceiver) ∷ bit (p .getterIsDefault) ∷ bit (p .setterIsDefault)
+    ∷ (signatureCells (p .field) ++ (signatureCells (p .getter) ++ signatureCells (p .setter))))
+    ∷ (typeRows receiverRole (p .receiver) ++ typeRows returnRole (p .type))

@@ -1,0 +1,88 @@
+-- What look-ups in the index of the name table's records tell.
+-- Assumes nothing.
+use mathlib.Core.Path.{_≡_}
+use mathlib.Core.Bool.{true, false}
+use mathlib.Core.List.{List}
+use mathlib.Core.Option.{Option, none, some}
+use Prim.Native.Nat.{ℕ, _+_, _*_, _/_, _%_, _^_, _≤_, _<_}
+use lib.ListN.{length, getD, getElem?}
+use Rattle.foundation.specs.Results.{Res, ok, _from_}
+use Rattle.foundation.specs.Texts.{Text}
+use Rattle.wire.specs.Wire.{Message, cut}
+use Rattle.characters.specs.Characters.{partFrom}
+use Rattle.names.specs.Records.{Record, recordOf, decides, textOf, predefinedText}
+use Rattle.names.specs.Names.{recordAt, Names, string}
+use Rattle.names.specs.Name.{nameText}
+use Rattle.names.specs.Index.{startOf, endOf, Sums, IndexOf}
+use Rattle.names.specs.declared.name.Name.{Name}
+use Rattle.lookup.specs.Steps.{BytesName}
+use Rattle.lookup.specs.Note.{noted}
+use Rattle.lookup.specs.declared.Decided.{Decided}
+use Rattle.lookup.specs.declared.Decided.the-variants as decided
+use Rattle.lookup.specs.declared.steps.Extent.{Extent}
+use Rattle.lookup.specs.declared.steps.Extent.the-variants as extent
+use Rattle.lookup.specs.declared.Served.{Served}
+use Rattle.lookup.specs.declared.Served.the-variants as found
+
+abbrev pub foundIn : List Record → Served → Option Record
+foundIn records (found.Record at) = getElem? records at
+foundIn records found.Nothing = none
+
+-- one of so many records
+abbrev pub FoundBelow : ℕ → Served → Type 0
+FoundBelow count (found.Record at) = at < count
+FoundBelow count found.Nothing = Unit {0}
+
+-- the record that serves an index
+pub record FindTold (notes : List ℕ) (count index : ℕ) (r : Served) : Type 0 where
+  pub below : FoundBelow count r
+  pub is : (records : List Record) → Sums notes count records → recordAt index records ≡ foundIn records r
+
+-- the entries of record k, if they are a part of the bytes
+abbrev pub PlaceTold : List ℕ → List ℕ → ℕ → Extent → Type 0
+PlaceTold bytes notes k (extent.Part start end) =
+    (start ≡ startOf (getD notes (3 * k) 0)) × (end ≡ endOf (getD notes (3 * k) 0)) × (start ≤ end) × (end ≤ length bytes) × (start < 2 ^ 32) × (3 * k + 2 < length notes)
+PlaceTold bytes notes k extent.Nothing =
+    3 * k + 2 < length notes → startOf (getD notes (3 * k) 0) ≤ endOf (getD notes (3 * k) 0) → endOf (getD notes (3 * k) 0) ≤ length bytes → ⊥
+
+-- what a look-up comes to, by whether a record decides
+abbrev pub DecidedIs : List ℕ → List ℕ → Names → ℕ → Decided → Type 0
+DecidedIs bytes units names index (decided.Yes name) = string names index ≡ ok (nameText bytes units name)
+DecidedIs bytes units names index decided.No = string names index ≡ names .d2 index
+
+abbrev pub DecidedBytes : Decided → Type 0
+DecidedBytes (decided.Yes name) = BytesName name
+DecidedBytes decided.No = Unit {0}
+
+-- a predefined string as a name
+pub record PredefinedTold (index : ℕ) (r : Name) : Type 0 where
+  pub bytes : BytesName r
+  pub is : (payload units : List ℕ) → nameText payload units r ≡ predefinedText index
+
+-- by a record: whether it decides, and its name
+abbrev pub NamedIs : List ℕ → List ℕ → Record → Decided → Type 0
+NamedIs bytes units r (decided.Yes name) = (decides r ≡ true) × (textOf r ≡ nameText bytes units name)
+NamedIs bytes units r decided.No = decides r ≡ false
+
+-- by the record whose message stands from start to end
+pub record NamedTold (bytes : List ℕ) (start end : ℕ) (r : Decided) : Type 0 where
+  pub made : DecidedBytes r
+  pub is : (m : Message) → cut (_from_ start (partFrom start end bytes)) ≡ ok m → (units : List ℕ) → NamedIs bytes units (recordOf m) r
+
+-- What is noted of a record: whether it decides, and its name. Nothing of its message is read again.
+pub record NoteTold (bytes : List ℕ) (r : Record) (place steps : ℕ) : Type 0 where
+  pub is : (units : List ℕ) → NamedIs bytes units r (noted place steps)
+
+-- The index of a name table's records, each worked out: what it builds, and which indices it serves.
+pub record NotesOf (bytes notes : List ℕ) (count : ℕ) (records : List Record) : Type 0 where
+  pub sums : Sums notes count records
+  pub each : (k : ℕ) (r : Record) → getElem? records k ≡ some r → NoteTold bytes r (getD notes (3 * k) 0) (getD notes (3 * k + 1) 0)
+
+-- by the words of record k, if they are there
+abbrev pub WordsAt : List ℕ → ℕ → Decided → Type 0
+WordsAt notes k r = (3 * k + 2 < length notes → r ≡ noted (getD notes (3 * k) 0) (getD notes (3 * k + 1) 0)) × DecidedBytes r
+
+pub record DecidedTold (bytes notes : List ℕ) (count index : ℕ) (r : Decided) : Type 0 where
+  pub made : DecidedBytes r
+  pub is : (units : List ℕ) (records : List Record) (d2 : ℕ → Res (Option Text)) → NotesOf bytes notes count records
+      → DecidedIs bytes units (record { records = records; d2 = d2 }) index r

@@ -1,0 +1,112 @@
+use lib.ListN.{length}
+use Prim.Native.Nat.{_+_, _-_, _*_}
+use native.Mathlib.Omega.{arith}
+use Rattle.schema.specs.Members.{constructorIn}
+use Rattle.descriptors.specs.Defaults.{constructorParts}
+use Rattle.descriptors.specs.DefaultsTold.{partCost}
+use Rattle.descriptors.proofs.JoinLaws.{written-within}
+use Rattle.members.proofs.ClosedLaws.{of-constructor, close-absent, close-short, close-long, aside-fits}
+use borrow.Author.Needs.{needs}
+use Rattle.members.proofs.closed.close_constructor.Statement.{statement}
+use Rattle.members.proofs.closed.close_constructor.Tie as tie
+use Rattle.members.proofs.closed.close_constructor.Reads as reads
+use Rattle.members.proofs.closed.close_constructor.Lts as lts
+use Rattle.members.proofs.closed.put_aside.Reads as put-aside-reads
+use Rattle.descriptors.proofs.defaults.constructor_default.Reads as constructor-default-reads
+use Rattle.declaration_rows.proofs.put_default.Reads as put-default-reads
+use Rattle.declaration_rows.proofs.put_default_absent.Reads as put-default-absent-reads
+
+-- src/lib.rt:78:9
+slice-aggregate-constructor-default : tie.Need-slice-aggregate-constructor-default
+slice-aggregate-constructor-default c = search needs
+
+-- src/lib.rt:66:9
+constructor-default-requires : tie.Need-constructor-default-requires
+constructor-default-requires c κs = search needs
+
+-- src/lib.rt:81:25
+enum-known-part : tie.Need-enum-known-part
+enum-known-part c = search needs
+
+-- src/lib.rt:82:42
+enum-told : tie.Need-enum-told
+enum-told c = search needs
+
+-- src/lib.rt:82:9
+put-default-absent-requires : tie.Need-put-default-absent-requires
+put-default-absent-requires c κs = search needs
+
+-- src/lib.rt:82:9
+same-length : tie.Need-same-length
+same-length c = search needs
+
+-- src/lib.rt:82:9
+returns : tie.Need-returns
+returns c = close-absent constructorIn constructorParts (c .before .before .before .before .before .before .before .before .before .before .before .before .before .before .before .before .args .state) (of-constructor (c .before .before .before .before .before .before .before .constructor-default .ensures)) (c .before .before .before .before .enum-told .given .1) (c .before .before .put-default-absent .ensures) (c .before .before .before .before .before .before .before .before .before .before .before .before .before .before .before .before .args .text .now)
+
+-- src/lib.rt:85:26
+array-share-prefix-aside : tie.Need-array-share-prefix-aside
+array-share-prefix-aside c = search needs
+
+-- src/lib.rt:85:26
+slice-aggregate-put-aside : tie.Need-slice-aggregate-put-aside
+slice-aggregate-put-aside c = aside-fits (c .before .before .before .part .given .0 .0) 256 (c .before .before .before .before .before .before .constructor-default .last .1 .1 .1 .1 .1 .1 .1 .0) (c .before .before .before .before .before .before .constructor-default .kept .1 .1 .1 .1 .1 .1 .1 .0) (c .before .if1 .taken)
+
+-- src/lib.rt:85:9
+put-aside-requires : tie.Need-put-aside-requires
+put-aside-requires c κs = let h = aside-fits (c .before .before .before .before .before .part .given .0 .0) 256 (c .before .before .before .before .before .before .before .before .constructor-default .last .1 .1 .1 .1 .1 .1 .1 .0) (c .before .before .before .before .before .before .before .before .constructor-default .kept .1 .1 .1 .1 .1 .1 .1 .0) (c .before .before .before .if1 .taken) in omega (arith, c .before .before .before .before .before .before .before .before .before .before .before .before .before .before .before .before .before .pre .0 .room)
+
+-- src/lib.rt:85:9
+same-length-2 : tie.Need-same-length-2
+same-length-2 c = search needs
+
+-- src/lib.rt:85:9
+same-length-3 : tie.Need-same-length-3
+same-length-3 c = search needs
+
+-- src/lib.rt:85:9
+returns-2 : tie.Need-returns-2
+returns-2 c = close-short constructorIn constructorParts (c .before .before .before .before .before .before .before .before .before .before .before .before .before .before .before .before .before .before .before .before .before .before .args .state) (of-constructor (c .before .before .before .before .before .before .before .before .before .before .before .before .before .constructor-default .ensures)) (c .before .before .before .before .before .before .before .before .before .before .part .given .1) (c .before .before .before .before .before .before .before .before .if1 .taken) (c .before .before .before .before .put-aside .ensures)
+
+-- src/lib.rt:88:5
+constructor-default-requires-2 : tie.Need-constructor-default-requires-2
+constructor-default-requires-2 c κs = search needs
+
+-- src/lib.rt:103:5
+put-default-requires : tie.Need-put-default-requires
+put-default-requires c κs = let h = written-within (partCost * (4 + (c .before .before .before .before .before .before .before .before .before .before .before .before .before .before .before .before .before .before .before .args .base + length (c .before .before .before .before .before .before .before .before .before .before .before .before .before .before .before .before .before .before .before .args .msg .now) - c .before .before .before .before .before .before .before .before .before .before .before .before .before .before .before .before .before .before .before .args .base))) (c .before .before .before .before .before .before .before .before .before .before .constructor-default .ensures .within) (c .before .before .before .before .before .before .before .part .given .1) in omega (arith, c .before .before .before .before .before .before .before .before .before .before .before .before .before .before .before .before .before .before .before .pre .0 .room)
+
+-- src/lib.rt:46:1
+same-length-4 : tie.Need-same-length-4
+same-length-4 c = search needs
+
+-- src/lib.rt:46:1
+same-length-5 : tie.Need-same-length-5
+same-length-5 c = search needs
+
+-- src/lib.rt:46:1
+returns-3 : tie.Need-returns-3
+returns-3 c = close-long constructorIn constructorParts (c .before .before .before .before .before .before .before .before .before .before .before .before .before .before .before .before .before .before .before .before .before .before .args .state) (of-constructor (c .before .before .before .before .before .before .before .before .before .before .before .before .before .constructor-default .ensures)) (c .before .before .before .before .before .before .before .before .before .before .part .given .1) (c .before .before .put-default .ensures) (of-constructor (c .before .before .before .before .before .before .constructor-default2 .ensures))
+
+pub close-constructor-spec : {M : Type 1} → statement M
+close-constructor-spec =
+    tie.close
+    (tie.spec
+    slice-aggregate-constructor-default
+    constructor-default-requires
+    enum-known-part
+    enum-told
+    put-default-absent-requires
+    same-length
+    returns
+    array-share-prefix-aside
+    slice-aggregate-put-aside
+    put-aside-requires
+    same-length-2
+    same-length-3
+    returns-2
+    constructor-default-requires-2
+    put-default-requires
+    same-length-4
+    same-length-5
+    returns-3)

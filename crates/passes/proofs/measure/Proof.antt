@@ -1,0 +1,108 @@
+use Rattle.passes.proofs.PassLaws.{opened-is, opened-refused, opened-no-room, walked-done, walked-stops}
+use borrow.Author.Needs.{needs}
+use Rattle.passes.proofs.measure.Statement.{statement}
+use Rattle.passes.proofs.measure.Tie as tie
+use Rattle.passes.proofs.measure.Reads as reads
+use Rattle.passes.proofs.measure.Lts as lts
+use Rattle.declarations.proofs.payload.open_payload.Reads as open-payload-reads
+use Rattle.passes.proofs.walk.Reads as walk-reads
+
+-- src/lib.rt:102:9
+open-payload-requires : tie.Need-open-payload-requires
+open-payload-requires c κs = search needs
+
+-- src/lib.rt:104:24
+enum-known-opened : tie.Need-enum-known-opened
+enum-known-opened c = search needs
+
+-- src/lib.rt:105:17
+walk-requires : tie.Need-walk-requires
+walk-requires c κs = (c .before .before .before .before .before .before .before .before .before .before .before .before .before .before .before .before .pre, (opened-is (c .before .before .before .before .before .before .before .before .before .before .before .before .before .before .before .before .args .bytes .now) (c .before .before .before .before .before .before .before .before .open-payload .last .1 .0) (c .before .before .before .before .before .before .before .before .open-payload .result) (c .before .before .before .before .before .before .before .before .open-payload .ensures) (c .before .before .before .before .opened .given .1)))
+
+-- src/lib.rt:117:30
+enum-known-body : tie.Need-enum-known-body
+enum-known-body c = search needs
+
+-- src/lib.rt:124:33
+enum-known-body-2 : tie.Need-enum-known-body-2
+enum-known-body-2 c = search needs
+
+-- src/lib.rt:127:27
+enum-known-opened-2 : tie.Need-enum-known-opened-2
+enum-known-opened-2 c = search needs
+
+-- src/lib.rt:130:27
+enum-told : tie.Need-enum-told
+enum-told c = search needs
+
+-- src/lib.rt:90:1
+same-length : tie.Need-same-length
+same-length c = c .before .before .before .before .before .before .before .before .before .before .before .before .before .before .before .before .open-payload .kept .1 .0
+
+-- src/lib.rt:90:1
+same-length-2 : tie.Need-same-length-2
+same-length-2 c = search needs
+
+-- src/lib.rt:90:1
+same-length-3 : tie.Need-same-length-3
+same-length-3 c = search needs
+
+-- src/lib.rt:90:1
+returns : tie.Need-returns
+returns c = walked-done (c .before .before .before .before .before .before .before .before .before .before .before .before .before .before .before .before .before .before .before .before .before .before .before .before .args .kind) (c .before .before .before .before .before .before .before .before .before .before .before .before .before .before .before .before .before .before .before .before .before .before .before .before .args .bytes .now) (c .before .before .before .before .before .before .before .before .before .before .before .before .before .before .before .before .before .before .before .before .before .before .before .before .args .d2 .now) (c .before .before .before .before .before .before .before .before .before .before .before .before .before .before .before .before .before .before .before .before .before .before .before .before .args .ends .now) (c .before .before .before .before .before .before .before .before .before .before .before .before .before .before .before .before .open-payload .last .1 .0) (opened-is (c .before .before .before .before .before .before .before .before .before .before .before .before .before .before .before .before .before .before .before .before .before .before .before .before .args .bytes .now) (c .before .before .before .before .before .before .before .before .before .before .before .before .before .before .before .before .open-payload .last .1 .0) (c .before .before .before .before .before .before .before .before .before .before .before .before .before .before .before .before .open-payload .result) (c .before .before .before .before .before .before .before .before .before .before .before .before .before .before .before .before .open-payload .ensures) (c .before .before .before .before .before .before .before .before .before .before .before .before .opened .given .1)) (c .before .before .before .before .before .before .before .walk .result) (c .before .before .before .before .before .before .before .before .before .before .before .before .before .before .before .before .before .before .before .before .before .before .before .before .args .scratch-sheet .now) (c .before .before .before .before .before .before .before .walk .last .1 .1 .1 .1 .1 .1 .1 .0) (c .before .before .before .before .before .before .before .before .before .before .before .before .before .before .before .before .before .before .before .before .before .before .before .before .args .scratch-text .now) (c .before .before .before .before .before .before .before .walk .last .1 .1 .1 .1 .1 .1 .1 .1 .0) (c .before .before .before .before .before .before .before .walk .ensures) (c .before .body .given .1)
+
+-- src/lib.rt:90:1
+same-length-4 : tie.Need-same-length-4
+same-length-4 c = c .before .before .before .before .before .before .before .before .before .before .before .before .before .before .before .before .open-payload .kept .1 .0
+
+-- src/lib.rt:90:1
+same-length-5 : tie.Need-same-length-5
+same-length-5 c = search needs
+
+-- src/lib.rt:90:1
+same-length-6 : tie.Need-same-length-6
+same-length-6 c = search needs
+
+-- src/lib.rt:90:1
+returns-2 : tie.Need-returns-2
+returns-2 c = walked-stops (c .before .before .before .before .before .before .before .before .before .before .before .before .before .before .before .before .before .before .before .before .before .before .before .before .args .kind) (c .before .before .before .before .before .before .before .before .before .before .before .before .before .before .before .before .before .before .before .before .before .before .before .before .args .bytes .now) (c .before .before .before .before .before .before .before .before .before .before .before .before .before .before .before .before .before .before .before .before .before .before .before .before .args .d2 .now) (c .before .before .before .before .before .before .before .before .before .before .before .before .before .before .before .before .before .before .before .before .before .before .before .before .args .ends .now) (c .before .before .before .before .before .before .before .before .before .before .before .before .before .before .before .before .open-payload .last .1 .0) (opened-is (c .before .before .before .before .before .before .before .before .before .before .before .before .before .before .before .before .before .before .before .before .before .before .before .before .args .bytes .now) (c .before .before .before .before .before .before .before .before .before .before .before .before .before .before .before .before .open-payload .last .1 .0) (c .before .before .before .before .before .before .before .before .before .before .before .before .before .before .before .before .open-payload .result) (c .before .before .before .before .before .before .before .before .before .before .before .before .before .before .before .before .open-payload .ensures) (c .before .before .before .before .before .before .before .before .before .before .before .before .opened .given .1)) (c .before .before .before .before .before .before .before .walk .result) (c .before .before .before .before .before .before .before .before .before .before .before .before .before .before .before .before .before .before .before .before .before .before .before .before .args .scratch-sheet .now) (c .before .before .before .before .before .before .before .walk .last .1 .1 .1 .1 .1 .1 .1 .0) (c .before .before .before .before .before .before .before .before .before .before .before .before .before .before .before .before .before .before .before .before .before .before .before .before .args .scratch-text .now) (c .before .before .before .before .before .before .before .walk .last .1 .1 .1 .1 .1 .1 .1 .1 .0) (c .before .before .before .before .before .before .before .walk .ensures) (c .before .body2 .given .1)
+
+-- src/lib.rt:90:1
+same-length-7 : tie.Need-same-length-7
+same-length-7 c = search needs
+
+-- src/lib.rt:90:1
+returns-3 : tie.Need-returns-3
+returns-3 c = opened-refused (c .before .before .before .before .before .before .before .before .before .before .before .before .before .args .bytes .now) (c .before .before .before .before .before .open-payload .last .1 .0) (c .before .before .before .before .before .open-payload .result) (c .before .before .before .before .before .open-payload .ensures) (c .before .opened2 .given .1) (c .before .before .before .before .before .before .before .before .before .before .before .before .before .args .kind) (c .before .before .before .before .before .before .before .before .before .before .before .before .before .args .d2 .now) (c .before .before .before .before .before .before .before .before .before .before .before .before .before .args .ends .now)
+
+-- src/lib.rt:90:1
+same-length-8 : tie.Need-same-length-8
+same-length-8 c = search needs
+
+-- src/lib.rt:90:1
+returns-4 : tie.Need-returns-4
+returns-4 c = opened-no-room (c .before .before .before .before .before .before .before .before .before .before .before .before .args .bytes .now) (c .before .before .before .before .open-payload .last .1 .0) (c .before .before .before .before .open-payload .result) (c .before .before .before .before .open-payload .ensures) (c .enum-told .given .1)
+
+pub measure-spec : {M : Type 1} → statement M
+measure-spec =
+    tie.close
+    (tie.spec
+    open-payload-requires
+    enum-known-opened
+    walk-requires
+    enum-known-body
+    enum-known-body-2
+    enum-known-opened-2
+    enum-told
+    same-length
+    same-length-2
+    same-length-3
+    returns
+    same-length-4
+    same-length-5
+    same-length-6
+    returns-2
+    same-length-7
+    returns-3
+    same-length-8
+    returns-4)

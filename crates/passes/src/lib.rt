@@ -1,0 +1,220 @@
+// The two passes. d1 is decoded. The first pass walks the body into scratch areas, clipped, and finds refusals 7 to 10 and both lengths; only
+// then are 11 and 12 tested and the lent areas written (areas.rt). What the functions tell: specs/PassTold.antt.
+ghost use mathlib.Core.Path.{_≡_};
+ghost use Rattle.declarations.specs.Payload.{payload};
+ghost use Rattle.declarations.specs.PayloadTold.{NotesRoom, OpenedAt};
+ghost use Rattle.declarations.specs.BodyTold.{BodyTold};
+ghost use Rattle.passes.specs.AreaTold as definition;
+ghost use Rattle.passes.specs.AreaTold.{strings, InLimits};
+ghost use Rattle.passes.specs.PassTold.{FirstTold, PassedTold, FrameRoom, readingOf};
+use areas::write_in;
+use declarations::body::Body;
+use declarations::body::Sections;
+use declarations::body::body_in;
+use declarations::payload::Opened;
+use declarations::payload::open_payload;
+use encoding::Decoded;
+use encoding::decode;
+use inputs::outcome::Outcome;
+use inputs::outcome::refused;
+use inputs::outcome::stop_refusal;
+use schema::ALLOWANCE;
+use schema::Stop;
+use schema::Tables;
+use sheet::State;
+
+pub mod areas; // areas.rt: what was measured, written into both areas
+
+// What the first pass has found: where the body begins, its tables, and how far it is written after each list.
+pub struct Measured {
+    pub at: usize,
+    pub tables: Tables,
+    pub sections: Sections,
+}
+
+// The first pass, or why it stops.
+pub enum FirstPass {
+    Done { measured: Measured },
+    Refused { stop: Stop },
+    NoRoom,
+}
+
+// An answer, or no room in the frame for the decoded bytes or their notes.
+pub enum Passed {
+    Answered { outcome: Outcome },
+    NoRoom,
+}
+
+// Before anything is written.
+pub fn start() -> State
+    ensures { λ r. ⌜ r ≡ definition.start ⌝ }
+{
+    State {
+        sheet: 0,
+        text: 0,
+        types: ALLOWANCE,
+    }
+}
+
+// The body of the decoded bytes, from the start of two areas.
+fn walk(
+    kind: u8,
+    at: usize,
+    tables: Tables,
+    bytes: &[u8],
+    d2: &[u16],
+    ends: &[u32],
+    notes: &[u64],
+    sheet: &mut [u8],
+    text: &mut [u8],
+) -> Body
+    requires { ⌜ InLimits (now bytes) (now d2) (now ends) × OpenedAt (now bytes) (now notes) at tables ⌝ }
+    ensures { λ r. ⌜ BodyTold kind (payload kind (strings (now (d2 .entry)) (now (ends .entry))) (now (bytes .entry))) definition.start r (now (sheet .entry)) (now (sheet .exit)) (now (text .entry)) (now (text .exit)) ⌝ }
+{
+    body_in(
+        kind,
+        &bytes[at..],
+        at as u32,
+        bytes,
+        d2,
+        ends,
+        notes,
+        tables,
+        start(),
+        sheet,
+        text,
+    )
+}
+
+// Refusals 7 to 10, both lengths and the types, with no area touched but the scratch.
+fn measure(
+    kind: u8,
+    bytes: &[u8],
+    d2: &[u16],
+    ends: &[u32],
+    notes: &mut [u64],
+    scratch_sheet: &mut [u8],
+    scratch_text: &mut [u8],
+) -> FirstPass
+    requires { ⌜ InLimits (now bytes) (now d2) (now ends) ⌝ }
+    ensures { λ r. ⌜ FirstTold kind (now (bytes .entry)) (now (d2 .entry)) (now (ends .entry)) (now (notes .exit)) r (now («scratch_sheet» .exit)) (now («scratch_text» .exit)) ⌝ }
+{
+    let opened = open_payload(&*bytes, notes);
+    match opened {
+        Opened::Body { at, tables } => {
+            let body = walk(
+                kind,
+                at,
+                tables,
+                &*bytes,
+                &*d2,
+                &*ends,
+                notes,
+                scratch_sheet,
+                scratch_text,
+            );
+            match body {
+                Body::Done { sections } => FirstPass::Done {
+                    measured: Measured {
+                        at,
+                        tables,
+                        sections,
+                    },
+                },
+                Body::Refused { stop } => FirstPass::Refused { stop },
+            }
+        }
+        Opened::Refused { error } => FirstPass::Refused {
+            stop: Stop::Wire { error },
+        },
+        Opened::NoRoom => FirstPass::NoRoom,
+    }
+}
+
+// The decoded bytes of a kind that carries declarations.
+fn read_in(
+    kind: u8,
+    bytes: &[u8],
+    d2: &[u16],
+    ends: &[u32],
+    notes: &mut [u64],
+    scratch_sheet: &mut [u8],
+    scratch_text: &mut [u8],
+    sheet: &mut [u8],
+    text: &mut [u8],
+) -> Passed
+    requires { ⌜ InLimits (now bytes) (now d2) (now ends) ⌝ }
+    ensures { λ r. ⌜ PassedTold kind (payload kind (strings (now (d2 .entry)) (now (ends .entry))) (now (bytes .entry))) (NotesRoom (now (bytes .entry)) (now (notes .exit))) r (now (sheet .entry)) (now (sheet .exit)) (now (text .entry)) (now (text .exit)) ⌝ }
+{
+    let first = measure(
+        kind,
+        &*bytes,
+        &*d2,
+        &*ends,
+        notes,
+        scratch_sheet,
+        scratch_text,
+    );
+    match first {
+        FirstPass::Done { measured } => Passed::Answered {
+            outcome: write_in(
+                kind,
+                measured,
+                &*bytes,
+                &*d2,
+                &*ends,
+                notes,
+                scratch_sheet,
+                scratch_text,
+                sheet,
+                text,
+            ),
+        },
+        FirstPass::Refused { stop } => Passed::Answered {
+            outcome: stop_refusal(stop),
+        },
+        FirstPass::NoRoom => Passed::NoRoom,
+    }
+}
+
+// d1 of a kind that carries declarations, within its limit.
+pub fn decode_in(
+    kind: u8,
+    d1: &[u16],
+    d2: &[u16],
+    ends: &[u32],
+    bytes: &mut [u8],
+    notes: &mut [u64],
+    scratch_sheet: &mut [u8],
+    scratch_text: &mut [u8],
+    sheet: &mut [u8],
+    text: &mut [u8],
+) -> Passed
+    requires { ⌜ InLimits (now d1) (now d2) (now ends) ⌝ }
+    ensures { λ r. ⌜ PassedTold kind (readingOf kind (now (d1 .entry)) (now (d2 .entry)) (now (ends .entry))) (FrameRoom (now (d1 .entry)) (now (bytes .exit)) (now (notes .exit))) r (now (sheet .entry)) (now (sheet .exit)) (now (text .entry)) (now (text .exit)) ⌝ }
+{
+    let decoded = decode(&*d1, bytes);
+    match decoded {
+        Decoded::Bytes { length } => read_in(
+            kind,
+            &bytes[..length],
+            &*d2,
+            &*ends,
+            notes,
+            scratch_sheet,
+            scratch_text,
+            sheet,
+            text,
+        ),
+        Decoded::TooLong => Passed::Answered {
+            outcome: refused(1, 0),
+        },
+        Decoded::Empty => Passed::Answered {
+            outcome: refused(5, 0),
+        },
+        Decoded::NotAByte { unit } => Passed::Answered {
+            outcome: refused(6, unit as u64),
+        },
+        Decoded::NoRoom => Passed::NoRoom,
+    }
+}

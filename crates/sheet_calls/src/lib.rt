@@ -1,0 +1,34 @@
+// The functions that the static library exports: a slice is a pointer and a length.
+ghost use mathlib.Core.Path.{_≡_};
+ghost use mathlib.Core.List.{[], _∷_};
+ghost use Rattle.inputs.specs.Told.{input};
+ghost use Rattle.metadata.specs.Read.{read};
+ghost use Rattle.sheet_calls.specs.CallTold.{toldIn};
+use metadata::read;
+
+// `read`, with the answer's number, detail, sheet length, text length and types in this order.
+#[no_mangle]
+pub extern "C" fn sheet_read(
+    k: i32,
+    major: i32,
+    minor: i32,
+    patch: i32,
+    d1: &[u16],
+    d2: &[u16],
+    ends: &[u32],
+    sheet: &mut [u8],
+    text: &mut [u8],
+    answer: &mut [u64; 5],
+)
+    ensures { λ _. ⌜ read (now (sheet .entry)) (now (text .entry)) (input k (major ∷ minor ∷ patch ∷ []) (now (d1 .entry)) (now (d2 .entry)) (now (ends .entry))) ≡ toldIn (now (answer .exit)) (now (sheet .exit)) (now (text .exit)) ⌝ }
+{
+    let version = [major, minor, patch];
+    let r = read(k, version, &*d1, &*d2, &*ends, sheet, text);
+    *answer = [
+        r.number,
+        r.detail,
+        r.sheet as u64,
+        r.text as u64,
+        r.types as u64,
+    ];
+}

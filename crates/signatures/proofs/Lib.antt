@@ -1,3 +1,0 @@
-pub mod SignatureLaws
-pub mod FlagLaws
-pub mod ReceiverLaws

@@ -1,2 +1,0 @@
-pub mod SignaturesTold
-pub mod ReceiversTold
