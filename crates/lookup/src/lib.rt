@@ -16,7 +16,7 @@ pub mod steps; // steps.rt: the name that a record builds
 pub mod resolve; // resolve.rt: each record worked out once
 pub mod qualified; // qualified.rt: class names by their index
 
-use crate::note::noted;
+use crate::note::noted_as;
 use crate::steps::Extent;
 use crate::steps::decides;
 use crate::steps::record_name;
@@ -96,6 +96,7 @@ fn d2_name(ends: &[u32], index: u32) -> Name
         to: 0,
         operation: 0,
         qualified: false,
+        size: 0,
     }
 }
 
@@ -154,6 +155,7 @@ fn listed_name(index: u32) -> Name
         to: 0,
         operation: 0,
         qualified: false,
+        size: 0,
     }
 }
 
@@ -193,32 +195,33 @@ pub fn record_at(bytes: &[u8], start: usize, end: usize) -> Decided
     read_record(&*bytes, start, end)
 }
 
-// What is noted of record `at`.
-fn noted_at(notes: &[u64], at: usize) -> Decided
-    ensures { λ r. ⌜ WordsAt (now (notes .entry)) at r ⌝ }
+// What is noted of record `at`: its name, or with `class` its class name.
+fn noted_at(notes: &[u64], at: usize, class: bool) -> Decided
+    ensures { λ r. ⌜ WordsAt (now (notes .entry)) at class r ⌝ }
 {
     if notes.len() / RECORD_WORDS <= at {
         return Decided::No;
     }
-    noted(notes[RECORD_WORDS * at], notes[RECORD_WORDS * at + 1])
+    noted_as(class, notes[RECORD_WORDS * at], notes[RECORD_WORDS * at + 1])
 }
 
-// The name that the record of an index builds, if it decides: it has a string or a predefined index, even if its text can't be built.
-pub fn by_record(bytes: &[u8], notes: &[u64], count: usize, index: u32) -> Decided
-    ensures { λ r. ⌜ DecidedTold (now (bytes .entry)) (now (notes .entry)) count index r ⌝ }
+// The name that the record of an index builds, or with `class` its class name, if it decides: it has a string or a predefined index, even if
+// its text can't be built.
+pub fn by_record(notes: &[u64], count: usize, index: u32, class: bool) -> Decided
+    ensures { λ r. ⌜ DecidedTold (now (notes .entry)) count index class r ⌝ }
 {
     let found = find_record(&*notes, count, index);
     let Served::Record { at } = found else {
         return Decided::No;
     };
-    noted_at(&*notes, at)
+    noted_at(&*notes, at, class)
 }
 
 // The string with an index, of the name table whose index stands in `notes`; d2's strings end at `ends`.
 pub fn string(bytes: &[u8], notes: &[u64], count: usize, ends: &[u32], index: u32) -> Name
     ensures { λ r. ⌜ ((units : List ℕ) (records : List Record) → endsFit 0 (now (ends .entry)) (length units) ≡ true → NotesOf (now (bytes .entry)) (now (notes .entry)) count records → string (record { records = records; d2 = d2String (stringsFrom 0 (now (ends .entry)) units) }) index ≡ ok (nameText (now (bytes .entry)) units r)) ⌝ }
 {
-    let answer = by_record(&*bytes, &*notes, count, index);
+    let answer = by_record(&*notes, count, index, false);
     let Decided::Yes { name } = answer else {
         return d2_name(&*ends, index);
     };

@@ -11,7 +11,7 @@ ghost use Rattle.names.specs.Names.{stringsFrom, endsFit, d2String, qualifiedNa
 ghost use Rattle.names.specs.Name.{nameText};
 ghost use Rattle.lookup.specs.Lookups.{NotesOf};
 ghost use Rattle.lookup.specs.Steps.{BytesName};
-ghost use Rattle.lookup.specs.Qualified.{LastTold, UnwrapTold, qualifiedPart, QualifiedTold, ClippedTold, WrappedTold, QualifiedUnits};
+ghost use Rattle.lookup.specs.Qualified.{LastTold, UnwrapTold, qualifiedPart, ClassTold, ClippedTold, WrappedTold, QualifiedUnits};
 use crate::Decided;
 use crate::by_record;
 use crate::d2_extent;
@@ -83,13 +83,14 @@ fn qualified_part(name: Name, start: usize, end: usize) -> Name
         to: name.to,
         operation: name.operation,
         qualified: true,
+        size: 0,
     }
 }
 
-// The class name of a record's name. What operation 2 puts in front begins with no L.
-fn qualified_bytes(payload: &[u8], name: Name) -> Name
+// The class name of a record's name, when the record is worked out. What operation 2 puts in front begins with no L.
+pub fn qualified_bytes(payload: &[u8], name: Name) -> Name
     requires { ⌜ BytesName name ⌝ }
-    ensures { λ r. ⌜ QualifiedTold (now (payload .entry)) name r ⌝ }
+    ensures { λ r. ⌜ ClassTold (now (payload .entry)) name r ⌝ }
 {
     let source = name.source;
     let start = name.start;
@@ -149,6 +150,7 @@ fn qualified_units(units: &[u16], ends: &[u32], index: u32) -> Name
         to: 0,
         operation: 0,
         qualified: true,
+        size: 0,
     };
     if is_wrapped(&*units, start, end) {
         return qualified_part(name, start + 1, end - 1);
@@ -167,9 +169,9 @@ pub fn qualified_name(
 ) -> Name
     ensures { λ r. ⌜ ((records : List Record) → endsFit 0 (now (ends .entry)) (length (now (units .entry))) ≡ true → NotesOf (now (bytes .entry)) (now (notes .entry)) count records → qualifiedName (record { records = records; d2 = d2String (stringsFrom 0 (now (ends .entry)) (now (units .entry))) }) index ≡ ok (nameText (now (bytes .entry)) (now (units .entry)) r)) ⌝ }
 {
-    let answer = by_record(&*bytes, &*notes, count, index);
+    let answer = by_record(&*notes, count, index, true);
     let Decided::Yes { name } = answer else {
         return qualified_units(&*units, &*ends, index);
     };
-    qualified_bytes(&*bytes, name)
+    name
 }
