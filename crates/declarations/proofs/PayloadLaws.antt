@@ -114,7 +114,7 @@ put-back l part n h =
 
 -- The notes of the body's type table stand after those of the records, which they leave as they are.
 pub noted-then : (bytes : List ℕ) (rest count : ℕ) (before worked : List ℕ)
-    → ((rs : List Record) → length bytes < 2 ^ 32 → IndexOf bytes before count rs → NotesOf bytes worked count rs) → 3 * count ≤ length worked
+    → ((rs : List Record) → length bytes < 65536 → IndexOf bytes before count rs → NotesOf bytes worked count rs) → 3 * count ≤ length worked
     → (part : List ℕ) → length part ≡ length (midOf (3 * count) (length worked - 3 * count) worked) → (r : Opened) → BodyOpened bytes rest count part r
     → NotedOpened bytes rest count before (putMid (3 * count) (length worked - 3 * count) worked part) r
 noted-then bytes rest count before worked u h part same r t =
@@ -183,7 +183,7 @@ module _ (bytes : List ℕ) (start end rest : ℕ) (o : start ≤ end) (i : end 
       count-few = omega (arith, few, indexed e .2 .sums .many, records-many (table .0) (indexed e .1))
 
       pub opened-then : Delimited → (after : List ℕ) → length after ≡ length before → (y : Opened) → NotedOpened bytes rest count before after y
-          → length bytes < 2 ^ 32 → OpenedTold bytes after y
+          → length bytes < 65536 → OpenedTold bytes after y
       opened-then d after l (opened.Body at tables) w s =
           let p = w .body .0 in
           let q = w .body .1 in

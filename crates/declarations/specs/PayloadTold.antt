@@ -51,7 +51,7 @@ BodyOpened bytes at records entries opened.NoRoom = BodyRoom bytes at entries �
 
 -- The same after the records, which are worked out before.
 pub record NotedOpened (bytes : List ℕ) (at records : ℕ) (before after : List ℕ) (r : Opened) : Type 0 where
-  pub names : (rs : List Record) → length bytes < 2 ^ 32 → IndexOf bytes before records rs → NotesOf bytes after records rs
+  pub names : (rs : List Record) → length bytes < 65536 → IndexOf bytes before records rs → NotesOf bytes after records rs
   pub body : BodyOpened bytes at records (drop (3 * records) after) r
 
 -- The decoded bytes are opened: what is noted of the name table's records is lent besides.
@@ -62,9 +62,9 @@ pub record OpenedAt (bytes notes : List ℕ) (at : ℕ) (tables : Tables) : Type
   pub names : NotesOf bytes notes (tables .records) records
   pub opens : (kind : ℕ) (d2 : ℕ → Res (Option Text)) → payload kind d2 bytes ≡ bodyFrom kind (record { records = records; d2 = d2 }) bytes at
 
--- Room for the notes of both tables: a record takes two bytes at least and three words, an entry two bytes and one word.
+-- Room for the notes of both tables, in which a place has 16 bits: a record takes two bytes at least and three words, an entry two bytes and one word.
 pub record NotesRoom (bytes notes : List ℕ) : Type 0 where
-  pub short : length bytes < 2 ^ 32
+  pub short : length bytes < 65536
   pub long : 3 * length bytes ≤ 2 * length notes
 
 abbrev pub OpenedTold : List ℕ → List ℕ → Opened → Type 0

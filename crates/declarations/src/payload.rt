@@ -1,7 +1,7 @@
 // The decoded bytes opened: a length-delimited name table, its records noted, then the body and its type table. The definition:
 // specs/Payload.antt, `payload`; what the answers tell: specs/PayloadTold.antt.
 ghost use mathlib.Core.Path.{_≡_};
-ghost use Prim.Native.Nat.{_*_, _^_, _≤_, _<_};
+ghost use Prim.Native.Nat.{_*_, _≤_, _<_};
 ghost use lib.ListN.{length};
 ghost use Rattle.foundation.specs.Results.{_from_, got};
 ghost use Rattle.wire.specs.Wire.{readDelimited};
@@ -62,7 +62,7 @@ fn open_noted(bytes: &[u8], rest: usize, count: usize, notes: &mut [u64]) -> Ope
 
 // The name table from a place to another is cut and its records noted; then the body from `rest` on.
 fn open_table(bytes: &[u8], start: usize, end: usize, rest: usize, notes: &mut [u64]) -> Opened
-    requires { ⌜ (start ≤ end) × (end ≤ rest) × (rest ≤ length (now bytes)) × (length (now bytes) < 2 ^ 32) ⌝ }
+    requires { ⌜ (start ≤ end) × (end ≤ rest) × (rest ≤ length (now bytes)) × (length (now bytes) < 65536) ⌝ }
     ensures { λ r. ⌜ (readDelimited (_from_ 0 (now (bytes .entry))) ≡ got (bodyOf 0 (now (bytes .entry)) start end) (restOf 0 (now (bytes .entry)) rest) → OpenedTold (now (bytes .entry)) (now (notes .exit)) r) ⌝ }
 {
     let checked = check_from(&bytes[..end], 0, start);
@@ -83,7 +83,7 @@ fn open_table(bytes: &[u8], start: usize, end: usize, rest: usize, notes: &mut [
 pub fn open_payload(bytes: &[u8], notes: &mut [u64]) -> Opened
     ensures { λ r. ⌜ OpenedTold (now (bytes .entry)) (now (notes .exit)) r ⌝ }
 {
-    if 4294967295 < bytes.len() {
+    if 65535 < bytes.len() {
         return Opened::NoRoom;
     }
     let table = messages::reader::split_payload(bytes);

@@ -7,7 +7,7 @@ use Prim.Native.Nat.{ℕ, zero, suc, _+_, _-_, _≤_, _<_}
 use native.Mathlib.Omega.{arith}
 use borrow.Author.Tests.{leb-true, le-leb}
 use lib.Dec.{leb}
-use lib.ListN.{length, drop, replicate, drop-of-length-le}
+use lib.ListN.{length, drop, getD, replicate, drop-of-length-le}
 use native.Mathlib.Nat.{le-refl}
 use lib.Seq.{sets, length-sets}
 use Rattle.foundation.specs.Choices.{if_then_else_}
@@ -55,6 +55,16 @@ fitted-cons n c t h = rw (le-leb (width c) n h)
 too-wide : (n c : ℕ) (t : Text) → leb (width c) n ≡ false → fitted n (c ∷ t) ≡ replicate n 0
 unfolding fitted
 too-wide n c t e = rw e
+
+-- by whether there is room for the first character
+pub fitted-ind : (P : Text → Type 0) (n c : ℕ) (t : Text) → P (c ∷ fitted (n - width c) t) → P (replicate n 0) → P (fitted n (c ∷ t))
+unfolding fitted
+fitted-ind P n c t p q = if-ind P (leb (width c) n) (λ e. p) λ e. q
+
+pub zeros-first : (n : ℕ) → getD (utf8 (replicate n 0)) 0 0 ≡ 0x6b → ⊥
+unfolding utf8 utf8Of
+zeros-first zero e = omega arith
+zeros-first (suc n) e = omega arith
 
 pub fitted-bytes : (n : ℕ) (t : Text) → length (utf8 (fitted n t)) ≡ n
 unfolding fitted
