@@ -32,7 +32,7 @@ def texts_of(crate):
 def named_by(crate, known):
     """The known crates that a crate's text names, in the order of `known`."""
     code, logic = texts_of(crate)
-    modules = set(re.findall(r'^\s*(?:pub )?mod (\w+);', code, re.M))
+    modules = set(re.findall(r'^\s*(?:pub(?:\(crate\))? )?mod (\w+);', code, re.M))
     found = set(re.findall(r'(?<![\w:])(\w+)::', code)) - modules
     found |= set(re.findall(r'Rattle·(\w+)', code + logic))
     return [name for name in known if name in found and name != crate]

@@ -19,7 +19,7 @@ import tempfile
 ROOT = pathlib.Path(__file__).resolve().parent.parent
 TABLE = ROOT / 'tools' / 'wrong_answers.tsv'
 AT_NEED, BY_HAND, WRONG = 'refused at a need', 'refused in a proof by hand', 'not refused so'
-FUNCTION = re.compile(r'^( *)(?:pub )?(?:extern "C" )?fn (\w+)', re.M)
+FUNCTION = re.compile(r'^( *)(?:pub(?:\(crate\))? )?(?:extern "C" )?fn (\w+)', re.M)
 
 
 class Edit:
@@ -48,7 +48,7 @@ def functions_of(crate):
     for file in sorted((ROOT / 'crates' / crate / 'src').glob('*.rt')):
         module = [] if file.stem in ('lib', 'main') else [file.stem]
         texts[file] = module, file.read_text()
-        homes.update((name, module) for name in re.findall(r'^(?:pub )?(?:struct|enum) (\w+)', texts[file][1], re.M))
+        homes.update((name, module) for name in re.findall(r'^(?:pub(?:\(crate\))? )?(?:struct|enum) (\w+)', texts[file][1], re.M))
     for file, (module, text) in texts.items():
         for match in FUNCTION.finditer(text):
             start, indent = match.start(), match.group(1)

@@ -55,7 +55,7 @@ fn put_kept(kept: &[u8], counts: Counts, area: &mut [u8]) -> usize
 }
 
 // The line for the bytes that were read. Their counts are numbers of 4 bytes, so that places can be summed.
-pub fn put_answer(kept: &[u8], taken: Taken, area: &mut [u8]) -> usize
+fn put_answer(kept: &[u8], taken: Taken, area: &mut [u8]) -> usize
     requires { ⌜ CountsFit (taken .counts) ⌝ }
     ensures { λ r. ⌜ WrotePrinted (now (kept .entry)) taken r (now (area .entry)) (now (area .exit)) ⌝ }
 {
@@ -67,7 +67,8 @@ pub fn put_answer(kept: &[u8], taken: Taken, area: &mut [u8]) -> usize
     put_kept(kept, counts, area)
 }
 
-// Reads an input of at most `limit` bytes and puts its line into the area. The limit keeps the places of a read that goes on within 64 bits.
+// Reads an input of at most `limit` bytes and puts its line into the area.
+// Callers show that places of a read that goes on fit 64 bits: the limit of sheet_reader is a written number, that of replays one of 4 bytes.
 pub fn answer_input(fd: i32, limit: usize, area: &mut [u8]) -> usize
     requires { ⌜ limit ≤ 2 ^ 40 ⌝ }
     ensures { λ r. ⌜ WroteLine r (now (area .entry)) (now (area .exit)) ⌝ }

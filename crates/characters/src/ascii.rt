@@ -8,7 +8,8 @@ ghost use lib.Seq.{sets};
 ghost use Rattle.characters.specs.Characters.{partFrom};
 ghost use Rattle.characters.specs.Plain.{instead, withDots, isAscii, shown};
 
-// Is every unit from `start` to `end` below 128? The caller has clipped the end, so that no unit is tested for being there.
+// Is every unit from `start` to `end` below 128? No unit is tested for being there.
+// Callers show that `end` isn't past the units: names::stream compares it with their number first.
 pub fn ascii_units(units: &[u16], start: usize, end: usize) -> bool
     requires { ⌜ end ≤ length (now units) ⌝ }
     ensures { λ r. ⌜ r ≡ isAscii (partFrom start end (now (units .entry))) ⌝ }
@@ -60,7 +61,8 @@ fn shown(dots: bool, slashes: bool, c: u8) -> u8
     with_dots(dots, c)
 }
 
-// Units below 128, where there is room for all of them: tested once before, so that no byte is.
+// Units below 128, where there is room for all of them. No unit is tested.
+// Callers show that the part is there, that it is below 128 and that it fits the area: names::stream tests each once, before the call.
 pub fn copy_units(
     units: &[u16],
     start: usize,
@@ -82,7 +84,8 @@ pub fn copy_units(
     }
 }
 
-// Bytes below 128, where there is room for all of them: tested once before, so that no byte is.
+// Bytes below 128, where there is room for all of them. No byte is tested.
+// Callers show that they are below 128 and fit the area: names::stream tests both once, before the call.
 pub fn copy_bytes(s: &[u8], dots: bool, slashes: bool, area: &mut [u8], at: usize)
     requires { ⌜ (isAscii (now s) ≡ true) × (at + length (now s) ≤ length (now area)) ⌝ }
     ensures { λ _. ⌜ now (area .exit) ≡ sets (now (area .entry)) at (map (shown dots slashes) (now (s .entry))) ⌝ }

@@ -53,7 +53,8 @@ fn block_size(units: &[u16], from: usize, to: usize) -> u16
     size
 }
 
-// How many bytes UTF-8 gives the text of the units from `start` to `end`. The caller has clipped the end, and knows that the number fits.
+// How many bytes UTF-8 gives the text of the units from `start` to `end`.
+// Callers show that `end` isn't past the units, which names::stream tests, and that the number fits 64 bits, which it asks of its own callers.
 pub fn utf8_size(units: &[u16], start: usize, end: usize) -> usize
     requires { ⌜ (end ≤ length (now units)) × (length (utf8 (fromUtf16 (partFrom start end (now units)))) < 2 ^ 64) ⌝ }
     ensures { λ r. ⌜ r ≡ length (utf8 (fromUtf16 (partFrom start end (now (units .entry))))) ⌝ }

@@ -50,6 +50,7 @@ pub struct PropertyFlags {
 }
 
 // A name's cell and its text; a ref to no text if it is absent.
+// Callers show `RecordRoom`: the records below from their own, type_references from the `Ready` that it requires.
 pub fn put_named(
     payload: &[u8],
     d2: &[u16],
@@ -138,7 +139,7 @@ fn put_unsigned(state: State, sheet: &mut [u8]) -> State
 }
 
 // A signature's two cells, absent together.
-pub fn put_signature(
+fn put_signature(
     payload: &[u8],
     d2: &[u16],
     signature: SignatureNames,
@@ -202,6 +203,7 @@ fn put_init_signature(
 }
 
 // Kind 2, up to the parameter count.
+// Callers show `RecordRoom`: members::callables from the `Affords` that it requires.
 pub fn put_constructor(
     payload: &[u8],
     d2: &[u16],
@@ -220,6 +222,7 @@ pub fn put_constructor(
 }
 
 // Kind 3, up to the parameter count.
+// Callers show `RecordRoom`: members::callables from the `Affords` that it requires.
 pub fn put_function(
     payload: &[u8],
     d2: &[u16],
@@ -272,6 +275,7 @@ fn put_property_signatures(
 }
 
 // Kind 4, whole.
+// Callers show `RecordRoom`: members::properties from the `Affords` that it requires.
 pub fn put_property(
     payload: &[u8],
     d2: &[u16],
@@ -294,6 +298,7 @@ pub fn put_property(
 }
 
 // Kind 5, whole.
+// Callers show `RecordRoom`: members::parameters from the `Affords` that it requires.
 pub fn put_parameter(
     payload: &[u8],
     d2: &[u16],
@@ -311,7 +316,8 @@ pub fn put_parameter(
     put_flag(default, named, sheet)
 }
 
-// Kind 7 for a constructor or function without a default descriptor. It requires that the place after it can be counted.
+// Kind 7 for a constructor or function without a default descriptor.
+// Callers show that the place after it can be counted: members::closed from the `Affords` that it requires.
 pub fn put_default_absent(state: State, sheet: &mut [u8]) -> State
     requires { ⌜ state .sheet ≤ 2 ^ 61 ⌝ }
     ensures { λ r. ⌜ ((T : List ℕ) → PutRows (row 7 (ref none ∷ []) ∷ []) (state .types) state r (now (sheet .entry)) (now (sheet .exit)) T T) ⌝ }
@@ -326,7 +332,8 @@ pub fn put_default_absent(state: State, sheet: &mut [u8]) -> State
     }
 }
 
-// Kind 7 around a descriptor of `size` bytes that is written where the text ends. It requires that both places after it can be counted.
+// Kind 7 around a descriptor of `size` bytes that is written where the text ends.
+// Callers show that both places after it can be counted: members::closed from the `Affords` that it requires.
 pub fn put_default(size: usize, state: State, sheet: &mut [u8]) -> State
     requires { ⌜ state .sheet + state .text + size ≤ 2 ^ 61 ⌝ }
     ensures { λ r. ⌜ ((d T T′ : List ℕ) → length d ≡ size → T′ ≡ sets T (state .text) d → PutRows (row 7 (ref (some d) ∷ []) ∷ []) (state .types) state r (now (sheet .entry)) (now (sheet .exit)) T T′) ⌝ }
@@ -343,6 +350,7 @@ pub fn put_default(size: usize, state: State, sheet: &mut [u8]) -> State
 }
 
 // Kind 1, up to the counts of constructors, functions and properties.
+// Callers show `RecordRoom`: declarations::body from the `Affords` that it requires; metadata has an empty payload and begins at places 0.
 pub fn put_head(
     payload: &[u8],
     d2: &[u16],
@@ -370,6 +378,7 @@ pub fn put_count(sheet: &mut [u8], at: usize, n: usize)
 }
 
 // The three counts of kind 1.
+// Callers show that the place after them can be counted: it follows the head, which declarations::body and metadata have written.
 pub fn put_head_counts(
     sheet: &mut [u8],
     at: usize,

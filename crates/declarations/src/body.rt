@@ -41,7 +41,7 @@ pub struct Sections {
     pub properties: Section,
 }
 
-pub enum Lists {
+enum Lists {
     Done {
         constructors: Section,
         functions: Section,
@@ -230,6 +230,7 @@ fn lists_in(
 }
 
 // A whole body, after its type table.
+// Callers show `Affords` and `Stands`: passes begins at places 0, and its body is the payload's rest, within the limits (`InLimits`).
 pub fn body_in(
     kind: u8,
     msg: &[u8],

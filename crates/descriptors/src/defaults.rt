@@ -138,7 +138,7 @@ fn parameter_part(
 }
 
 // The parts of the kept parameters in a field, one after the other.
-pub fn parameter_parts(
+fn parameter_parts(
     msg: &[u8],
     base: u32,
     number: u32,
@@ -191,6 +191,7 @@ fn preceded(size: usize, part: Part) -> Part
 }
 
 // The default descriptor of a constructor, which returns V.
+// Callers show `PartRoom`: members::closed from the `Affords` and `Stands` that it requires.
 pub fn constructor_default(
     msg: &[u8],
     base: u32,
@@ -356,6 +357,7 @@ fn after_part(
 }
 
 // The default descriptor of a function.
+// Callers show `PartRoom`: members::closed from the `Affords` and `Stands` that it requires.
 pub fn function_default(
     msg: &[u8],
     base: u32,

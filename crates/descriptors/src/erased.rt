@@ -36,14 +36,14 @@ use sheet::put;
 
 // How a type is placed: whether it is nullable by its place in the type table, what is left of the depth there, and its position in the
 // descriptor.
-pub struct Placement {
+pub(crate) struct Placement {
     pub nullable: bool,
     pub left: usize,
     pub position: Position,
 }
 
 // What one type comes to.
-pub enum TypePart {
+enum TypePart {
     // Its part is written.
     Whole { size: usize },
     // [ is written, and its first kept argument is to follow as an element.
@@ -154,7 +154,7 @@ fn put_type_part(
 }
 
 // The part of the type in a message: as many [ as arrays are nested, then what the innermost comes to.
-pub fn put_erased(
+pub(crate) fn put_erased(
     msg: &[u8],
     base: u32,
     placed: Placement,

@@ -238,11 +238,11 @@ pub fn meaning_of(name: &[u8]) -> Meaning
 // The numbers of some fixed parts: java/lang/Object, kotlin/Unit, a suspending function's continuation, and V.
 pub const OBJECT: usize = 24;
 
-pub const UNIT: usize = 37;
+const UNIT: usize = 37;
 
 pub const CONTINUATION: usize = 38;
 
-pub const VOID: usize = 39;
+const VOID: usize = 39;
 
 const LETTERS: [u8; 8] = *b"ZBCSIJFD";
 

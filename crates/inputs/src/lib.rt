@@ -42,7 +42,7 @@ pub fn kind_of(k: i32) -> u8
 }
 
 // Ends that don't fall and whose last (0 if there are none) is the unit count. The loop has no way out, so that the machine tests several at once.
-pub fn ends_fit(ends: &[u32], count: usize) -> bool
+fn ends_fit(ends: &[u32], count: usize) -> bool
     ensures { λ r. ⌜ endsFit 0 (now (ends .entry)) count ≡ r ⌝ }
 {
     let mut at: u32 = 0;

@@ -30,7 +30,7 @@ pub fn refused(number: u64, detail: u64) -> Outcome
 }
 
 // 7, 8 with the wire type, 9.
-pub fn wire_refusal(error: WireError) -> Outcome
+fn wire_refusal(error: WireError) -> Outcome
     ensures { λ r. ⌜ RefusedAs (wire.causeOf error) (wire.placeOf error) r ⌝ }
 {
     match error {

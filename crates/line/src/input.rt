@@ -42,7 +42,8 @@ fn two_in(piece: &[u8], base: usize, at: usize) -> usize
     byte_in(piece, base, at) + 256 * byte_in(piece, base, at + 1)
 }
 
-// What the piece gives of a number in 4 bytes. Its place is far from the largest, so that it can be added to.
+// What the piece gives of a number in 4 bytes.
+// Callers show that the place can be added to: it is a written number, or a sum of counts of 4 bytes each.
 pub fn four_in(piece: &[u8], base: usize, at: usize) -> usize
     requires { ⌜ at < 2 ^ 50 ⌝ }
     ensures { λ r. ⌜ (r ≡ numberIn 4 (now (piece .entry)) base at) × (r < 2 ^ 32) ⌝ }
@@ -51,7 +52,7 @@ pub fn four_in(piece: &[u8], base: usize, at: usize) -> usize
 }
 
 // The counts of the input up to this piece, from those up to the piece before, each a number of 4 bytes.
-pub fn counts_in(piece: &[u8], base: usize, before: Counts) -> Counts
+pub(crate) fn counts_in(piece: &[u8], base: usize, before: Counts) -> Counts
     requires { ⌜ CountsFit before ⌝ }
     ensures { λ r. ⌜ r ≡ countsIn (now (piece .entry)) base before ⌝ }
 {
@@ -61,7 +62,8 @@ pub fn counts_in(piece: &[u8], base: usize, before: Counts) -> Counts
     Counts { d1, d2, ends }
 }
 
-// The place after the input, whose counts are numbers of 4 bytes, so that it fits.
+// The place after the input.
+// Callers show that the counts are numbers of 4 bytes, so that it fits: answer_lines from what `take_input` tells of them.
 pub fn input_end(counts: Counts) -> usize
     requires { ⌜ CountsFit counts ⌝ }
     ensures { λ r. ⌜ r ≡ inputEnd counts ⌝ }
@@ -70,7 +72,7 @@ pub fn input_end(counts: Counts) -> usize
 }
 
 // A number of 4 bytes with its sign.
-pub fn signed(n: u32) -> i32
+fn signed(n: u32) -> i32
     ensures { λ r. ⌜ r ≡ signedOf n ⌝ }
 {
     if n < 2147483648 {
@@ -80,7 +82,8 @@ pub fn signed(n: u32) -> i32
     }
 }
 
-// The signed number at a place, far from the largest, so that it can be added to.
+// The signed number at a place.
+// Callers show that the place can be added to: it is a written number.
 pub fn signed_at(bytes: &[u8], at: usize) -> i32
     requires { ⌜ at < 2 ^ 50 ⌝ }
     ensures { λ r. ⌜ r ≡ signedOf (numberAt 4 (now (bytes .entry)) at) ⌝ }
@@ -89,6 +92,7 @@ pub fn signed_at(bytes: &[u8], at: usize) -> i32
 }
 
 // Units from a place on, as many as are announced and have room.
+// Callers show that the place is a sum of counts of 4 bytes each, and that their own array is short.
 pub fn units_at(bytes: &[u8], at: usize, count: usize, units: &mut [u16]) -> usize
     requires { ⌜ (at < 2 ^ 40) × (length (now units) < 2 ^ 20) ⌝ }
     ensures { λ r. ⌜ (r ≡ min count (length (now (units .entry)))) × (now (units .exit) ≡ sets (now (units .entry)) 0 (numbersAt 2 (now (bytes .entry)) at r)) ⌝ }
@@ -107,6 +111,7 @@ pub fn units_at(bytes: &[u8], at: usize, count: usize, units: &mut [u16]) -> usi
 }
 
 // String ends from a place on, as many as are announced and have room.
+// Callers show that the place is a sum of counts of 4 bytes each, and that their own array is short.
 pub fn ends_at(bytes: &[u8], at: usize, count: usize, ends: &mut [u32]) -> usize
     requires { ⌜ (at < 2 ^ 40) × (length (now ends) < 2 ^ 20) ⌝ }
     ensures { λ r. ⌜ (r ≡ min count (length (now (ends .entry)))) × (now (ends .exit) ≡ sets (now (ends .entry)) 0 (numbersAt 4 (now (bytes .entry)) at r)) ⌝ }

@@ -54,7 +54,8 @@ fn put_part(area: &mut [u8], at: usize, bytes: &[u8]) -> usize
     put_hex(area, at + 1, bytes)
 }
 
-// The whole line. It requires that the place after it can be counted: each byte takes two digits.
+// The whole line. Each byte takes two digits.
+// Callers show that the place after it can be counted: sheet and text are within areas of 65,536 bytes.
 pub fn put_line(area: &mut [u8], number: u64, detail: u64, sheet: &[u8], text: &[u8]) -> usize
     requires { ⌜ (length (now sheet) < 2 ^ 50) × (length (now text) < 2 ^ 50) ⌝ }
     ensures { λ r. ⌜ Wrote (lineOf number detail (now (sheet .entry)) (now (text .entry))) 0 r (now (area .entry)) (now (area .exit)) ⌝ }

@@ -65,6 +65,7 @@ fn pass_rest(fd: i32, limit: usize, first: Taken) -> Taken
 }
 
 // Reads an input of at most `limit` bytes and keeps its beginning.
+// Callers show that the area has the size of what is kept, by its type, and that places fit 64 bits: answer_lines asks that of its own callers.
 pub fn take_input(fd: i32, area: &mut [u8], limit: usize) -> Taken
     requires { ⌜ (length (now area) ≡ keptLimit) × (limit ≤ 2 ^ 40) ⌝ }
     ensures { λ r. ⌜ TookSome (now (area .exit)) r ⌝ }

@@ -59,7 +59,7 @@ fn names_of(signed: Signed) -> SignatureNames
 }
 
 // A constructor. Its signature is looked up first, since it stands in its record; its refusal is due after the parameters.
-pub fn constructor_in(
+pub(crate) fn constructor_in(
     msg: &[u8],
     base: u32,
     payload: &[u8],
@@ -223,7 +223,7 @@ fn function_types(
 
 // A function. One without a name is skipped before anything inside it is read. Its signature is looked up first, since it stands in its
 // record.
-pub fn function_in(
+pub(crate) fn function_in(
     msg: &[u8],
     base: u32,
     payload: &[u8],

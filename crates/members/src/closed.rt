@@ -92,7 +92,7 @@ fn close_function(
 }
 
 // A constructor, with the record that closes it.
-pub fn closed_constructor(
+pub(crate) fn closed_constructor(
     msg: &[u8],
     base: u32,
     payload: &[u8],
@@ -141,7 +141,7 @@ pub fn closed_constructor(
 }
 
 // A function, with the record that closes it.
-pub fn closed_function(
+pub(crate) fn closed_function(
     msg: &[u8],
     base: u32,
     payload: &[u8],

@@ -1,9 +1,9 @@
 // Parameters, constructors, functions and properties, read from their messages and written as records, in the specification's order; each
 // constructor and function closed by its default descriptor; one loop for the lists of a body. The definitions: schema's specs/Members.antt,
 // declaration_rows' specs/Rows.antt, descriptors' specs/Defaults.antt; what the readers tell: schema's specs/MembersTold.antt.
-pub mod signatures; // signatures.rt: the JVM signatures of members
-pub mod parameters; // parameters.rt: value parameters
-pub mod callables; // callables.rt: constructors and functions
-pub mod properties; // properties.rt: properties
-pub mod closed; // closed.rt: constructors and functions, closed by their default descriptors
+mod signatures; // signatures.rt: the JVM signatures of members
+mod parameters; // parameters.rt: value parameters
+mod callables; // callables.rt: constructors and functions
+mod properties; // properties.rt: properties
+mod closed; // closed.rt: constructors and functions, closed by their default descriptors
 pub mod list; // list.rt: the lists of a body

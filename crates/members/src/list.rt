@@ -141,6 +141,7 @@ fn members_at(
 }
 
 // A list, all of it cut before the first member is read.
+// Callers show `Affords` and `Stands`: declarations::body from its own, which leave room for each list.
 pub fn members_in(
     list: MemberList,
     msg: &[u8],

@@ -105,7 +105,7 @@ fn parameter_types(
 }
 
 // A parameter. One without a name is skipped before anything inside it is read.
-pub fn parameter_in(
+fn parameter_in(
     msg: &[u8],
     base: u32,
     payload: &[u8],
@@ -198,7 +198,7 @@ fn parameters_at(
 }
 
 // The parameters in a field, all cut before the first is read.
-pub fn parameters_in(
+pub(crate) fn parameters_in(
     msg: &[u8],
     base: u32,
     number: u32,

@@ -170,7 +170,7 @@ fn named_property(
 }
 
 // A property: skipped without a name, before anything inside it is read.
-pub fn property_in(
+pub(crate) fn property_in(
     msg: &[u8],
     base: u32,
     payload: &[u8],

@@ -31,13 +31,13 @@ use schema::name::name_in;
 use wire::WireError;
 
 // The names that are looked up of a signature, before any that its own falls back to.
-pub enum Signed {
+pub(crate) enum Signed {
     Names { names: SignatureNames },
     Refused { error: WireError },
 }
 
 // A name, or another if it is absent.
-pub fn or_name(own: Name, fallback: Name) -> Name
+pub(crate) fn or_name(own: Name, fallback: Name) -> Name
     ensures { λ r. ⌜ ((payload units : List ℕ) → nameText payload units r ≡ orElse (nameText payload units own) (nameText payload units fallback)) ⌝ }
 {
     if is_there(own) {
@@ -89,7 +89,7 @@ fn names_in(
 }
 
 // The names of the signature in a field; both absent without one.
-pub fn signature_in(
+pub(crate) fn signature_in(
     msg: &[u8],
     base: u32,
     number: u32,
@@ -119,7 +119,7 @@ pub fn signature_in(
 }
 
 // The names of a property's backing field, from its signature message. A broken field message means no backing field.
-pub fn field_in(
+fn field_in(
     msg: &[u8],
     base: u32,
     payload: &[u8],
@@ -147,7 +147,7 @@ pub fn field_in(
 
 impl Signed {
     // The names, of one that is not refused.
-    pub fn names(self) -> SignatureNames
+    pub(crate) fn names(self) -> SignatureNames
         ensures { λ r. ⌜ ((n : SignatureNames) → self ≡ Signed.Names n → r ≡ n) ⌝ }
     {
         match self {
@@ -158,19 +158,19 @@ impl Signed {
 }
 
 // What is looked up of a property's signature message. The refusals of its accessors are due after its receiver's type.
-pub struct PropertyNames {
+pub(crate) struct PropertyNames {
     pub field: SignatureNames,
     pub getter: Signed,
     pub setter: Signed,
 }
 
-pub enum PropertySigned {
+pub(crate) enum PropertySigned {
     Names { names: PropertyNames },
     Refused { error: WireError },
 }
 
 // The refusal of a getter, else of a setter.
-pub fn check_accessors(names: PropertyNames) -> Checked
+pub(crate) fn check_accessors(names: PropertyNames) -> Checked
     ensures { λ r. ⌜ AccessorsDue names r ⌝ }
 {
     let getter = names.getter;
@@ -234,7 +234,7 @@ fn three_in(
 }
 
 // The signatures of a property.
-pub fn property_signatures(
+pub(crate) fn property_signatures(
     msg: &[u8],
     base: u32,
     payload: &[u8],

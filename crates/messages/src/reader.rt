@@ -14,7 +14,7 @@ use wire::delimited_at;
 use wire::field_at;
 use wire::varint_at;
 
-pub struct WireReader<'a> {
+struct WireReader<'a> {
     data: &'a [u8],
     offset: usize,
 }
@@ -56,7 +56,7 @@ fn after_delimited(read: Delimited, at: usize) -> usize
 }
 
 // The next field of a message, or its end.
-pub enum NextField {
+enum NextField {
     Field {
         number: u32,
         value: WireValue,
@@ -104,27 +104,27 @@ fn after_next(read: NextField, at: usize) -> usize
 }
 
 impl<'a> WireReader<'a> {
-    pub fn new(data: &'a [u8]) -> WireReader<'a>
+    fn new(data: &'a [u8]) -> WireReader<'a>
         ensures { λ r. ⌜ (r .«data» ≡ «data» .entry) × (r .offset ≡ 0) ⌝ }
     {
         WireReader { data, offset: 0 }
     }
 
-    pub fn is_empty(&self) -> bool
+    fn is_empty(&self) -> bool
         ensures { λ r. ⌜ r ≡ emptyAt (now (now (self .entry) .«data»)) (now (self .entry) .offset) ⌝ }
     {
         empty_at(self.data, self.offset)
     }
 
     // What is not read yet.
-    pub fn remainder(&self) -> &'a [u8]
+    fn remainder(&self) -> &'a [u8]
         ensures { λ r. ⌜ now r ≡ drop (now (self .entry) .offset) (now (now (self .entry) .«data»)) ⌝ }
     {
         rest_at(self.data, self.offset)
     }
 
     // The next varint. The answer tells its place too, as `varint_at` does.
-    pub fn varint(&mut self) -> Varint
+    pub(crate) fn varint(&mut self) -> Varint
         ensures { λ r. ⌜ (now (self .exit) .«data» ≡ now (self .entry) .«data») × VarintRead (now (now (self .entry) .«data»)) (now (self .entry) .offset) r (now (self .exit) .offset) ⌝ }
     {
         let read = varint_at(self.data, 0, self.offset);
@@ -133,7 +133,7 @@ impl<'a> WireReader<'a> {
     }
 
     // The next length-delimited message, by its places: no enum can hold a part of a slice.
-    pub fn delimited(&mut self) -> Delimited
+    fn delimited(&mut self) -> Delimited
         ensures { λ r. ⌜ (now (self .exit) .«data» ≡ now (self .entry) .«data») × DelimitedRead (now (now (self .entry) .«data»)) (now (self .entry) .offset) r (now (self .exit) .offset) ⌝ }
     {
         let read = delimited_at(self.data, 0, self.offset);
@@ -141,7 +141,7 @@ impl<'a> WireReader<'a> {
         read
     }
 
-    pub fn next(&mut self) -> NextField
+    fn next(&mut self) -> NextField
         ensures { λ r. ⌜ (now (self .exit) .«data» ≡ now (self .entry) .«data») × NextRead (now (now (self .entry) .«data»)) (now (self .entry) .offset) r (now (self .exit) .offset) ⌝ }
     {
         let read = next_at(self.data, 0, self.offset);
@@ -163,7 +163,7 @@ pub enum Split {
 }
 
 impl Split {
-    pub fn error(self) -> WireError
+    fn error(self) -> WireError
         ensures { λ r. ⌜ ((e : WireError) → self ≡ Split.Refused e → r ≡ e) ⌝ }
     {
         match self {

@@ -35,7 +35,7 @@ pub struct Answer {
 }
 
 // Metadata kinds 3 and 4: the head alone.
-pub fn head_alone(kind: u8, sheet: &mut [u8], text: &mut [u8]) -> Outcome
+fn head_alone(kind: u8, sheet: &mut [u8], text: &mut [u8]) -> Outcome
     ensures { λ r. ⌜ answered (now (sheet .entry)) (now (text .entry)) kind nothingRead ≡ told r (now (sheet .exit)) (now (text .exit)) ⌝ }
 {
     if sheet.len() < 20 {
@@ -220,7 +220,7 @@ fn read_longer(
 // A kind that carries declarations. `read_longer` is called from two places, so that the compiler keeps its frames apart from this one's: a
 // frame of many pages costs a small class more than its reading.
 // It requires what `fault_of` has found of the input: refusals 1 to 4 are the entries' own.
-pub fn read_any(
+fn read_any(
     kind: u8,
     d1: &[u16],
     d2: &[u16],
@@ -284,7 +284,7 @@ fn outcome_of(
 }
 
 // The answer with the version as it came.
-pub fn answer_of(outcome: Outcome, version: [i32; 3]) -> Answer
+fn answer_of(outcome: Outcome, version: [i32; 3]) -> Answer
     ensures { λ r. ⌜ (r .number ≡ outcome .number) × (r .detail ≡ outcome .detail) × (r .sheet ≡ outcome .sheet) × (r .text ≡ outcome .text) × (r .types ≡ outcome .types) × (r .version ≡ version) ⌝ }
 {
     Answer {

@@ -61,7 +61,7 @@ fn write_out(
 }
 
 // 11, 12, or both areas written.
-pub fn write_in(
+pub(crate) fn write_in(
     kind: u8,
     measured: Measured,
     bytes: &[u8],

@@ -23,17 +23,17 @@ use schema::Stop;
 use schema::Tables;
 use sheet::State;
 
-pub mod areas; // areas.rt: what was measured, written into both areas
+mod areas; // areas.rt: what was measured, written into both areas
 
 // What the first pass has found: where the body begins, its tables, and how far it is written after each list.
-pub struct Measured {
+pub(crate) struct Measured {
     pub at: usize,
     pub tables: Tables,
     pub sections: Sections,
 }
 
 // The first pass, or why it stops.
-pub enum FirstPass {
+enum FirstPass {
     Done { measured: Measured },
     Refused { stop: Stop },
     NoRoom,
@@ -178,6 +178,7 @@ fn read_in(
 }
 
 // d1 of a kind that carries declarations, within its limit.
+// Callers show `InLimits`: metadata from the answer of `fault_of`, which has found no fault.
 pub fn decode_in(
     kind: u8,
     d1: &[u16],

@@ -74,6 +74,7 @@ fn type_place(
 }
 
 // A declaration's own type, in the message that holds it.
+// Callers show that the message stands in the payload and that this is within its limit: descriptors::defaults from its `PartRoom`.
 pub fn declared_place(
     msg: &[u8],
     base: u32,
@@ -89,6 +90,7 @@ pub fn declared_place(
 }
 
 // The first kept argument of a type, in its message; `left` is what is left of the depth at its arguments.
+// Callers show the same: descriptors::erased cuts the message out of the payload, whose limit its `PartRoom` has.
 pub fn first_argument(
     msg: &[u8],
     base: u32,

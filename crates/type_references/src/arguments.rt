@@ -18,7 +18,7 @@ use wire::Piece;
 use wire::WireError;
 
 // The type of an argument or of a declaration: inline, by its index, or not there.
-pub enum Argument {
+pub(crate) enum Argument {
     Inline { start: usize, end: usize },
     ByIndex { index: u32 },
     Nothing,
@@ -26,7 +26,7 @@ pub enum Argument {
 }
 
 // The type in a message: inline in one field, else by its index in another.
-pub fn type_field(msg: &[u8], base: u32, inline: u32, indexed: u32) -> Argument
+pub(crate) fn type_field(msg: &[u8], base: u32, inline: u32, indexed: u32) -> Argument
     ensures { λ r. ⌜ TypeFieldTold base (now (msg .entry)) inline indexed r ⌝ }
 {
     let found = find_two(&*msg, base, inline, indexed);
@@ -51,7 +51,7 @@ pub fn type_field(msg: &[u8], base: u32, inline: u32, indexed: u32) -> Argument
 
 // The argument from a place to another of a message, whose first byte has the offset `base`.
 // It requires that the part lies in the message and the message among the decoded bytes, so that it can be sliced and its offset fits.
-pub fn argument_at(msg: &[u8], base: u32, from: usize, to: usize) -> Argument
+pub(crate) fn argument_at(msg: &[u8], base: u32, from: usize, to: usize) -> Argument
     requires { ⌜ (from ≤ to) × (to ≤ length (now msg)) × (base + length (now msg) ≤ 32768) ⌝ }
     ensures { λ r. ⌜ ArgumentTold base (now (msg .entry)) from to r ⌝ }
 {
@@ -103,7 +103,7 @@ fn is_kept(
 }
 
 // How many arguments of a type are kept. `left` is left at them.
-pub fn count_kept(
+pub(crate) fn count_kept(
     msg: &[u8],
     base: u32,
     left: usize,

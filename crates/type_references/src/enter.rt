@@ -34,7 +34,7 @@ use sheet::put_number;
 use wire::WireError;
 
 // Where a type stands: what is left of the depth there, its role on the sheet, and whether it is nullable by its place in the type table.
-pub struct TypePlace {
+pub(crate) struct TypePlace {
     pub left: usize,
     pub role: u8,
     pub nullable: bool,
@@ -75,7 +75,7 @@ fn put_type(
 }
 
 // How many arguments of a type are kept, or why one isn't cut.
-pub enum Counted {
+enum Counted {
     Count { count: usize },
     Refused { error: WireError },
 }
@@ -108,7 +108,7 @@ fn count_arguments(
 }
 
 // A type whose message is cut is entered; its arguments are to follow.
-pub fn enter_type(
+pub(crate) fn enter_type(
     msg: &[u8],
     base: u32,
     place: TypePlace,

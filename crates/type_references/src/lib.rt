@@ -26,10 +26,10 @@ use schema::types::less;
 use sheet::State;
 use wire::Piece;
 
-pub mod waiting; // waiting.rt: what waits in a lent area
-pub mod arguments; // arguments.rt: the arguments of a type
-pub mod enter; // enter.rt: a type's own row
-pub mod parse; // parse.rt: types inside types
+mod waiting; // waiting.rt: what waits in a lent area
+mod arguments; // arguments.rt: the arguments of a type
+mod enter; // enter.rt: a type's own row
+mod parse; // parse.rt: types inside types
 
 // The arguments of a declaration's own type where there is no type to look up: as many wait as a short message has bytes at most.
 fn short_arguments(
@@ -259,6 +259,7 @@ fn looked_up(
 }
 
 // A declaration's own type, if it is there: inline in one field of its message, else by its index in another.
+// Callers show `Ready` and that the message is within the payload: the files of members from the `Affords` and `Stands` that they require.
 pub fn declared_type(
     msg: &[u8],
     base: u32,

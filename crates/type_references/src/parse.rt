@@ -27,7 +27,7 @@ use wire::Piece;
 
 // The arguments of the type in a message, one after the other, and theirs. `left` is left at them; what waits stands in `nest`, and a look-up is
 // lent what is free of it.
-pub fn arguments_at(
+pub(crate) fn arguments_at(
     msg: &[u8],
     base: u32,
     left: usize,
@@ -133,7 +133,7 @@ pub fn arguments_at(
 }
 
 // A type whose message is cut.
-pub fn parse_at(
+fn parse_at(
     msg: &[u8],
     base: u32,
     place: TypePlace,
@@ -183,7 +183,7 @@ pub fn parse_at(
 }
 
 // The type at an index of the type table.
-pub fn resolve_at(
+fn resolve_at(
     index: u32,
     left: usize,
     role: u8,

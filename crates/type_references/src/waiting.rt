@@ -6,7 +6,7 @@ ghost use lib.ListN.{length, set, getD};
 ghost use Rattle.type_references.specs.Pending.{waitingCode, atIn, endIn, leftIn};
 
 // The arguments from a place to an end of the message, and what is left of the depth there.
-pub struct Waiting {
+pub(crate) struct Waiting {
     pub at: usize,
     pub end: usize,
     pub left: usize,
@@ -14,7 +14,7 @@ pub struct Waiting {
 
 // Places among at most 32,768 bytes fit 16 bits, a depth of at most 64 the rest.
 // It requires room, which the walk has shown to be there, so that a push has no second answer.
-pub fn push(nest: &mut [u64], height: usize, at: usize, end: usize, left: usize)
+pub(crate) fn push(nest: &mut [u64], height: usize, at: usize, end: usize, left: usize)
     requires { ⌜ (height < length (now nest)) × (at ≤ 32768) × (end ≤ 32768) × (left ≤ 64) ⌝ }
     ensures { λ _. ⌜ now (nest .exit) ≡ set (now (nest .entry)) height (waitingCode at end left) ⌝ }
 {
@@ -22,7 +22,7 @@ pub fn push(nest: &mut [u64], height: usize, at: usize, end: usize, left: usize)
 }
 
 // What was pushed last below a height. It requires that a number stands there.
-pub fn waiting_at(nest: &[u64], height: usize) -> Waiting
+pub(crate) fn waiting_at(nest: &[u64], height: usize) -> Waiting
     requires { ⌜ height < length (now nest) ⌝ }
     ensures { λ r. ⌜ r ≡ record { at = atIn (getD (now (nest .entry)) height 0); end = endIn (getD (now (nest .entry)) height 0); left = leftIn (getD (now (nest .entry)) height 0) } ⌝ }
 {
