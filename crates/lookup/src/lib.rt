@@ -11,8 +11,8 @@ ghost use Rattle.names.specs.Names.{stringsFrom, endsFit, d2String, string};
 ghost use Rattle.lookup.specs.Lookups.{FindTold, PlaceTold, PredefinedTold, NamedTold, NotesOf, WordsAt, DecidedTold};
 ghost use Rattle.lookup.specs.Steps.{extentOf};
 
-pub mod note; // note.rt: what a record builds, in two words
-pub mod steps; // steps.rt: the name that a record builds
+mod note; // note.rt: what a record builds, in two words
+mod steps; // steps.rt: the name that a record builds
 pub mod resolve; // resolve.rt: each record worked out once
 pub mod qualified; // qualified.rt: class names by their index
 
@@ -31,13 +31,13 @@ use names::name::predefined;
 use names::records::RECORD_WORDS;
 use names::records::record_in;
 
-pub enum Served {
+enum Served {
     Record { at: usize },
     Nothing,
 }
 
 // The record that serves an index, by the first index that each of `count` records serves and the first that none does.
-pub fn find_record(notes: &[u64], count: usize, index: u32) -> Served
+fn find_record(notes: &[u64], count: usize, index: u32) -> Served
     ensures { λ r. ⌜ FindTold (now (notes .entry)) count index r ⌝ }
 {
     if notes.len() / RECORD_WORDS < count {
@@ -65,7 +65,7 @@ pub fn find_record(notes: &[u64], count: usize, index: u32) -> Served
 }
 
 // A string of d2, by where its strings end.
-pub fn d2_extent(ends: &[u32], index: u32) -> Extent
+pub(crate) fn d2_extent(ends: &[u32], index: u32) -> Extent
     ensures { λ r. ⌜ ((units : List ℕ) → endsFit 0 (now (ends .entry)) (length units) ≡ true → getElem? (stringsFrom 0 (now (ends .entry)) units) index ≡ extentOf units r) ⌝ }
 {
     let i = wide(index);
@@ -101,7 +101,7 @@ fn d2_name(ends: &[u32], index: u32) -> Name
 }
 
 // Where the message of record `at` stands, by the index.
-pub fn place_of(bytes: &[u8], notes: &[u64], at: usize) -> Extent
+pub(crate) fn place_of(bytes: &[u8], notes: &[u64], at: usize) -> Extent
     ensures { λ r. ⌜ PlaceTold (now (bytes .entry)) (now (notes .entry)) at r ⌝ }
 {
     if notes.len() / RECORD_WORDS <= at {
@@ -119,7 +119,7 @@ pub fn place_of(bytes: &[u8], notes: &[u64], at: usize) -> Extent
     Extent::Part { start, end }
 }
 
-pub enum Decided {
+pub(crate) enum Decided {
     Yes { name: Name },
     No,
 }
@@ -167,7 +167,7 @@ const PREDEFINED_INDEX_TAG: u32 = RECORD_PREDEFINED_INDEX * 8;
 const OPERATION_TAG: u32 = RECORD_OPERATION * 8;
 
 // The same as `read_record`. Most records have no field, or one of two bytes: its tag and its number.
-pub fn record_at(bytes: &[u8], start: usize, end: usize) -> Decided
+pub(crate) fn record_at(bytes: &[u8], start: usize, end: usize) -> Decided
     requires { ⌜ (start ≤ end) × (end ≤ length (now bytes)) × (start < 2 ^ 32) ⌝ }
     ensures { λ r. ⌜ NamedTold (now (bytes .entry)) start end r ⌝ }
 {
@@ -207,7 +207,7 @@ fn noted_at(notes: &[u64], at: usize, class: bool) -> Decided
 
 // The name that the record of an index builds, or with `class` its class name, if it decides: it has a string or a predefined index, even if
 // its text can't be built.
-pub fn by_record(notes: &[u64], count: usize, index: u32, class: bool) -> Decided
+pub(crate) fn by_record(notes: &[u64], count: usize, index: u32, class: bool) -> Decided
     ensures { λ r. ⌜ DecidedTold (now (notes .entry)) count index class r ⌝ }
 {
     let found = find_record(&*notes, count, index);

@@ -5,13 +5,13 @@ ghost use Rattle.lookup.specs.Note.{noted, notedClass, notedAs, classSiz
 use crate::Decided;
 use names::name::Name;
 
-pub struct Words {
+pub(crate) struct Words {
     pub place: u64,
     pub steps: u64,
 }
 
 // A record's name with its size, and the part of its source from `start` to `end` that is left of it as a class name.
-pub fn words_of(name: Name, start: usize, end: usize) -> Words
+pub(crate) fn words_of(name: Name, start: usize, end: usize) -> Words
     requires { ⌜ NameFits name × (start < 65536) × (end < 65536) ⌝ }
     ensures { λ r. ⌜ WordsTold name start end r ⌝ }
 {
@@ -84,7 +84,7 @@ fn noted_class(place: u64, steps: u64) -> Decided
 }
 
 // The name, or with `class` the class name.
-pub fn noted_as(class: bool, place: u64, steps: u64) -> Decided
+pub(crate) fn noted_as(class: bool, place: u64, steps: u64) -> Decided
     ensures { λ r. ⌜ r ≡ notedAs class place steps ⌝ }
 {
     if class {

@@ -24,7 +24,7 @@ use names::name::absent;
 use names::name::base_part;
 use names::name::instead;
 
-pub enum Last {
+enum Last {
     Character { place: usize, code: u32 },
     Nothing,
 }
@@ -88,7 +88,7 @@ fn qualified_part(name: Name, start: usize, end: usize) -> Name
 }
 
 // The class name of a record's name, when the record is worked out. What operation 2 puts in front begins with no L.
-pub fn qualified_bytes(payload: &[u8], name: Name) -> Name
+pub(crate) fn qualified_bytes(payload: &[u8], name: Name) -> Name
     requires { ⌜ BytesName name ⌝ }
     ensures { λ r. ⌜ ClassTold (now (payload .entry)) name r ⌝ }
 {

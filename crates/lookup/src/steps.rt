@@ -26,7 +26,7 @@ use names::records::Record;
 use wire::Piece;
 
 // A part of a slice, `&s[start..end]`.
-pub enum Extent {
+pub(crate) enum Extent {
     Part { start: usize, end: usize },
     Nothing,
 }
@@ -186,7 +186,7 @@ fn substring_of(payload: &[u8], source: u8, start: usize, end: usize, numbers: T
 
 // The name that a record builds whose message begins at `from`. Public for the crate's root alone, which has read the record there, so that
 // the sums of places fit.
-pub fn record_name(payload: &[u8], from: usize, read: Record) -> Name
+pub(crate) fn record_name(payload: &[u8], from: usize, read: Record) -> Name
     requires { ⌜ PieceFits from (read .string) ⌝ }
     ensures { λ r. ⌜ BuiltTold (now (payload .entry)) from read r ⌝ }
 {
@@ -220,7 +220,7 @@ fn is_index(index: Indexed) -> bool
 }
 
 // A record with a string or a predefined index decides its indices, even if its text can't be built.
-pub fn decides(string: Piece, index: Indexed) -> bool
+pub(crate) fn decides(string: Piece, index: Indexed) -> bool
     ensures { λ r. ⌜ ((base : ℕ) (s : List ℕ) → r ≡ isSome (pieceTold base s string) || isSome (indexTold index)) ⌝ }
 {
     match string {

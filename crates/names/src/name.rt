@@ -133,7 +133,7 @@ pub fn predefined(index: u32) -> PredefinedPart
 }
 
 // The part of `s` from a place to another, as far as `s` goes.
-pub fn part_of(s: &[u8], start: usize, end: usize) -> &[u8]
+pub(crate) fn part_of(s: &[u8], start: usize, end: usize) -> &[u8]
     ensures { λ r. ⌜ now r ≡ partFrom start end (now (s .entry)) ⌝ }
 {
     if end <= start {
@@ -156,7 +156,7 @@ fn shortened<'p, 'l: 'p>(list: &'l [u8], payload: &'p [u8]) -> &'p [u8]
 }
 
 // What a name is made of, if not of units of d2: a part of the list or of the payload.
-pub fn base_text<'p, 'l: 'p>(
+fn base_text<'p, 'l: 'p>(
     payload: &'p [u8],
     list: &'l [u8],
     source: u8,

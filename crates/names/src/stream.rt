@@ -189,7 +189,7 @@ fn put_listed(start: usize, end: usize, change: Change, area: &mut [u8], at: usi
 }
 
 // What is written next of a text whose size is noted, and where it goes on.
-pub struct Fitted {
+struct Fitted {
     pub code: u32,
     pub next: usize,
 }
@@ -360,6 +360,7 @@ fn put_source(
 }
 
 // A name's text in UTF-8, as far as the area goes; an absent one has none. Answers the place after it.
+// Callers show that this place fits 64 bits: by the limits of payload and d2, and of the place where they write.
 pub fn put_name(
     payload: &[u8],
     d2: &[u16],
