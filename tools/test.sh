@@ -1,6 +1,6 @@
 #!/usr/bin/env bash
 # class_input.py and sheet_text.py on the examples: each sheet in words is examples/NAME.txt, and the inputs' hashes are those that are noted.
-# crate_uses.py on a repository of two crates.
+# crate_uses.py and public.py on a repository of two crates; public.py on the crates.
 # The tools for proofs, and that each proof is what its template gives. That README and NOTICE name every crate.
 set -eu
 cd "$(dirname "$0")/.."
@@ -81,6 +81,50 @@ refused 'its text names low' python3 -B "$uses/tools/crate_uses.py" --check
 python3 -B "$uses/tools/crate_uses.py" --write
 printf 'low:\nhigh: low io # nothing\n' > "$here/expected"
 same 'crate_uses --write' "$here/expected" "$uses/crates.txt"
+
+# public.py: what a crate above names stays public, and what nothing names is told, one wrong thing at a time
+public=$here/public
+mkdir -p "$public/tools" "$public/docs" "$public/crates/low/src" "$public/crates/high/src" "$public/crates/high/proofs"
+cp tools/public.py "$public/tools"
+printf 'low:\nhigh: low\n' > "$public/crates.txt"
+begin_public() { # both crates as they should be; `named` shows One, which no crate names, and `asked` requires something
+    printf '## Public functions\n\n### low\n\n| `named` | - |\n| `deep::asked` | - |\n| `kinds::One::error` | - |\n\n## Other\n\n| `none` | - |\n' > "$public/docs/TRACE.md"
+    printf 'pub mod deep;\npub mod kinds;\nuse kinds::One;\npub fn named() -> One {\n    One::Value\n}\n' > "$public/crates/low/src/lib.rt"
+    printf '// Callers show that x is small.\npub fn asked(x: u8) -> u8\n    requires { x }\n{\n    x\n}\n' > "$public/crates/low/src/deep.rt"
+    printf 'pub enum One {\n    Value,\n}\nimpl One {\n    pub fn error(self) -> u8 {\n        0\n    }\n}\n' > "$public/crates/low/src/kinds.rt"
+    printf 'use low::named;\nuse low::deep::asked;\nfn g() -> u8 {\n    let one = named();\n    asked(one.error())\n}\n' > "$public/crates/high/src/lib.rt"
+}
+public_check() { python3 -B "$public/tools/public.py" --check; }
+begin_public
+public_check > "$here/given" || { echo 'public.py: refused as it should be'; cat "$here/given"; failed=1; }
+echo 'pub fn spare() {}' >> "$public/crates/low/src/lib.rt"
+refused 'low::spare (fn): no other crate names it; it can be private' public_check
+echo '// low::spare' >> "$public/crates/high/src/lib.rt"
+refused 'low::spare (fn): no other crate names it' public_check
+echo 'use Rattle.low.proofs.spare.Reads as reads' > "$public/crates/high/proofs/Lib.antt"
+refused 'low::spare is public, and the table' public_check
+sed -i 's/^| `named`.*/&\n| `spare` | - |/' "$public/docs/TRACE.md"
+public_check > "$here/given" || { echo 'public.py: a proof names spare'; cat "$here/given"; failed=1; }
+rm "$public/crates/high/proofs/Lib.antt"
+begin_public
+sed -i 's/Callers show/Callers know/' "$public/crates/low/src/deep.rt"
+refused 'low::deep::asked requires something' public_check
+begin_public
+sed -i 's/named();/other();/; s/^fn g/fn other() -> Two {\n    Two::Value\n}\n&/' "$public/crates/high/src/lib.rt"
+refused 'low::kinds::One::error (fn): no other crate names it' public_check
+begin_public
+sed -i '/^use low::named/d' "$public/crates/high/src/lib.rt"
+refused 'low::kinds::One (enum): no other crate names it' public_check
+refused 'low::kinds::One::error (fn): no other crate names it' public_check
+begin_public
+printf 'fn g() {}\n' > "$public/crates/high/src/lib.rt"
+printf 'use deep::asked;\n' >> "$public/crates/low/src/lib.rt"
+python3 -B "$public/tools/public.py" --write
+grep -h 'fn \|mod \|enum ' "$public/crates/low/src/"*.rt > "$here/given"
+printf 'pub(crate) fn asked(x: u8) -> u8\npub(crate) enum One {\n    fn error(self) -> u8 {\nmod deep;\nmod kinds;\nfn named() -> One {\n' > "$here/expected"
+same 'public.py --write' "$here/expected" "$here/given"
+refused 'low::named is in the table of docs/TRACE.md, and no public function' public_check
+python3 -B tools/public.py --check || failed=1
 
 # ./read: with a program that knows one answer, and with the real one where it is built
 printf '#!/bin/sh\ncat examples/Sale.line\n' > "$here/knows_sale"
