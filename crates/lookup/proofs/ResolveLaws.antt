@@ -329,12 +329,12 @@ module _ (a b : List ℕ) (n : ℕ) (e : take n a ≡ take n b) where
   first-kept count h zero l = refl
   first-kept count h (suc k) l = same-at (3 * k + 2) (omega arith)
 
-pub notes-kept : (bytes a b : List ℕ) (count : ℕ) (records : List Record) → take (3 * count) a ≡ take (3 * count) b → length b ≡ length a
+pub notes-kept : (bytes a b : List ℕ) (count : ℕ) (records : List Record) → take (3 * count) a ≡ take (3 * count) b → 3 * count ≤ length b
     → NotesOf bytes a count records → NotesOf bytes b count records
 notes-kept bytes a b count records e l i = record {
   sums = record {
     many = i .sums .many;
-    long = rw l (i .sums .long);
+    long = l;
     are = λ k h. first-kept a b (3 * count) e count (omega arith) k h ∙ i .sums .are k h;
   };
   each = λ k r q.

@@ -10,7 +10,7 @@ use native.Mathlib.Omega.{arith}
 use borrow.Author.Tests.{ltb-true, ltb-false, lt-ltb, le-ltb, eqb-true, eqb-false}
 use lib.Dec.{eqb, ltb}
 use lib.ListN.{length, take, drop, getD, getElem?, set, length-set, length-take, length-drop}
-use lib.Seq.{getD-set-same, getD-set-other, take-set-le}
+use lib.Seq.{getD-set-same, getD-set-other, take-set-le, take-take}
 use Rattle.foundation.specs.Choices.{if_then_else_, ifSome}
 use Rattle.foundation.proofs.ChoiceLaws.{if-ind}
 use Rattle.characters.specs.Characters.{utf8, fromUtf16, partFrom}
@@ -31,6 +31,12 @@ keeps-set {n} {a} {b} j v h k = record { long = length-set b j v ∙ k .long; fi
 
 pub keeps-then : {n : ℕ} {a b c : List ℕ} → Keeps n a b → Keeps n b c → Keeps n a c
 keeps-then k l = record { long = l .long ∙ k .long; first = l .first ∙ k .first }
+
+pub keeps-less : {m n : ℕ} {a b : List ℕ} → m ≤ n → Keeps n a b → Keeps m a b
+keeps-less {m} {n} {a} {b} h k = record {
+  long = k .long;
+  first = sym (take-take m n b h) ∙ ap (take m) (k .first) ∙ take-take m n a h;
+}
 
 pub keeps-sizes : {a b c : List ℕ} → Keeps (sizesFrom (length a)) a b → Keeps (sizesFrom (length b)) b c → Keeps (sizesFrom (length a)) a c
 keeps-sizes {a} {b} {c} k l = keeps-then k (subst (λ (n : ℕ). Keeps (sizesFrom n) b c) (k .long) l)
