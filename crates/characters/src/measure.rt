@@ -54,7 +54,7 @@ fn block_size(units: &[u16], from: usize, to: usize) -> u16
 }
 
 // How many bytes UTF-8 gives the text of the units from `start` to `end`.
-// Callers show that `end` isn't past the units, which names::stream tests, and that the number fits 64 bits, which it asks of its own callers.
+// Callers show that `end` isn't past the units, by a test, and that the number fits 64 bits: names::stream and lookup::strings by what they require.
 pub fn utf8_size(units: &[u16], start: usize, end: usize) -> usize
     requires { ⌜ (end ≤ length (now units)) × (length (utf8 (fromUtf16 (partFrom start end (now units)))) < 2 ^ 64) ⌝ }
     ensures { λ r. ⌜ r ≡ length (utf8 (fromUtf16 (partFrom start end (now (units .entry))))) ⌝ }

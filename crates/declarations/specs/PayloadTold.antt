@@ -13,9 +13,11 @@ use Rattle.wire.specs.Wire.{Message, cut}
 use Rattle.wire.specs.Messages.{as32}
 use Rattle.wire.specs.Told as wire
 use Rattle.names.specs.Records.{Record}
-use Rattle.names.specs.Names.{Names}
+use mathlib.Core.Bool.{true}
+use Rattle.names.specs.Names.{Names, endsFit}
 use Rattle.names.specs.Index.{IndexOf}
 use Rattle.lookup.specs.Lookups.{NotesOf}
+use Rattle.lookup.specs.Strings.{codesFrom, SizesOf}
 use Rattle.declaration_rows.specs.Declarations.{Declarations}
 use Rattle.schema.specs.Reading.{TypeTable, allowance}
 use Rattle.schema.specs.Types.{typeTableIn}
@@ -71,3 +73,18 @@ abbrev pub OpenedTold : List ℕ → List ℕ → Opened → Type 0
 OpenedTold bytes notes (opened.Body at tables) = OpenedAt bytes notes at tables
 OpenedTold bytes notes (opened.Refused error) = (kind : ℕ) (d2 : ℕ → Res (Option Text)) → payload kind d2 bytes ≡ wire.refusal error
 OpenedTold bytes notes opened.NoRoom = NotesRoom bytes notes → ⊥
+
+-- All that a reader is lent of the decoded bytes: their tables, and after these the sizes of d2's long strings.
+pub record LentAt (bytes d2 ends notes : List ℕ) (at : ℕ) (tables : Tables) : Type 0 where
+  pub opened : OpenedAt bytes notes at tables
+  pub sizes : endsFit 0 ends (length d2) ≡ true → SizesOf d2 ends notes
+
+-- room for it
+pub record LentRoom (bytes notes : List ℕ) : Type 0 where
+  pub short : length bytes < 65536
+  pub long : 3 * length bytes ≤ 2 * codesFrom (length notes)
+
+abbrev pub LentTold : List ℕ → List ℕ → List ℕ → List ℕ → Opened → Type 0
+LentTold bytes d2 ends notes (opened.Body at tables) = LentAt bytes d2 ends notes at tables
+LentTold bytes d2 ends notes (opened.Refused error) = (kind : ℕ) (strings : ℕ → Res (Option Text)) → payload kind strings bytes ≡ wire.refusal error
+LentTold bytes d2 ends notes opened.NoRoom = LentRoom bytes notes → ⊥

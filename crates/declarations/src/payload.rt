@@ -6,9 +6,12 @@ ghost use lib.ListN.{length};
 ghost use Rattle.foundation.specs.Results.{_from_, got};
 ghost use Rattle.wire.specs.Wire.{readDelimited};
 ghost use Rattle.wire.specs.Told.{bodyOf, restOf};
-ghost use Rattle.declarations.specs.PayloadTold.{BodyOpened, NotedOpened, OpenedTold};
+ghost use Rattle.declarations.specs.PayloadTold.{BodyOpened, NotedOpened, OpenedTold, LentTold};
 use fields::CLASS_TYPE_TABLE;
+use lookup::codes::codes_from;
+use lookup::codes::note_codes;
 use lookup::resolve::resolve;
+use lookup::strings::note_strings;
 use messages::Checked;
 use messages::check_from;
 use names::records::RECORD_WORDS;
@@ -92,5 +95,24 @@ pub fn open_payload(bytes: &[u8], notes: &mut [u64]) -> Opened
             open_table(bytes, start, end, rest, notes)
         }
         messages::reader::Split::Refused { error } => Opened::Refused { error },
+    }
+}
+
+// The same, and after both tables' notes a code for each of the first indices and the sizes of d2's long strings.
+// Callers show that d2 is within its limit: passes from its `InLimits`.
+pub fn open_lent(bytes: &[u8], d2: &[u16], ends: &[u32], notes: &mut [u64]) -> Opened
+    requires { ⌜ length (now d2) ≤ 32768 ⌝ }
+    ensures { λ r. ⌜ LentTold (now (bytes .entry)) (now (d2 .entry)) (now (ends .entry)) (now (notes .exit)) r ⌝ }
+{
+    let limit = codes_from(notes.len());
+    let opened = open_payload(bytes, &mut notes[..limit]);
+    match opened {
+        Opened::Body { at, tables } => {
+            note_codes(notes, tables.records);
+            note_strings(d2, ends, notes);
+            Opened::Body { at, tables }
+        }
+        Opened::Refused { error } => Opened::Refused { error },
+        Opened::NoRoom => Opened::NoRoom,
     }
 }

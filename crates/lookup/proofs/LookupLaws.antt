@@ -11,12 +11,12 @@ use lib.Seq.{take-take}
 use Rattle.foundation.specs.Results.{Res, ok, _from_}
 use Rattle.foundation.specs.Texts.{Text}
 use Rattle.wire.specs.Wire.{cut}
-use Rattle.characters.specs.Characters.{fromUtf16, partFrom}
+use Rattle.characters.specs.Characters.{utf8, fromUtf16, partFrom}
 use Rattle.foundation.proofs.ChoiceLaws.{drop-take}
 use Rattle.names.specs.Records as definition
 use Rattle.names.specs.Records.{decides, operated, textOf}
 use Rattle.names.specs.Names.{Names, recordAt, stringsFrom, d2String, string, qualifiedName}
-use Rattle.names.specs.Name.{sourceText, nameText, plain, absentName}
+use Rattle.names.specs.Name.{sourceText, sized, nameText, absentName}
 use Rattle.names.specs.Index.{startOf, endOf, RecordAt, IndexOf}
 use Rattle.lookup.specs.Lookups.{foundIn, FoundBelow, FindTold, lookedUp, NamedIs, ClassIs, NoteTold, NotesOf, WordsAt, DecidedIs, DecidedTold}
 use Rattle.lookup.specs.Note.{noted, notedClass, notedAs}
@@ -29,6 +29,8 @@ use Rattle.lookup.specs.declared.Decided.{Decided}
 use Rattle.lookup.specs.declared.Decided.the-variants as decided
 use Rattle.lookup.specs.declared.steps.Extent.{Extent}
 use Rattle.lookup.specs.declared.steps.Extent.the-variants as extent
+use Rattle.names.proofs.FittedLaws.{sized-is}
+use Rattle.lookup.specs.Strings.{SizeOf}
 use Rattle.lookup.proofs.PartLaws.{same-substituted}
 
 elem-some : {A : Type 0} (l : List A) (k : ℕ) → k < length l → (a : A) × (getElem? l k ≡ some a)
@@ -42,9 +44,14 @@ module _ (payload units ends : List ℕ) (index : ℕ) {r : Extent} (e : getElem
   unfolding d2String nameText sourceText
   d2-absent g q = rw (q, e, g)
 
-  pub d2-named : {start end : ℕ} → r ≡ extent.Part start end → d2String (stringsFrom 0 ends units) index ≡ ok (nameText payload units (plain 3 start end))
+  pub d2-named : {start end : ℕ} → r ≡ extent.Part start end → (size : ℕ) → SizeOf units ends index size
+      → d2String (stringsFrom 0 ends units) index
+      ≡ ok (nameText payload units (record { source = 3; start = start; end = end; from = 0; to = 0; operation = 0; qualified = false; size = size }))
   unfolding d2String nameText sourceText operated
-  d2-named {start} {end} g = rw (e, g) (ap (λ (t : Text). ok (some t)) (sym (same-substituted (fromUtf16 (partFrom start end units)))))
+  d2-named {start} {end} g size z =
+      let t = fromUtf16 (partFrom start end units) in
+      let h : (size ≡ 0 → ⊥) → size ≡ length (utf8 t) = λ n. z n (partFrom start end units) (e ∙ ap (extentOf units) g) in
+      rw (e, g) (ap (λ (t : Text). ok (some t)) (sym (sized-is size t h) ∙ ap (sized size) (sym (same-substituted t))))
 
 -- The look-up.
 module _ (bytes notes : List ℕ) (count : ℕ) (records : List definition.Record) (i : NotesOf bytes notes count records) (d2 : ℕ → Res (Option Text))

@@ -18,7 +18,7 @@ use Rattle.characters.specs.Characters.{utf8, fromUtf8, partFrom}
 use Rattle.characters.proofs.UnitLaws.{units-ended}
 use Rattle.characters.proofs.TestLaws.{below}
 use Rattle.names.proofs.NameLaws.{part-rest, source-bytes, source-absent, absent-bytes}
-use Rattle.names.proofs.FittedLaws.{sized-same}
+use Rattle.names.proofs.FittedLaws.{sized-is}
 use Rattle.names.specs.Records.{Record, substituted, operated}
 use Rattle.names.specs.Name.{predefinedList, sourceText, sized, steppedBy, nameText}
 use Rattle.names.specs.Stream.{baseOf, nameBytes}
@@ -91,10 +91,6 @@ unfolding nameBytes nameText operated
 unstepped-size bytes n o q z t e = rw (e, o, q, z) (omega arith)
 
 -- A name says the same with its size.
-sized-is : (size : ℕ) (t : Text) → ((size ≡ 0 → ⊥) → size ≡ length (utf8 t)) → sized size t ≡ t
-sized-is zero t h = refl
-sized-is (suc k) t h = sized-same (suc k) t (h λ z. omega arith)
-
 two : (size whole part : ℕ) (t : Bool) → ((size ≡ 0 → ⊥) → size ≡ whole) → whole ≡ part + (if t then 0 else 2)
     → ((if t then size else size - 2) ≡ 0 → ⊥) → (if t then size else size - 2) ≡ part
 two size whole part true h e n = let z = h n in omega arith
@@ -272,7 +268,7 @@ module _ (bytes : List ℕ) where
             rw (place-new, steps-new) (f r λ units. rw (b .is) (t .is (b .message) (b .cuts) units));
       }
 
-still-lower : (k i : ℕ) → (k ≡ i → ⊥) → k < i + 1 → k < i
+pub still-lower : (k i : ℕ) → (k ≡ i → ⊥) → k < i + 1 → k < i
 still-lower k i n h = go (ltb k i) refl
   where
     go : (b : Bool) → ltb k i ≡ b → k < i
@@ -333,12 +329,12 @@ module _ (a b : List ℕ) (n : ℕ) (e : take n a ≡ take n b) where
   first-kept count h zero l = refl
   first-kept count h (suc k) l = same-at (3 * k + 2) (omega arith)
 
-pub notes-kept : (bytes a b : List ℕ) (count : ℕ) (records : List Record) → take (3 * count) a ≡ take (3 * count) b → length b ≡ length a
+pub notes-kept : (bytes a b : List ℕ) (count : ℕ) (records : List Record) → take (3 * count) a ≡ take (3 * count) b → 3 * count ≤ length b
     → NotesOf bytes a count records → NotesOf bytes b count records
 notes-kept bytes a b count records e l i = record {
   sums = record {
     many = i .sums .many;
-    long = rw l (i .sums .long);
+    long = l;
     are = λ k h. first-kept a b (3 * count) e count (omega arith) k h ∙ i .sums .are k h;
   };
   each = λ k r q.

@@ -29,16 +29,19 @@ use Rattle.characters.proofs.UnitLaws.{units-ended, units-cons}
 use Rattle.characters.proofs.PartLaws.{part-part, part-short, rest-is}
 use Rattle.names.specs.Records.{substituted, dotted, operated}
 use Rattle.names.specs.Names.{Names, string, qualifiedName, withoutLast, unwrapped, stringsFrom, d2String}
-use Rattle.names.specs.Name.{predefinedList, sourceText, nameText, plain, absentName}
+use Rattle.names.specs.Name.{predefinedList, sourceText, sized, nameText, plain, absentName}
 use Rattle.names.specs.Stream.{baseOf}
 use Rattle.lookup.specs.Steps.{extentOf, BytesName}
-use Rattle.lookup.specs.Qualified.{LastTold, sizeWith, UnwrapTold, qualifiedPart, classText, partSize, ClassTold, ClippedTold, WrappedTold}
+use Rattle.lookup.specs.Qualified.{LastTold, sizeWith, UnwrapTold, qualifiedPart, classText, partSize, ClassTold, ClippedTold, WrappedTold, unitsName}
+use Rattle.lookup.specs.Note.{classSize}
+use Rattle.lookup.specs.Strings.{SizeOf}
 use Rattle.names.specs.declared.name.Name.{Name}
 use Rattle.lookup.specs.declared.qualified.Last.{Last}
 use Rattle.lookup.specs.declared.qualified.Last.the-variants as last
 use Rattle.lookup.specs.declared.steps.Extent.{Extent}
 use Rattle.lookup.specs.declared.steps.Extent.the-variants as extent
 use Rattle.names.proofs.NameLaws.{part-rest, source-bytes}
+use Rattle.names.proofs.FittedLaws.{sized-is}
 use Rattle.lookup.proofs.PartLaws.{same-substituted}
 
 -- A text by its last character.
@@ -446,14 +449,18 @@ module _ (l : List ℕ) (start end : ℕ) where
       opened : fromUtf16 (partFrom start end l) ≡ 0x4c ∷ fromUtf16 (inner ++ (getD l (end - 1) 0 ∷ []))
       opened = ap fromUtf16 (parts ∙ ap (λ (u : ℕ). u ∷ (inner ++ (getD l (end - 1) 0 ∷ []))) h) ∙ from-first-unit (inner ++ (getD l (end - 1) 0 ∷ []))
 
-      closed : getD l (end - 1) 0 ≡ 0x3b → unwrapped (fromUtf16 (partFrom start end l)) ≡ fromUtf16 inner
+      closed-text : getD l (end - 1) 0 ≡ 0x3b → fromUtf16 (partFrom start end l) ≡ 0x4c ∷ (fromUtf16 inner ++ (0x3b ∷ []))
       unfolding fromUtf16
-      closed k =
-          ap unwrapped
-          (opened
+      closed-text k =
+          opened
           ∙ ap (λ (u : ℕ). 0x4c ∷ fromUtf16 (inner ++ (u ∷ []))) k
-          ∙ ap (λ (t : Text). 0x4c ∷ t) (units-seam inner 0x3b [] refl))
-          ∙ unwrap-both 0x4c (fromUtf16 inner) 0x3b refl refl
+          ∙ ap (λ (t : Text). 0x4c ∷ t) (units-seam inner 0x3b [] refl)
+
+      closed : getD l (end - 1) 0 ≡ 0x3b → unwrapped (fromUtf16 (partFrom start end l)) ≡ fromUtf16 inner
+      closed k = ap unwrapped (closed-text k) ∙ unwrap-both 0x4c (fromUtf16 inner) 0x3b refl refl
+
+      closed-units : getD l (end - 1) 0 ≡ 0x3b → length (utf8 (fromUtf16 (partFrom start end l))) ≡ length (utf8 (fromUtf16 inner)) + 2
+      closed-units k = ap (λ (t : Text). length (utf8 t)) (closed-text k) ∙ between-size (fromUtf16 inner)
 
       unclosed : (getD l (end - 1) 0 ≡ 0x3b → ⊥) → unwrapped (fromUtf16 (partFrom start end l)) ≡ fromUtf16 (partFrom start end l)
       unclosed k =
@@ -463,7 +470,7 @@ module _ (l : List ℕ) (start end : ℕ) where
 
       pub wrapped-is : WrappedTold l start end (eqb (getD l (end - 1) 0) 0x3b)
       wrapped-is = record {
-        yes = λ e. (omega arith, closed (eqb-true (getD l (end - 1) 0) 0x3b e));
+        yes = λ e. let k = eqb-true (getD l (end - 1) 0) 0x3b e in (omega arith, closed k, closed-units k);
         no = λ e. unclosed (eqb-false (getD l (end - 1) 0) 0x3b e);
       }
 
@@ -477,13 +484,32 @@ module _ (payload units ends : List ℕ) (index : ℕ) {r : Extent} (e : getElem
   unfolding d2String nameText sourceText
   class-none g q = rw (q, e, g)
 
-  pub class-units : {start limit : ℕ} → r ≡ extent.Part start limit → {end : ℕ} → ClippedTold units limit end → (a b : ℕ)
-      → unwrapped (fromUtf16 (partFrom start end units)) ≡ fromUtf16 (partFrom a b units)
-      → (d2String (stringsFrom 0 ends units) index >>= λ t. ok (classText t)) ≡ ok (nameText payload units (qualifiedPart (plain 3 start end) a b))
-  unfolding d2String nameText sourceText operated
-  class-units {start} {limit} g {end} c a b f =
-      rw (e, g, c .same start)
-      (ap (λ (t : Text). ok (some (dotted t))) (f ∙ sym (same-substituted (fromUtf16 (partFrom a b units)))))
+  module _ {start limit : ℕ} (g : r ≡ extent.Part start limit) {end : ℕ} (c : ClippedTold units limit end) where
+    -- the size that is noted of the string
+    sized-part : {size : ℕ} → SizeOf units ends index size → (size ≡ 0 → ⊥) → size ≡ length (utf8 (fromUtf16 (partFrom start end units)))
+    sized-part z n = z n (partFrom start limit units) (e ∙ ap (extentOf units) g) ∙ ap (λ (us : List ℕ). length (utf8 (fromUtf16 us))) (c .same start)
+
+    class-units : (a b size : ℕ) → unwrapped (fromUtf16 (partFrom start end units)) ≡ fromUtf16 (partFrom a b units)
+        → ((size ≡ 0 → ⊥) → size ≡ length (utf8 (fromUtf16 (partFrom a b units))))
+        → (d2String (stringsFrom 0 ends units) index >>= λ t. ok (classText t)) ≡ ok (nameText payload units (unitsName a b size))
+    unfolding d2String nameText sourceText operated
+    class-units a b size f z =
+        rw (e, g, c .same start)
+        (ap (λ (t : Text). ok (some (dotted t)))
+        (f ∙ sym (sized-is size (fromUtf16 (partFrom a b units)) z) ∙ ap (sized size) (sym (same-substituted (fromUtf16 (partFrom a b units))))))
+
+    pub class-whole : {n : Name} (size : ℕ) → SizeOf units ends index size → WrappedTold units start end false → n ≡ unitsName start end size
+        → (d2String (stringsFrom 0 ends units) index >>= λ t. ok (classText t)) ≡ ok (nameText payload units n)
+    class-whole size z w q = class-units start end size (w .no refl) (sized-part z) ∙ ap (λ (m : Name). ok (nameText payload units m)) (sym q)
+
+    pub class-inner : {n : Name} (size less : ℕ) → SizeOf units ends index size → WrappedTold units start end true → less ≡ classSize size start (start + 1)
+        → n ≡ unitsName (start + 1) (end - 1) less
+        → (d2String (stringsFrom 0 ends units) index >>= λ t. ok (classText t)) ≡ ok (nameText payload units n)
+    class-inner size less z w h q =
+        let y = w .yes refl in
+        let l : less ≡ size - 2 = h ∙ rw (ne-eqb (start + 1) start (λ x. omega arith)) in
+        class-units (start + 1) (end - 1) less (y .1) (λ n. let k = sized-part z (λ x. n (omega arith)) in omega (arith, y .2))
+        ∙ ap (λ (m : Name). ok (nameText payload units m)) (sym q)
 
 -- A class name by its index.
 module _ (n : Names) (index : ℕ) where

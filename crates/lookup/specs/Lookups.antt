@@ -4,7 +4,7 @@ use mathlib.Core.Path.{_≡_}
 use mathlib.Core.Bool.{Bool, true, false}
 use mathlib.Core.List.{List}
 use mathlib.Core.Option.{Option, none, some}
-use Prim.Native.Nat.{ℕ, _+_, _*_, _/_, _%_, _^_, _≤_, _<_}
+use Prim.Native.Nat.{ℕ, suc, _+_, _*_, _/_, _%_, _^_, _≤_, _<_}
 use lib.ListN.{length, getD, getElem?}
 use Rattle.foundation.specs.Choices.{if_then_else_}
 use Rattle.foundation.specs.Results.{Res, ok, _from_}
@@ -14,7 +14,7 @@ use Rattle.characters.specs.Characters.{partFrom}
 use Rattle.names.specs.Records.{Record, recordOf, decides, textOf, predefinedText}
 use Rattle.names.specs.Names.{recordAt, Names, string, qualifiedName}
 use Rattle.names.specs.Name.{nameText}
-use Rattle.names.specs.Index.{startOf, endOf, Sums, IndexOf}
+use Rattle.names.specs.Index.{startOf, endOf, firstOf, Sums, IndexOf}
 use Rattle.names.specs.declared.name.Name.{Name}
 use Rattle.lookup.specs.Steps.{BytesName}
 use Rattle.lookup.specs.Note.{noted, notedClass, notedAs}
@@ -34,6 +34,10 @@ foundIn records found.Nothing = none
 abbrev pub FoundBelow : ℕ → Served → Type 0
 FoundBelow count (found.Record at) = at < count
 FoundBelow count found.Nothing = Unit {0}
+
+-- it is record k of so many that serves an index
+abbrev pub ServesTold : List ℕ → ℕ → ℕ → ℕ → Type 0
+ServesTold notes count k index = (k < count) × (firstOf notes k ≤ index) × (index < firstOf notes (suc k))
 
 -- the record that serves an index
 pub record FindTold (notes : List ℕ) (count index : ℕ) (r : Served) : Type 0 where

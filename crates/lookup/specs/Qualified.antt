@@ -73,8 +73,15 @@ pub record ClippedTold (units : List ℕ) (end r : ℕ) : Type 0 where
 
 -- whether units begin with L and end with ;
 pub record WrappedTold (units : List ℕ) (start end : ℕ) (r : Bool) : Type 0 where
-  pub yes : r ≡ true → (start + 1 < end) × (unwrapped (fromUtf16 (partFrom start end units)) ≡ fromUtf16 (partFrom (start + 1) (end - 1) units))
+  pub yes : r ≡ true
+      → (start + 1 < end)
+      × (unwrapped (fromUtf16 (partFrom start end units)) ≡ fromUtf16 (partFrom (start + 1) (end - 1) units))
+      × (length (utf8 (fromUtf16 (partFrom start end units))) ≡ length (utf8 (fromUtf16 (partFrom (start + 1) (end - 1) units))) + 2)
   pub no : r ≡ false → unwrapped (fromUtf16 (partFrom start end units)) ≡ fromUtf16 (partFrom start end units)
+
+-- a class name made of units of d2
+abbrev pub unitsName : ℕ → ℕ → ℕ → Name
+unitsName start end size = record { source = 3; start = start; end = end; from = 0; to = 0; operation = 0; qualified = true; size = size }
 
 -- the class name of a string of d2
 abbrev pub QualifiedUnits : List ℕ → List ℕ → ℕ → Name → Type 0

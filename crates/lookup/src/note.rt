@@ -47,7 +47,7 @@ fn noted(place: u64, steps: u64) -> Decided
 }
 
 // The size of a class name's text: without L and ; it has two bytes less. It begins later than the name then.
-fn class_size(size: usize, start: usize, first: usize) -> usize
+pub(crate) fn class_size(size: usize, start: usize, first: usize) -> usize
     ensures { λ r. ⌜ r ≡ classSize size start first ⌝ }
 {
     if first == start {

@@ -82,8 +82,13 @@ fitted-same n (c ∷ t) e =
     let b = bytes-cons c t in
     fitted-cons n c t (omega arith) ∙ ap (λ (u : Text). c ∷ u) (fitted-same (n - width c) t (omega arith))
 
-pub sized-same : (n : ℕ) (t : Text) → n ≡ length (utf8 t) → sized n t ≡ t
+sized-same : (n : ℕ) (t : Text) → n ≡ length (utf8 t) → sized n t ≡ t
 sized-same n t e = if-ind (λ (u : Text). u ≡ t) (isMeasured n) (λ b. fitted-same n t (sym e)) λ b. refl
+
+-- where a size of 0 says nothing
+pub sized-is : (n : ℕ) (t : Text) → ((n ≡ 0 → ⊥) → n ≡ length (utf8 t)) → sized n t ≡ t
+sized-is zero t h = refl
+sized-is (suc k) t h = sized-same (suc k) t (h λ z. omega arith)
 
 -- Characters become others of the same width.
 module _ (f : ℕ → ℕ) (keeps : (c : ℕ) → width (f c) ≡ width c) (zero-stays : f 0 ≡ 0) where

@@ -28,11 +28,11 @@ qualified-units-requires c κs = search needs
 
 -- src/qualified.rt:174:9
 returns : tie.Need-returns
-returns c = λ records f i. qualified-falls (record { records = records; d2 = (d2String (stringsFrom 0 (c .before .before .before .before .before .before .before .before .args .ends .now) (c .before .before .before .before .before .before .before .before .args .units .now))) }) (c .before .before .before .before .before .before .before .before .args .index) (decided-no (c .before .before .before .before .before .before .before .before .args .bytes .now) (c .before .before .before .before .before .before .before .before .args .notes .now) (c .before .before .before .before .before .before .before .before .args .count) (c .before .before .before .before .before .before .before .before .args .index) true (c .before .before .before .by-record .result) (c .before .before .before .by-record .ensures) (c .before .before .before .before .before .before .before .before .args .units .now) records (d2String (stringsFrom 0 (c .before .before .before .before .before .before .before .before .args .ends .now) (c .before .before .before .before .before .before .before .before .args .units .now))) i (c .before .enum-told .given .1)) (c .qualified-units .ensures (c .before .before .before .before .before .before .before .before .args .bytes .now) f)
+returns c = λ records f z i. qualified-falls (record { records = records; d2 = (d2String (stringsFrom 0 (c .before .before .before .before .before .before .before .before .args .ends .now) (c .before .before .before .before .before .before .before .before .args .units .now))) }) (c .before .before .before .before .before .before .before .before .args .index) (decided-no (c .before .before .before .before .before .before .before .before .args .bytes .now) (c .before .before .before .before .before .before .before .before .args .notes .now) (c .before .before .before .before .before .before .before .before .args .count) (c .before .before .before .before .before .before .before .before .args .index) true (c .before .before .before .by-record .result) (c .before .before .before .by-record .ensures) (c .before .before .before .before .before .before .before .before .args .units .now) records (d2String (stringsFrom 0 (c .before .before .before .before .before .before .before .before .args .ends .now) (c .before .before .before .before .before .before .before .before .args .units .now))) i (c .before .enum-told .given .1)) (c .qualified-units .ensures z (c .before .before .before .before .before .before .before .before .args .bytes .now) f)
 
 -- src/qualified.rt:162:1
 returns-2 : tie.Need-returns-2
-returns-2 c = λ records f i. decided-yes (c .before .before .before .before .before .before .before .before .args .bytes .now) (c .before .before .before .before .before .before .before .before .args .notes .now) (c .before .before .before .before .before .before .before .before .args .count) (c .before .before .before .before .before .before .before .before .args .index) true (c .before .before .before .by-record .result) (c .before .before .before .by-record .ensures) (c .before .before .before .before .before .before .before .before .args .units .now) records (d2String (stringsFrom 0 (c .before .before .before .before .before .before .before .before .args .ends .now) (c .before .before .before .before .before .before .before .before .args .units .now))) i (c .before .answer .given .1)
+returns-2 c = λ records f z i. decided-yes (c .before .before .before .before .before .before .before .before .args .bytes .now) (c .before .before .before .before .before .before .before .before .args .notes .now) (c .before .before .before .before .before .before .before .before .args .count) (c .before .before .before .before .before .before .before .before .args .index) true (c .before .before .before .by-record .result) (c .before .before .before .by-record .ensures) (c .before .before .before .before .before .before .before .before .args .units .now) records (d2String (stringsFrom 0 (c .before .before .before .before .before .before .before .before .args .ends .now) (c .before .before .before .before .before .before .before .before .args .units .now))) i (c .before .answer .given .1)
 
 pub qualified-name-spec : {M : Type 1} → statement M
 qualified-name-spec =
