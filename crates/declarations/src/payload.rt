@@ -83,7 +83,7 @@ fn open_table(bytes: &[u8], start: usize, end: usize, rest: usize, notes: &mut [
 }
 
 // The decoded bytes opened, their tables noted in what is lent.
-pub fn open_payload(bytes: &[u8], notes: &mut [u64]) -> Opened
+fn open_payload(bytes: &[u8], notes: &mut [u64]) -> Opened
     ensures { λ r. ⌜ OpenedTold (now (bytes .entry)) (now (notes .exit)) r ⌝ }
 {
     if 65535 < bytes.len() {
