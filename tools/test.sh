@@ -1,7 +1,8 @@
 #!/usr/bin/env bash
 # class_input.py and sheet_text.py on the examples: each sheet in words is examples/NAME.txt, and the inputs' hashes are those that are noted.
 # crate_uses.py on a repository of two crates.
-# The tools for proofs, and that each proof is what its template gives. That README and NOTICE name every crate.
+# That MANUAL, the header and the tools have the definitions' tables. The tools for proofs, and that each proof is what its template gives.
+# That README and NOTICE name every crate.
 set -eu
 cd "$(dirname "$0")/.."
 here=$(mktemp -d)
@@ -110,6 +111,9 @@ if [ -e "$corpus" ] && [ -e "$jar" ]; then
 else
     echo 'tools: real classes skipped, no corpus or no kotlin-stdlib.jar'
 fi
+
+# the tables that MANUAL, the header and the tools repeat
+bash tools/tables_test.sh || failed=1
 
 # proofs and their templates
 bash tools/proofs/test.sh || failed=1
