@@ -1,7 +1,7 @@
 #!/usr/bin/env bash
 # class_input.py and sheet_text.py on the examples: each sheet in words is examples/NAME.txt, and the inputs' hashes are those that are noted.
 # crate_uses.py on a repository of two crates.
-# That MANUAL, the header and the tools have the definitions' tables. The tools for proofs, and that each proof is what its template gives.
+# That MANUAL, the header and the tools have the definitions' tables; the page of check times. The tools for proofs, and that each proof is what its template gives.
 # That README and NOTICE name every crate.
 set -eu
 cd "$(dirname "$0")/.."
@@ -104,7 +104,7 @@ else
 fi
 
 # real classes, where a corpus and Debian's Kotlin are there
-corpus=${SHEET_CORPUS:-../shared/corpus/classes.bin}
+corpus=${SHEET_CORPUS:-../shared/corpus}/classes.bin
 jar=/usr/share/java/kotlin-stdlib.jar
 if [ -e "$corpus" ] && [ -e "$jar" ]; then
     python3 tools/reproduce.py "$corpus" "$jar" || { echo 'no input of the corpus is made'; failed=1; }
@@ -114,6 +114,8 @@ fi
 
 # the tables that MANUAL, the header and the tools repeat
 bash tools/tables_test.sh || failed=1
+# the page of check times
+bash tools/check_times_test.sh || failed=1
 
 # proofs and their templates
 bash tools/proofs/test.sh || failed=1
