@@ -3,7 +3,7 @@
 
 Whether the tables that are repeated for people and programs are those of the definitions: the records (kinds, lengths, cells in their order),
 the numbers of refusals, the roles of types, the limits. The definitions' text is read in crates/*/specs; held to it are docs/MANUAL.md,
-include/sheet_reader.h, tools/sheet_text.py and the Java classes. Says each difference; the exit status is then 1."""
+include/sheet_reader.h, the tools (the file that has RECORDS) and the Java classes. Says each difference; the exit status is then 1."""
 import importlib.util, pathlib, re, sys
 
 SPECS = {
@@ -29,7 +29,7 @@ CELLS = {
     **{f'{part} descriptor': [f"{part}'s descriptor", f'{part} descriptor', 'its descriptor'] for part in ('field', 'getter', 'setter')},
     **{name: [name, f'count of {name}'] for name in ('constructors', 'functions', 'properties', 'parameters', 'arguments')},
 }
-RECORDS = {'types': 'type', 'default': 'default descriptor'}
+RECORD_NAMES = {'types': 'type', 'default': 'default descriptor'}
 # of a cause: its name in the header, and words that tell it
 CAUSES = {
     'd1TooLong': ('D1_TOO_LONG', 'd1 has more than'),
@@ -138,7 +138,7 @@ def defined_records(root):
         text = spec(root, path)
         for row in re.finditer(r'\brow (\d+) \(', text):
             owner = re.findall(r'^(\w+?)Rows?\b.* =', text[:row.start()], re.M)[-1]
-            records[int(row[1])] = (RECORDS.get(owner, owner), cells(balanced(text, row.end() - 1), text))
+            records[int(row[1])] = (RECORD_NAMES.get(owner, owner), cells(balanced(text, row.end() - 1), text))
     if {kind: [width for _, width in found] for kind, (_, found) in records.items()} != widths:
         raise NotFound('the same widths in recordTable and in the definitions of rows')
     return records
@@ -215,11 +215,15 @@ def placed(name, found):
     return name, at, cells_at
 
 
-def loaded(path):
-    given = importlib.util.spec_from_file_location('sheet_text', path)
+def tool(root):
+    """The file of the tools that has the table of records, and the module."""
+    paths = [path for path in (root / 'tools').glob('*.py') if re.search('^RECORDS = {', path.read_text(encoding='utf-8'), re.M)]
+    if len(paths) != 1:
+        raise NotFound(f'one file of tools/*.py with RECORDS, but {len(paths)}')
+    given = importlib.util.spec_from_file_location(paths[0].stem, paths[0])
     module = importlib.util.module_from_spec(given)
     given.loader.exec_module(module)
-    return module
+    return f'tools/{paths[0].name}', module
 
 
 # the comparison
@@ -290,12 +294,12 @@ def check_header(d, where, text, records, causes, roles, limits):
         d.named(where, what, expected, text)
 
 
-def check_tool(d, where, tool, records, causes, details, roles, limits):
-    d.records(where, records, {kind: placed(name, found) for kind, (name, found) in tool.RECORDS.items()})
-    told = {number: what for number, (what, _) in tool.REFUSALS.items()}
+def check_tool(d, where, module, records, causes, details, roles, limits):
+    d.records(where, records, {kind: placed(name, found) for kind, (name, found) in module.RECORDS.items()})
+    told = {number: what for number, (what, _) in module.REFUSALS.items()}
     d.worded(where, 'refusal', words(CAUSES, causes), told)
-    d.same(where, 'refusals with a detail', sorted(details), sorted(tool.DETAILS))
-    d.worded(where, 'role', words(ROLES, roles), tool.ROLES)
+    d.same(where, 'refusals with a detail', sorted(details), sorted(module.DETAILS))
+    d.worded(where, 'role', words(ROLES, roles), module.ROLES)
     for cause, limit in (('d1TooLong', 'unitLimit'), ('d2TooLong', 'stringLimit'), ('tooManyTypes', 'allowance'), ('textTooLong', 'textLimit')):
         if f'{limits[limit]:,}' not in told.get(causes[cause], ''):
             d.say(where, f'refusal {causes[cause]} does not tell the limit {limits[limit]:,}')
@@ -323,7 +327,7 @@ def main(args):
         text = lambda path: (root / path).read_text(encoding='utf-8')
         check_manual(d, 'docs/MANUAL.md', text('docs/MANUAL.md'), records, causes, details, roles, limits)
         check_header(d, 'include/sheet_reader.h', text('include/sheet_reader.h'), records, causes, roles, limits)
-        check_tool(d, 'tools/sheet_text.py', loaded(root / 'tools/sheet_text.py'), records, causes, details, roles, limits)
+        check_tool(d, *tool(root), records, causes, details, roles, limits)
         check_java(d, 'host/java/sheetreader', root, records, limits)
     except (NotFound, OSError, AttributeError) as why:
         sys.exit(f'tables: not found: {why}')

@@ -8,7 +8,7 @@ failed=0
 changes=0
 
 mkdir "$here/copy"
-cp -r --parents crates/*/specs docs include tools/sheet_text.py host/java/sheetreader "$here/copy"
+cp -r --parents crates/*/specs docs include tools/*.py host/java/sheetreader "$here/copy"
 changed() { # file, the sed that changes it, words that must be said
     sed "$2" "$1" > "$here/copy/$1"
     changes=$((changes + 1))
@@ -20,7 +20,7 @@ changed() { # file, the sed that changes it, words that must be said
 
 python3 -B tools/tables.py > "$here/said" 2>&1 || { cat "$here/said"; failed=1; }
 
-manual=docs/MANUAL.md header=include/sheet_reader.h tool=tools/sheet_text.py java=host/java/sheetreader
+manual=docs/MANUAL.md header=include/sheet_reader.h tool=$(grep -l '^RECORDS = {' tools/*.py) java=host/java/sheetreader
 changed $manual '/^| 3 | function/s/5 flags, 8/5 flags, 4/' 'MANUAL.md: record 3: at 5 flags, 4 bytes; the definitions have at 5 flags, 8'
 changed $manual '/^| 3 | function/s/| 24 |/| 25 |/' 'bytes of record 3: 25'
 changed $manual '/^| 4 | property/{s/getter is default/x/;s/setter is default/getter is default/;s/x/setter is default/}' 'at 14 setter is default'
@@ -34,7 +34,7 @@ changed $header 's/1 flags 8, 9 signature name ref/1 signature name ref, 5 flags
 changed $header 's/SHEET_VARARG_ELEMENT = 4/SHEET_VARARG_ELEMENT = 3/' 'role VARARG_ELEMENT: 3'
 changed $header 's/SHEET_PROPERTY = 4/SHEET_PROPERTY = 5/' 'kind PROPERTY: 5'
 changed $header 's/SHEET_TEXT_LIMIT = 65534/SHEET_TEXT_LIMIT = 65535/' 'limit TEXT_LIMIT: 65535'
-changed $tool "s/('receiver', 1), ('parameters', 2)/('parameters', 2), ('receiver', 1)/" 'sheet_text.py: record 3: at 21 parameters'
+changed $tool "s/('receiver', 1), ('parameters', 2)/('parameters', 2), ('receiver', 1)/" "$tool: record 3: at 21 parameters"
 changed $tool "s/^    5: ('d1 is empty'/    5: ('d1 is short'/" 'refusal 5 is told as'
 changed $tool "s/^ROLES = {1: 'returned/ROLES = {0: 'returned/" 'numbers of role'
 changed $tool 's/^DETAILS = {6:/DETAILS = {7:/' 'refusals with a detail: \[7, 8\]'
