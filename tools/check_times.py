@@ -1,7 +1,8 @@
 #!/usr/bin/env python3
-"""usage: check_times.py LOG > docs/CHECK_TIMES.md      LOG: what a gate printed, as bash .ci/run | tee LOG
+"""usage: check_times.py [--unfinished] LOG > docs/CHECK_TIMES.md      LOG: what a gate printed, as bash .ci/run | tee LOG
 
-Writes how long each crate and its must-fail edits took in a gate that passed, and each part of the gate where the log tells it."""
+Writes how long each crate and its must-fail edits took in a gate that passed, and each part of the gate where the log tells it. With
+--unfinished also of a gate that was ended before; the page then says so."""
 import re, sys
 
 PROVED = re.compile(r'^rt: (\w+) proved \((\d+) s\)$')
@@ -35,6 +36,8 @@ def page(log):
     yield ('Made by `tools/check_times.py` from what a gate printed (`bash .ci/run | tee LOG`), not by hand. Checks run beside each other'
            + (f' ({log.machine})' if log.machine else '')
            + ', so a crate takes\nlonger here than alone (`rt check NAME`), and the sums are more than the time that passed.\n')
+    if not log.passed:
+        yield 'This gate was ended before it was through: edits and parts that it had not come to are missing here.\n'
     if log.parts:
         yield '| part of the gate | time |\n|---|---|'
         yield from (f'| {name} | {minutes(seconds)} |' for name, seconds in log.parts)
@@ -48,6 +51,8 @@ def page(log):
 
 
 def main(args):
+    unfinished = args[:1] == ['--unfinished']
+    args = args[1:] if unfinished else args
     if len(args) != 1 or args[0].startswith('-'):
         sys.exit(__doc__)
     try:
@@ -55,7 +60,7 @@ def main(args):
             log = Log(f.read().splitlines())
     except OSError as why:
         sys.exit(f'check_times: {why}')
-    if not log.passed:
+    if not log.passed and not unfinished:
         sys.exit('check_times: this gate did not pass: its last line is not "N passed, 0 failed"')
     if not log.crates:
         sys.exit('check_times: no crate was proved in this log')

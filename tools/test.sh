@@ -1,8 +1,8 @@
 #!/usr/bin/env bash
 # class_input.py and sheet_text.py on the examples: each sheet in words is examples/NAME.txt, and the inputs' hashes are those that are noted.
 # crate_uses.py on a repository of two crates.
-# That MANUAL, the header and the tools have the definitions' tables; the page of check times. The tools for proofs, and that each proof is what its template gives.
-# That README and NOTICE name every crate.
+# That MANUAL, the header and the tools have the definitions' tables; that README names the files to believe, README and
+# NOTICE every crate; the page of check times. The tools for proofs, and that each proof is what its template gives.
 set -eu
 cd "$(dirname "$0")/.."
 here=$(mktemp -d)
@@ -114,8 +114,8 @@ fi
 
 # the tables that MANUAL, the header and the tools repeat
 bash tools/tables_test.sh || failed=1
-# the page of check times
-bash tools/check_times_test.sh || failed=1
+# pages that tools make or hold to the crates
+bash tools/pages_test.sh || failed=1
 
 # proofs and their templates
 bash tools/proofs/test.sh || failed=1
