@@ -3,7 +3,7 @@
 
 Writes how long each crate and its must-fail edits took in a gate that passed, and each part of the gate where the log tells it. With
 --unfinished also of a gate that was ended before; the page then says so."""
-import re, sys
+import re, signal, sys
 
 PROVED = re.compile(r'^rt: (\w+) proved \((\d+) s\)$')
 REFUSED = re.compile(r'^rt: must-fail (\w+)/(\w+): refused, as it must be \((?:.*; )?(\d+) s\)$')
@@ -68,4 +68,5 @@ def main(args):
 
 
 if __name__ == '__main__':
+    signal.signal(signal.SIGPIPE, signal.SIG_DFL)
     main(sys.argv[1:])

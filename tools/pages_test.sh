@@ -1,6 +1,7 @@
 #!/usr/bin/env bash
 # The pages that tools make or hold to the crates. check_times.py: a small log, one of a gate that didn't pass, one without crates. trusted.py:
 # README as it is, and copies of the repository in which a definition rests on one file more, and in which README has one file fewer.
+# trace_files.py: TRACE as it is, with a name that is nowhere, and with a file renamed.
 set -eu
 cd "$(dirname "$0")/.."
 here=$(mktemp -d)
@@ -38,7 +39,8 @@ refused() { # words, log
 }
 head -n -1 "$here/log" > "$here/ended"
 refused 'did not pass' "$here/ended"
-python3 -B tools/check_times.py --unfinished "$here/ended" | grep -q '^This gate was ended' || { echo 'check_times: --unfinished'; failed=1; }
+python3 -B tools/check_times.py --unfinished "$here/ended" > "$here/out"
+grep -q '^This gate was ended' "$here/out" || { echo 'check_times: --unfinished'; failed=1; }
 echo '4 passed, 0 failed' > "$here/none"
 refused 'no crate' "$here/none"
 refused 'No such file' "$here/nothing"
@@ -57,4 +59,21 @@ cmp README.md "$here/copy/README.md" || failed=1
 echo 'use Rattle.promises.specs.Walk.{walked}' >> "$here/copy/crates/metadata/specs/Read.antt"
 differs 'a definition rests on a file more'
 grep -q '^| `promises` | `Walk` |' "$here/copy/README.md" || { echo 'trusted: the new file is not named'; failed=1; }
+
+python3 -B tools/trace_files.py --check || failed=1
+mkdir -p "$here/traced/docs" "$here/traced/tools"
+cp -r crates "$here/traced"
+cp docs/TRACE.md "$here/traced/docs"
+cp tools/trace_files.py "$here/traced/tools"
+traced() { # words that must be said
+    if python3 -B "$here/traced/tools/trace_files.py" --check > "$here/out" 2>&1 || ! grep -q "$1" "$here/out"; then
+        echo "trace_files: not found, '$1'"
+        failed=1
+    fi
+}
+sed -i 's/`firstAbove255`/`firstAbove256`/' "$here/traced/docs/TRACE.md"
+traced 'firstAbove256 is defined nowhere'
+cp docs/TRACE.md "$here/traced/docs"
+mv "$here/traced/crates/encoding/specs/Encoding.antt" "$here/traced/crates/encoding/specs/Units.antt"
+traced 'there should be .*encoding/specs/Units.antt'
 if [ "$failed" = 0 ]; then echo 'pages: ok'; else exit 1; fi
