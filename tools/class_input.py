@@ -89,13 +89,15 @@ def constant(pool, at, kind):
     return pool[at]
 
 
-def skip_members(b):
-    """Fields, or methods."""
+def member_list(b):
+    """Fields, or methods: access and the places of name and descriptor in the constant pool. What else they have is passed over."""
+    members = []
     for _ in range(b.u2()):
-        b.take(6)
+        members.append((b.u2(), b.u2(), b.u2()))
         for _ in range(b.u2()):
             b.take(2)
             b.take(b.u4())
+    return members
 
 
 def element(b, pool):
@@ -127,8 +129,8 @@ def annotation(b, pool):
     return name, values
 
 
-def metadata(data):
-    """The elements of kotlin.Metadata, by their names."""
+def opened(data):
+    """The bytes of a class file from its attributes on, its constant pool, its fields and its methods."""
     b = Bytes(data)
     if b.u4() != 0xcafebabe:
         raise Damaged('it does not begin as a class file does')
@@ -136,8 +138,13 @@ def metadata(data):
     pool = constant_pool(b)
     b.take(6)
     b.take(2 * b.u2())
-    skip_members(b)
-    skip_members(b)
+    fields = member_list(b)
+    return b, pool, fields, member_list(b)
+
+
+def metadata(data):
+    """The elements of kotlin.Metadata, by their names."""
+    b, pool, _, _ = opened(data)
     for _ in range(b.u2()):
         name, body = constant(pool, b.u2(), bytes), Bytes(b.take(b.u4()))
         if name == b'RuntimeVisibleAnnotations':

@@ -1,0 +1,94 @@
+"""Which methods and fields the declarations of a sheet link to, and whether the class has them.
+
+    head = sheet_text.Walk(sheet, text).sheet()         the sheet, as sheet_text.py reads it
+    for j in targets.judge(targets.targets(head), targets.class_members(class_file)):
+        print(targets.declared(head['of'][j.target.declaration]), j.target.name, j.target.descriptor, targets.words(j, head))
+
+What a sheet says of a method may differ from what the Kotlin compiler wrote (docs/MANUAL.md, "How to link"). So a target is looked up in the
+class file's own tables (JVMS 4.5, 4.6) before it is linked."""
+import collections, struct
+
+import class_input, sheet_text
+
+# what a class has: for both, (name, descriptor) to the access flags
+Members = collections.namedtuple('Members', 'methods fields')
+
+# what one declaration links to
+#   declaration  its place in head['of']
+#   part         'method' of a constructor or function; 'getter', 'setter' or 'field' of a property
+#   by           'signature', 'default' (the name, or <init>, and the default descriptor), or None where the sheet tells no method
+#   descriptor   None where `by` is None
+Target = collections.namedtuple('Target', 'declaration part by name descriptor')
+
+# there: the class has it. shared: the other targets of the sheet that are the same method or field
+Judgement = collections.namedtuple('Judgement', 'target there shared')
+
+
+def text_of(constant):
+    """A constant's text as the sheet has it: a lone surrogate is U+FFFD."""
+    units = class_input.modified_utf8(constant)
+    return struct.pack(f'<{len(units)}H', *units).decode('utf-16-le', 'replace')
+
+
+def class_members(data):
+    """The methods and fields of a class file; class_input.Damaged if it can't be read."""
+    _, pool, fields, methods = class_input.opened(data)
+
+    def named(members):
+        return {tuple(text_of(class_input.constant(pool, at, bytes)) for at in places): access for access, *places in members}
+    return Members(named(methods), named(fields))
+
+
+def method_target(place, m):
+    """By the signature where it is there, else by the default descriptor."""
+    if m['signature'] is not None:
+        return Target(place, 'method', 'signature', m['signature'], m['descriptor'])
+    name = '<init>' if m['record'] == 'constructor' else m['name']
+    return Target(place, 'method', 'default' if m['default'] is not None else None, name, m['default'])
+
+
+def targets(head):
+    """The targets of a sheet, in its order. A constructor and a function has one; a property has those that are recorded."""
+    found = []
+    for place, m in enumerate(head['of']):
+        if m['record'] == 'property':
+            found += [Target(place, part, 'signature', m[part], m[part + ' descriptor'])
+                      for part in ('field', 'getter', 'setter') if m[part] is not None]
+        else:
+            found.append(method_target(place, m))
+    return found
+
+
+def judge(found, members):
+    """A judgement for each target, in their order."""
+    together = collections.defaultdict(list)
+    for t in found:
+        if t.by is not None:
+            together[t.part == 'field', t.name, t.descriptor].append(t)
+
+    def judgement(t):
+        table = members.fields if t.part == 'field' else members.methods
+        same = together[t.part == 'field', t.name, t.descriptor] if t.by is not None else []
+        return Judgement(t, (t.name, t.descriptor) in table, [other for other in same if other is not t])
+    return [judgement(t) for t in found]
+
+
+def declared(m):
+    """A declaration in words, without its flags and targets."""
+    if m['record'] == 'property':
+        return f"property {sheet_text.receiver_text(m)}{m['name']}"
+    parameters = '(' + ', '.join(map(sheet_text.parameter_text, m['of'])) + ')'
+    return 'constructor' + parameters if m['record'] == 'constructor' else f"fun {sheet_text.receiver_text(m)}{m['name']}{parameters}"
+
+
+def words(judgement, head):
+    """What is wrong with a target, as a list of texts: empty if the class has it and nothing else on the sheet links to it."""
+    t, said = judgement.target, []
+    if t.by is None:
+        said.append('no target')
+    elif not judgement.there:
+        said.append('not in the class')
+    for other in judgement.shared:
+        part = '' if other.part == 'method' else f"'s {other.part}"
+        said.append(f"shared with {declared(head['of'][other.declaration])}{part}")
+    return said
