@@ -18,10 +18,19 @@ Members = collections.namedtuple('Members', 'methods fields')
 #   part         'method' of a constructor or function; 'getter', 'setter' or 'field' of a property
 #   by           'signature', 'default' (the name, or <init>, and the default descriptor), or None where the sheet tells no method
 #   descriptor   None where `by` is None
-Target = collections.namedtuple('Target', 'declaration part by name descriptor')
+#   renamed      whether the compiler may have named the method otherwise, which a sheet doesn't tell of a target by default: the declaration
+#                has annotations, of which one may be @JvmName, or it is an internal member of a class
+Target = collections.namedtuple('Target', 'declaration part by name descriptor renamed')
 
-# there: the class has it. shared: the other targets of the sheet that are the same method or field
-Judgement = collections.namedtuple('Judgement', 'target there shared')
+# what the class says of a target
+#   there        the class has that method or field
+#   shared       the other targets of the sheet that are the same method or field
+#   others       of a target that is there: targets that aren't, whose method this may be
+Judgement = collections.namedtuple('Judgement', 'target there shared others')
+
+# bits of a declaration's flags (metadata.proto): 0 says that it has annotations, 1 to 3 are its visibility, of which 0 is internal
+ANNOTATED, VISIBILITY = 1, 7 << 1
+CLASS = 1
 
 
 def text_of(constant):
@@ -39,12 +48,14 @@ def class_members(data):
     return Members(named(methods), named(fields))
 
 
-def method_target(place, m):
+def method_target(place, m, kind):
     """By the signature where it is there, else by the default descriptor."""
     if m['signature'] is not None:
-        return Target(place, 'method', 'signature', m['signature'], m['descriptor'])
-    name = '<init>' if m['record'] == 'constructor' else m['name']
-    return Target(place, 'method', 'default' if m['default'] is not None else None, name, m['default'])
+        return Target(place, 'method', 'signature', m['signature'], m['descriptor'], False)
+    if m['record'] == 'constructor':
+        return Target(place, 'method', 'default' if m['default'] is not None else None, '<init>', m['default'], False)
+    renamed = bool(m['flags'] & ANNOTATED) or kind == CLASS and not m['flags'] & VISIBILITY
+    return Target(place, 'method', 'default' if m['default'] is not None else None, m['name'], m['default'], renamed)
 
 
 def targets(head):
@@ -52,25 +63,39 @@ def targets(head):
     found = []
     for place, m in enumerate(head['of']):
         if m['record'] == 'property':
-            found += [Target(place, part, 'signature', m[part], m[part + ' descriptor'])
+            found += [Target(place, part, 'signature', m[part], m[part + ' descriptor'], False)
                       for part in ('field', 'getter', 'setter') if m[part] is not None]
         else:
-            found.append(method_target(place, m))
+            found.append(method_target(place, m, head['kind']))
     return found
 
 
 def judge(found, members):
-    """A judgement for each target, in their order."""
-    together = collections.defaultdict(list)
+    """A judgement for each target of a sheet, in their order."""
+    same, lost = collections.defaultdict(list), collections.defaultdict(list)
     for t in found:
-        if t.by is not None:
-            together[t.part == 'field', t.name, t.descriptor].append(t)
+        same[is_field(t), t.name, t.descriptor].append(t)
+        if t.by == 'default' and t.renamed and not there(t, members) and not mangled(t, members):
+            lost[t.descriptor].append(t)
 
     def judgement(t):
-        table = members.fields if t.part == 'field' else members.methods
-        same = together[t.part == 'field', t.name, t.descriptor] if t.by is not None else []
-        return Judgement(t, (t.name, t.descriptor) in table, [other for other in same if other is not t])
+        shared = [other for other in same[is_field(t), t.name, t.descriptor] if other is not t] if t.by else []
+        others = lost[t.descriptor] if t.by == 'default' and t.renamed and there(t, members) else []
+        return Judgement(t, there(t, members), shared, others)
     return [judgement(t) for t in found]
+
+
+def is_field(t):
+    return t.part == 'field'
+
+
+def there(t, members):
+    return (t.name, t.descriptor) in (members.fields if is_field(t) else members.methods)
+
+
+def mangled(t, members):
+    """Whether the class has the method under the name of an internal member: NAME$MODULE."""
+    return any(name.startswith(t.name + '$') and descriptor == t.descriptor for name, descriptor in members.methods)
 
 
 def declared(m):
@@ -82,7 +107,7 @@ def declared(m):
 
 
 def words(judgement, head):
-    """What is wrong with a target, as a list of texts: empty if the class has it and nothing else on the sheet links to it."""
+    """What is to be said of a target, as a list of texts: empty if it can be linked."""
     t, said = judgement.target, []
     if t.by is None:
         said.append('no target')
@@ -91,4 +116,6 @@ def words(judgement, head):
     for other in judgement.shared:
         part = '' if other.part == 'method' else f"'s {other.part}"
         said.append(f"shared with {declared(head['of'][other.declaration])}{part}")
+    for other in judgement.others:
+        said.append(f"may be the method of {declared(head['of'][other.declaration])}")
     return said
