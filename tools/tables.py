@@ -299,6 +299,8 @@ def check_tool(d, where, module, records, causes, details, roles, limits):
     told = {number: what for number, (what, _) in module.REFUSALS.items()}
     d.worded(where, 'refusal', words(CAUSES, causes), told)
     d.same(where, 'refusals with a detail', sorted(details), sorted(module.DETAILS))
+    short = {number: name.replace('_', ' ').lower() for name, number in names(CAUSES, causes).items()}
+    d.same(where, 'names of refusals', short, module.REFUSAL_NAMES)
     d.worded(where, 'role', words(ROLES, roles), module.ROLES)
     for cause, limit in (('d1TooLong', 'unitLimit'), ('d2TooLong', 'stringLimit'), ('tooManyTypes', 'allowance'), ('textTooLong', 'textLimit')):
         if f'{limits[limit]:,}' not in told.get(causes[cause], ''):

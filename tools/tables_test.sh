@@ -38,6 +38,7 @@ changed $tool "s/('receiver', 1), ('parameters', 2)/('parameters', 2), ('receive
 changed $tool "s/^    5: ('d1 is empty'/    5: ('d1 is short'/" 'refusal 5 is told as'
 changed $tool "s/^ROLES = {1: 'returned/ROLES = {0: 'returned/" 'numbers of role'
 changed $tool 's/^DETAILS = {6:/DETAILS = {7:/' 'refusals with a detail: \[7, 8\]'
+changed $tool "s/9: 'oversized varint'/9: 'long varint'/" 'names of refusals'
 changed $java/Records.java 's/{20, 19, 24, 40/{20, 19, 25, 40/' 'bytes of the records: 20, 19, 25'
 changed $java/SheetReader.java 's/STRING_LIMIT = 4096/STRING_LIMIT = 4095/' 'limit STRING_LIMIT: 4095'
 # the definitions: what is right elsewhere is then wrong

@@ -1,6 +1,6 @@
 #!/usr/bin/env bash
-# class_input.py and sheet_text.py on the examples: each sheet in words is examples/NAME.txt, and the inputs' hashes are those that are noted.
-# crate_uses.py on a repository of two crates.
+# class_input.py on the examples: the inputs' hashes are those that are noted. What sheet_text.py refuses. ./sheet (sheet_test.py).
+# targets.py on the examples. crate_uses.py on a repository of two crates.
 # That MANUAL, the header and the tools have the definitions' tables; that README names the files to believe, README and
 # NOTICE every crate; the page of check times. The tools for proofs, and that each proof is what its template gives.
 set -eu
@@ -19,8 +19,6 @@ refused() { # words that must be said, command ..
 
 for line in examples/*.line; do
     name=${line%.line}
-    python3 -B tools/sheet_text.py "$line" > "$here/text"
-    same "sheet_text" "$name.txt" "$here/text"
     python3 -B tools/class_input.py "$name.class" > "$here/input"
     (cd examples; sha256sum < "$here/input" | sed "s/-/$(basename "$name")/") >> "$here/hashes"
 done
@@ -57,6 +55,9 @@ refused 'cut short' say '0 0 0102ffffffff -'
 refused 'no count announced' say '0 0 0102ffffffff060000000000000000000000000007ffffffff -'
 refused 'was announced' say '0 0 0102ffffffff0600000000000000000001000000 -'
 
+# targets.py: what declarations link to
+python3 -B tools/targets_test.py 2> "$here/out" || { cat "$here/out"; failed=1; }
+
 # crate_uses.py: a crate above another, named by its code, by a proof, or in comments alone
 uses=$here/uses
 mkdir -p "$uses/tools" "$uses/crates/low/src" "$uses/crates/high/src" "$uses/crates/high/proofs"
@@ -83,21 +84,16 @@ python3 -B "$uses/tools/crate_uses.py" --write
 printf 'low:\nhigh: low io # nothing\n' > "$here/expected"
 same 'crate_uses --write' "$here/expected" "$uses/crates.txt"
 
-# ./read: with a program that knows one answer, and with the real one where it is built
-printf '#!/bin/sh\ncat examples/Sale.line\n' > "$here/knows_sale"
-printf '#!/bin/sh\necho 7 0 - -\n' > "$here/refuses"
-chmod +x "$here/knows_sale" "$here/refuses"
-SHEET_READER=$here/knows_sale ./read examples/Sale.class > "$here/text"
-same "./read" examples/Sale.txt "$here/text"
-SHEET_READER=$here/knows_sale ./read --line "$here/till.jar" till/Sale.class > "$here/text"
-same "./read --line" examples/Sale.line "$here/text"
-SHEET_READER=$here/refuses refused 'truncated' ./read examples/Sale.class
-SHEET_READER=$here/refuses refused '7 0 - -' ./read --line examples/Sale.class
-refused 'usage' ./read
+# ./sheet, where its library is there or can be built; the program itself, where it is built
+if command -v rt > "$here/out" || [ -e target/unproved/libsheet_calls.so ]; then
+    python3 -B tools/sheet_test.py 2> "$here/out" || { cat "$here/out"; failed=1; }
+else
+    echo 'tools: ./sheet skipped, no rt to build its library'
+fi
 if [ -x target/bin/sheet_reader ]; then
     for line in examples/*.line; do
-        SHEET_READER=target/bin/sheet_reader ./read "${line%.line}.class" > "$here/text"
-        same "sheet_reader" "${line%.line}.txt" "$here/text"
+        python3 -B tools/class_input.py "${line%.line}.class" | target/bin/sheet_reader > "$here/line"
+        same "sheet_reader" "$line" "$here/line"
     done
 else
     echo 'tools: sheet_reader itself skipped, it is not built'

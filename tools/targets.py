@@ -1,0 +1,121 @@
+"""Which methods and fields the declarations of a sheet link to, and whether the class has them.
+
+    head = sheet_text.Walk(sheet, text).sheet()         the sheet, as sheet_text.py reads it
+    for j in targets.judge(targets.targets(head), targets.class_members(class_file)):
+        print(targets.declared(head['of'][j.target.declaration]), j.target.name, j.target.descriptor, targets.words(j, head))
+
+What a sheet says of a method may differ from what the Kotlin compiler wrote (docs/MANUAL.md, "How to link"). So a target is looked up in the
+class file's own tables (JVMS 4.5, 4.6) before it is linked."""
+import collections, struct
+
+import class_input, sheet_text
+
+# what a class has: for both, (name, descriptor) to the access flags
+Members = collections.namedtuple('Members', 'methods fields')
+
+# what one declaration links to
+#   declaration  its place in head['of']
+#   part         'method' of a constructor or function; 'getter', 'setter' or 'field' of a property
+#   by           'signature', 'default' (the name, or <init>, and the default descriptor), or None where the sheet tells no method
+#   descriptor   None where `by` is None
+#   renamed      whether the compiler may have named the method otherwise, which a sheet doesn't tell of a target by default: the declaration
+#                has annotations, of which one may be @JvmName, or it is an internal member of a class
+Target = collections.namedtuple('Target', 'declaration part by name descriptor renamed')
+
+# what the class says of a target
+#   there        the class has that method or field
+#   shared       the other targets of the sheet that are the same method or field
+#   others       of a target that is there: targets that aren't, whose method this may be
+Judgement = collections.namedtuple('Judgement', 'target there shared others')
+
+# bits of a declaration's flags (metadata.proto): 0 says that it has annotations, 1 to 3 are its visibility, of which 0 is internal
+ANNOTATED, VISIBILITY = 1, 7 << 1
+CLASS = 1
+
+
+def text_of(constant):
+    """A constant's text as the sheet has it: a lone surrogate is U+FFFD."""
+    units = class_input.modified_utf8(constant)
+    return struct.pack(f'<{len(units)}H', *units).decode('utf-16-le', 'replace')
+
+
+def class_members(data):
+    """The methods and fields of a class file; class_input.Damaged if it can't be read."""
+    _, pool, fields, methods = class_input.opened(data)
+
+    def named(members):
+        return {tuple(text_of(class_input.constant(pool, at, bytes)) for at in places): access for access, *places in members}
+    return Members(named(methods), named(fields))
+
+
+def method_target(place, m, kind):
+    """By the signature where it is there, else by the default descriptor."""
+    if m['signature'] is not None:
+        return Target(place, 'method', 'signature', m['signature'], m['descriptor'], False)
+    if m['record'] == 'constructor':
+        return Target(place, 'method', 'default' if m['default'] is not None else None, '<init>', m['default'], False)
+    renamed = bool(m['flags'] & ANNOTATED) or kind == CLASS and not m['flags'] & VISIBILITY
+    return Target(place, 'method', 'default' if m['default'] is not None else None, m['name'], m['default'], renamed)
+
+
+def targets(head):
+    """The targets of a sheet, in its order. A constructor and a function has one; a property has those that are recorded."""
+    found = []
+    for place, m in enumerate(head['of']):
+        if m['record'] == 'property':
+            found += [Target(place, part, 'signature', m[part], m[part + ' descriptor'], False)
+                      for part in ('field', 'getter', 'setter') if m[part] is not None]
+        else:
+            found.append(method_target(place, m, head['kind']))
+    return found
+
+
+def judge(found, members):
+    """A judgement for each target of a sheet, in their order."""
+    same, lost = collections.defaultdict(list), collections.defaultdict(list)
+    for t in found:
+        same[is_field(t), t.name, t.descriptor].append(t)
+        if t.by == 'default' and t.renamed and not there(t, members) and not mangled(t, members):
+            lost[t.descriptor].append(t)
+
+    def judgement(t):
+        shared = [other for other in same[is_field(t), t.name, t.descriptor] if other is not t] if t.by else []
+        others = lost[t.descriptor] if t.by == 'default' and t.renamed and there(t, members) else []
+        return Judgement(t, there(t, members), shared, others)
+    return [judgement(t) for t in found]
+
+
+def is_field(t):
+    return t.part == 'field'
+
+
+def there(t, members):
+    return (t.name, t.descriptor) in (members.fields if is_field(t) else members.methods)
+
+
+def mangled(t, members):
+    """Whether the class has the method under the name of an internal member: NAME$MODULE."""
+    return any(name.startswith(t.name + '$') and descriptor == t.descriptor for name, descriptor in members.methods)
+
+
+def declared(m):
+    """A declaration in words, without its flags and targets."""
+    if m['record'] == 'property':
+        return f"property {sheet_text.receiver_text(m)}{sheet_text.shown(m['name'])}"
+    parameters = '(' + ', '.join(map(sheet_text.parameter_text, m['of'])) + ')'
+    return 'constructor' + parameters if m['record'] == 'constructor' else f"fun {sheet_text.receiver_text(m)}{sheet_text.shown(m['name'])}{parameters}"
+
+
+def words(judgement, head):
+    """What is to be said of a target, as a list of texts: empty if it can be linked."""
+    t, said = judgement.target, []
+    if t.by is None:
+        said.append('no target')
+    elif not judgement.there:
+        said.append('not in the class')
+    for other in judgement.shared:
+        part = '' if other.part == 'method' else f"'s {other.part}"
+        said.append(f"shared with {declared(head['of'][other.declaration])}{part}")
+    for other in judgement.others:
+        said.append(f"may be the method of {declared(head['of'][other.declaration])}")
+    return said
