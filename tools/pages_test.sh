@@ -1,7 +1,7 @@
 #!/usr/bin/env bash
 # The pages that tools make or hold to the crates. check_times.py: a small log, one of a gate that didn't pass, one without crates. trusted.py:
 # README as it is, and copies of the repository in which a definition rests on one file more, and in which README has one file fewer.
-# trace_files.py: TRACE as it is, with a name that is nowhere, and with a file renamed.
+# The lines of ./sheet that README shows. trace_files.py: TRACE as it is, with a name that is nowhere, and with a file renamed.
 set -eu
 cd "$(dirname "$0")/.."
 here=$(mktemp -d)
@@ -59,6 +59,14 @@ cmp README.md "$here/copy/README.md" || failed=1
 echo 'use Rattle.promises.specs.Walk.{walked}' >> "$here/copy/crates/metadata/specs/Read.antt"
 differs 'a definition rests on a file more'
 grep -q '^| `promises` | `Walk` |' "$here/copy/README.md" || { echo 'trusted: the new file is not named'; failed=1; }
+
+# the lines that README shows of ./sheet are those that it prints
+grep '^    public ' README.md | sed 's/^    //' > "$here/shown"
+[ -s "$here/shown" ] || { echo 'README shows no line of ./sheet'; failed=1; }
+cat examples/*.txt | sed 's/^ *//' > "$here/printed"
+while IFS= read -r line; do
+    grep -qxF -- "$line" "$here/printed" || { echo "README shows a line that ./sheet does not print: $line"; failed=1; }
+done < "$here/shown"
 
 python3 -B tools/trace_files.py --check || failed=1
 mkdir -p "$here/traced/docs" "$here/traced/tools"
