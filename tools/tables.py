@@ -250,7 +250,8 @@ class Differences:
             for (at, cell, width), (at_given, cell_given, width_given) in zip(expected, given[kind][2]):
                 called = CELLS.get(cell, [cell])
                 if (at, width) != (at_given, width_given) or cell_given not in called:
-                    self.say(where, f'record {kind}: at {at_given} {cell_given}, {width_given} bytes; the definitions have at {at} {called[0]}, {width}')
+                    self.say(where, f'record {kind}: at {at_given} {cell_given}, {width_given} bytes; '
+                                    f'the definitions have at {at} {called[0]}, {width}')
 
     def named(self, where, what, expected, text):
         """Numbers that have a name in C or Java: each is there, with that number."""
@@ -334,7 +335,8 @@ def main(args):
     except (NotFound, OSError, AttributeError) as why:
         sys.exit(f'tables: not found: {why}')
     if d.count == 0:
-        print(f'tables: {len(records)} records, {len(set(causes.values()))} refusals, {len(roles)} roles and {len(limits)} limits are those of the definitions')
+        print(f'tables: {len(records)} records, {len(set(causes.values()))} refusals, {len(roles)} roles and {len(limits)} limits '
+              'are those of the definitions')
     return 1 if d.count else 0
 
 

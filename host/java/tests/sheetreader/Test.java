@@ -161,7 +161,9 @@ final class Test {
         List<String> functions = new ArrayList<>();
         for (Records r = sale.records(); r.next();) {
             counts[r.kind()]++;
-            if (r.kind() == Records.HEAD) same("the head", "till.Sale 1 4 5", r.text(2) + " " + r.number(14, 2) + " " + r.number(16, 2) + " " + r.number(18, 2));
+            if (r.kind() == Records.HEAD) {
+                same("the head", "till.Sale 1 4 5", r.text(2) + " " + r.number(14, 2) + " " + r.number(16, 2) + " " + r.number(18, 2));
+            }
             if (r.kind() == Records.FUNCTION) functions.add(r.text(1) + r.text(17));
         }
         same("counts of records", "1 1 4 5", counts[1] + " " + counts[2] + " " + counts[3] + " " + counts[4]);
@@ -200,7 +202,9 @@ final class Test {
     private static void nested() {
         ByteBuffer b = ByteBuffer.allocate(1_000_000);
         b.putInt(0xCAFEBABE).putInt(52).putShort((short) 4);
-        for (String s : new String[] {"RuntimeVisibleAnnotations", "Lkotlin/Metadata;", "d1"}) b.put((byte) 1).putShort((short) s.length()).put(s.getBytes());
+        for (String s : new String[] {"RuntimeVisibleAnnotations", "Lkotlin/Metadata;", "d1"}) {
+            b.put((byte) 1).putShort((short) s.length()).put(s.getBytes());
+        }
         b.put(new byte[12]).putShort((short) 1).putShort((short) 1).putInt(b.remaining() - 4);
         b.putShort((short) 1).putShort((short) 2).putShort((short) 1).putShort((short) 3);
         while (b.remaining() >= 3) b.put((byte) '[').putShort((short) 1);
