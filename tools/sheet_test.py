@@ -1,6 +1,6 @@
 #!/usr/bin/env python3
 """./sheet from outside: examples, jars and folders, refusals, JSON, exit statuses, words. The lines of the examples are the Rust's."""
-import json, os, pty, re, shutil, struct, subprocess, sys, tempfile, unittest, zipfile
+import json, os, pty, re, resource, subprocess, sys, tempfile, unittest, zipfile
 
 sys.dont_write_bytecode = True
 sys.setrecursionlimit(20000)
@@ -248,6 +248,8 @@ class Refusals(InFolder):
         with open(os.path.join(ROOT, 'include', 'sheet_reader.h'), encoding='utf-8') as f:
             named = dict(re.findall(r'^    SHEET_(\w+) = (\d+),? +/\*', f.read().split('Refusals')[1].split('};')[0], re.M))
         import sheets
+        with open(os.path.join(ROOT, 'include', 'sheet_reader.h'), encoding='utf-8') as f:
+            self.assertIn(f'#define SHEET_FORMAT {sheets.FORMAT}\n', f.read())
         self.assertEqual({int(n): name.lower().replace('_', ' ') for name, n in named.items()}, sheets.REFUSAL_NAMES)
         self.assertEqual(SCHEMA['$defs']['refused']['properties']['refusal']['properties']['name']['enum'], list(sheets.REFUSAL_NAMES.values()))
 
@@ -297,6 +299,14 @@ class Paths(InFolder):
         status, _, said = sheet('read', self.here)
         self.assertEqual(status, 4)
         self.assertIn('bad.jar: not a jar that can be read', said)
+
+    def test_more_jars_than_may_be_open(self):
+        for at in range(40):
+            self.jar(f'{at:02}.jar', {'till/Line.class': example('Line', '.class')})
+        os.mkfifo(self.path('pipe.class'))
+        status, out, said = sheet('check', self.here, preexec_fn=lambda: resource.setrlimit(resource.RLIMIT_NOFILE, (30, 30)))
+        self.assertEqual((status, out), (0, ''))
+        self.assertIn('40 read, 0 refused', said)
 
     def test_what_is_no_kotlin_class(self):
         status, out, said = sheet('read', self.put('Java.class', made_class.class_file(None)))

@@ -84,8 +84,11 @@ printf 'low:\nhigh: low io # nothing\n' > "$here/expected"
 same 'crate_uses --write' "$here/expected" "$uses/crates.txt"
 
 # ./sheet, where its library is there or can be built; the program itself, where it is built
-if command -v rt > "$here/out" || [ -e target/unproved/libsheet_calls.so ]; then
-    python3 -B tools/sheet_test.py 2> "$here/out" || { cat "$here/out"; failed=1; }
+if command -v rt > "$here/out"; then
+    for test in sheet_test build_test 'mutation_test 1000'; do
+        # shellcheck disable=SC2086
+        python3 -B tools/${test/_test/_test.py} > "$here/out" 2>&1 || { cat "$here/out"; failed=1; }
+    done
 else
     echo 'tools: ./sheet skipped, no rt to build its library'
 fi
