@@ -19,7 +19,7 @@ Members = collections.namedtuple('Members', 'methods fields')
 #   by           'signature', 'default' (the name, or <init>, and the default descriptor), or None where the sheet tells no method
 #   descriptor   None where `by` is None
 #   renamed      whether the compiler may have named the method otherwise, which a sheet doesn't tell of a target by default: the declaration
-#                has annotations, of which one may be @JvmName, or it is an internal member of a class
+#                has annotations, of which one may be @JvmName, is an internal member of a class, or a private function of a multi-file part
 Target = collections.namedtuple('Target', 'declaration part by name descriptor renamed')
 
 # what the class says of a target
@@ -28,9 +28,10 @@ Target = collections.namedtuple('Target', 'declaration part by name descriptor r
 #   others       of a target that is there: targets that aren't, whose method this may be
 Judgement = collections.namedtuple('Judgement', 'target there shared others')
 
-# bits of a declaration's flags (metadata.proto): 0 says that it has annotations, 1 to 3 are its visibility, of which 0 is internal
-ANNOTATED, VISIBILITY = 1, 7 << 1
-CLASS = 1
+# bits of a declaration's flags (metadata.proto): 0 says that it has annotations, 1 to 3 are its visibility
+ANNOTATED, VISIBILITY, INTERNAL, PRIVATE = 1, 7 << 1, 0 << 1, 1 << 1
+# metadata kind and visibility of functions that get a longer name
+LONGER = {(1, INTERNAL), (5, PRIVATE)}
 
 
 def text_of(constant):
@@ -54,7 +55,7 @@ def method_target(place, m, kind):
         return Target(place, 'method', 'signature', m['signature'], m['descriptor'], False)
     if m['record'] == 'constructor':
         return Target(place, 'method', 'default' if m['default'] is not None else None, '<init>', m['default'], False)
-    renamed = bool(m['flags'] & ANNOTATED) or kind == CLASS and not m['flags'] & VISIBILITY
+    renamed = bool(m['flags'] & ANNOTATED) or (kind, m['flags'] & VISIBILITY) in LONGER
     return Target(place, 'method', 'default' if m['default'] is not None else None, m['name'], m['default'], renamed)
 
 
@@ -94,7 +95,7 @@ def there(t, members):
 
 
 def mangled(t, members):
-    """Whether the class has the method under the name of an internal member: NAME$MODULE."""
+    """Whether the class has the method under a longer name: NAME$MODULE of an internal member, NAME$PART of a private function of a part."""
     return any(name.startswith(t.name + '$') and descriptor == t.descriptor for name, descriptor in members.methods)
 
 

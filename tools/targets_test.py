@@ -1,9 +1,10 @@
 #!/usr/bin/env python3
-"""targets.py on the examples, on class files that are cut short, and on sheets made here. The lines of the examples are the Rust's."""
-import os, sys, unittest
+"""targets.py and measure_links.py on the examples, on class files that are cut short, and on sheets made here. The lines of the examples are
+the Rust's."""
+import os, shutil, sys, unittest
 
 sys.dont_write_bytecode = True
-import class_input, sheet_text, targets
+import class_input, measure_links, sheet_text, targets
 
 EXAMPLES = os.path.join(os.path.dirname(os.path.abspath(__file__)), '..', 'examples')
 
@@ -23,7 +24,7 @@ def complaints(name):
     return [(declared, words) for declared, words in said if words]
 
 
-PLAIN, ANNOTATED, INTERNAL = 6, 7, 0
+PLAIN, ANNOTATED, INTERNAL, PRIVATE = 6, 7, 0, 2
 
 
 def function(name, default, signature=None, descriptor=None, flags=PLAIN):
@@ -129,15 +130,74 @@ class Judgements(unittest.TestCase):
         self.assertEqual(said(1, [function('f', '()V', flags=INTERNAL), g], [('f', '()V')]), [['may be the method of fun g()'], lost])
         self.assertEqual(said(2, [function('f', '()V', flags=INTERNAL), g], [('f', '()V')]), [[], lost])
 
-    def test_an_internal_member_under_its_long_name_takes_no_other(self):
-        f, g = function('f', '()V', flags=ANNOTATED), function('g', '()V', flags=INTERNAL)
-        self.assertEqual(said(1, [f, g], [('f', '()V'), ('g$main', '()V')]), [[], ['not in the class']])
+        self.assertEqual(said(5, [function('f', '()V', flags=PRIVATE), g], [('f', '()V')]), [['may be the method of fun g()'], lost])
+        self.assertEqual(said(2, [function('f', '()V', flags=PRIVATE), g], [('f', '()V')]), [[], lost])
+
+    def test_a_function_under_its_longer_name_takes_no_other(self):
+        f = function('f', '()V', flags=ANNOTATED)
+        for kind, flags in (1, INTERNAL), (5, PRIVATE):
+            self.assertEqual(said(kind, [f, function('g', '()V', flags=flags)], [('f', '()V'), ('g$main', '()V')]),
+                             [[], ['not in the class']])
 
     def test_a_field_is_no_method(self):
         p = {'record': 'property', 'name': 'p', 'receiver': 0, 'field': 'p', 'field descriptor': 'I',
              'getter': 'p', 'getter descriptor': 'I', 'setter': None, 'setter descriptor': None}
         judged = targets.judge(targets.targets({'kind': 1, 'of': [p]}), targets.Members({}, {('p', 'I'): 2}))
         self.assertEqual([(j.target.part, j.there, j.shared) for j in judged], [('field', True, []), ('getter', False, [])])
+
+
+# the methods of functions and constructors of the examples whose sheets say another or none, by `javap -p -s`, and the kind of departure;
+# where the class has none, what Kotlin's reader gives
+DEPARTURES = {
+    'LinkingKt': {
+        'count': ('count', '(Ltill/Drawer$Coin;)I', measure_links.NESTED),
+        'each': ('each', '(Ltill/Sale;Lkotlin/jvm/functions/Function1;)V', measure_links.FUNCTION),
+        'kept': ('kept', '(Ljava/lang/Cloneable;)Z', measure_links.BUILT_IN),
+        'lines': ('lines', '(Ltill/Sale;)Ljava/util/Iterator;', measure_links.COLLECTION),
+        'named': ('named', '(Lkotlin/reflect/KFunction;)Ljava/lang/String;', measure_links.REFERENCE),
+        'price': ('price', '(Ljava/util/Map$Entry;)J', measure_links.COLLECTION),
+        'refund': ('refundAll', '(Ljava/util/List;)I', measure_links.JVM_NAME),
+        'refundSale': ('refund', '(Ljava/util/List;)I', measure_links.JVM_NAME),
+        'cents': ('cents', '(Lkotlin/jvm/internal/IntCompanionObject;)I', measure_links.COMPANION)},
+    'Drawer': {'open': ('open$main', '()Z', measure_links.INTERNAL)},
+    'Sale': {'void': ('void', '()Ljava/lang/Void;', measure_links.NOTHING)},
+    'Stock': {'find': ('find', '(Ljava/lang/String;)I', measure_links.INTERFACE)},
+    'Priced': {'<init>': ('<init>', '(J)V', measure_links.ANNOTATION)},
+}
+
+
+class Kinds(unittest.TestCase):
+    def test_departures_of_the_examples(self):
+        for name, expected in DEPARTURES.items():
+            head, data = example(name)
+            members = targets.class_members(data)
+            judged = {j.target.name: j for j in targets.judge(targets.targets(head), members)}
+            for declared, (method, descriptor, kind) in expected.items():
+                self.assertEqual(measure_links.departures(head, judged[declared], (method, descriptor), members), [kind])
+
+    @unittest.skipUnless(shutil.which('java') and all(map(os.path.exists, measure_links.KOTLIN.split(':'))), 'no Java or no Kotlin')
+    def test_what_kotlin_reads_of_the_examples(self):
+        found = [example(name) for name in DEPARTURES]
+        told = measure_links.kotlin_targets([class_input.of_class(data) for _, data in found])
+        for (head, _), kotlins, expected in zip(found, told, DEPARTURES.values()):
+            self.assertEqual(len(kotlins), len(head['of']))
+            for m, rows in zip(head['of'], kotlins):
+                name = m.get('name', '<init>')
+                if name in expected:
+                    self.assertEqual(rows, [expected[name][:2]])
+
+    def test_names_that_get_longer(self):
+        m = {'name': 'f', 'flags': PRIVATE}
+        self.assertEqual(measure_links.name_kind({'kind': 5}, m, 'f$FilesKt__FileKt'), measure_links.PART)
+        self.assertEqual(measure_links.name_kind({'kind': 2}, m, 'f$FilesKt__FileKt'), measure_links.JVM_NAME)
+        self.assertEqual(measure_links.name_kind({'kind': 5}, m, 'g'), measure_links.JVM_NAME)
+
+    def test_relocated_packages(self):
+        t = targets.Target(0, 'method', 'signature', 'f', '(La/b/C;I)La/D;', False)
+        members = targets.Members({('f', '(Lx/a/b/C;I)Lx/a/D;'): 1}, {})
+        head = {'kind': 1, 'flags': PLAIN, 'of': [function('f', None)]}
+        self.assertEqual(measure_links.absent_kind(head, head['of'][0], t, members), measure_links.RELOCATED)
+        self.assertEqual(measure_links.absent_kind(head, head['of'][0], t, targets.Members({}, {})), measure_links.OTHER)
 
 
 if __name__ == '__main__':
