@@ -28,13 +28,14 @@ UNIT = 'Unit? returned'
 NOTHING = 'Nothing'
 INTERNAL = 'internal member'
 PART = 'private function of a multi-file part'
+INLINE = 'parameter of an inline class'
 JVM_NAME = '@JvmName'
 ANNOTATION = 'constructor of an annotation class'
 INTERFACE = 'private function of an interface'
 RELOCATED = 'relocated packages'
 UNNAMED = 'class without a name'
 OTHER = 'other'
-KINDS = (FUNCTION, NESTED, COLLECTION, BUILT_IN, COMPANION, REFERENCE, UNIT, NOTHING, INTERNAL, PART, JVM_NAME,
+KINDS = (FUNCTION, NESTED, COLLECTION, BUILT_IN, COMPANION, REFERENCE, UNIT, NOTHING, INTERNAL, PART, INLINE, JVM_NAME,
          ANNOTATION, INTERFACE, RELOCATED, UNNAMED, OTHER)
 
 # flags (metadata.proto): visibility of a declaration, kind of a class
@@ -120,7 +121,9 @@ def name_kind(head, m, kotlins):
     visibility, longer = VISIBILITY.get(m['flags'] >> 1 & 7), kotlins.startswith(m['name'] + '$')
     if longer and visibility == 'internal' and head['kind'] == 1:
         return INTERNAL
-    return PART if longer and visibility == 'private' and head['kind'] == 5 else JVM_NAME
+    if longer and visibility == 'private' and head['kind'] == 5:
+        return PART
+    return INLINE if kotlins.startswith(m['name'] + '-') else JVM_NAME
 
 
 def departures(head, j, kotlins, members):

@@ -76,13 +76,13 @@ def judge(found, members):
     same, lost = collections.defaultdict(list), collections.defaultdict(list)
     for t in found:
         same[is_field(t), t.name, t.descriptor].append(t)
-        if t.by == 'default' and t.renamed and not there(t, members) and not mangled(t, members):
+        if t.by == 'default' and t.renamed and not there(t, members) and not lengthened(t, members):
             lost[t.descriptor].append(t)
 
     def judgement(t):
         shared = [other for other in same[is_field(t), t.name, t.descriptor] if other is not t] if t.by else []
-        others = lost[t.descriptor] if t.by == 'default' and t.renamed and there(t, members) else []
-        return Judgement(t, there(t, members), shared, others)
+        doubtful = t.by == 'default' and there(t, members) and (t.renamed or lengthened(t, members))
+        return Judgement(t, there(t, members), shared, lost[t.descriptor] if doubtful else [])
     return [judgement(t) for t in found]
 
 
@@ -94,9 +94,10 @@ def there(t, members):
     return (t.name, t.descriptor) in (members.fields if is_field(t) else members.methods)
 
 
-def mangled(t, members):
-    """Whether the class has the method under a longer name: NAME$MODULE of an internal member, NAME$PART of a private function of a part."""
-    return any(name.startswith(t.name + '$') and descriptor == t.descriptor for name, descriptor in members.methods)
+def lengthened(t, members):
+    """Whether the class has the descriptor under a longer name: NAME$MODULE of an internal member, NAME$PART of a private function of a part,
+    NAME-HASH of a function with a parameter of an inline class."""
+    return any(name.startswith((t.name + '$', t.name + '-')) and descriptor == t.descriptor for name, descriptor in members.methods)
 
 
 def declared(m):
