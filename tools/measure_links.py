@@ -4,7 +4,7 @@
 How well the sheets of all classes in these jars link. Each target on a sheet is looked up in the class file and compared with the one that
 the Kotlin compiler's own reader gives (KotlinTargets.java). Printed are, for each jar and for all together: how many functions and constructors
 link by signature and by default, how many of these name no method of the class, share a method, or name another declaration's; then the
-kinds of departure; then properties. With --examples N declarations of each kind.
+kinds of departure; then properties. A class file that is in several jars counts in the first. With --examples N declarations of each kind.
 
 It needs the program (target/bin/sheet_reader, or another named by SHEET_READER), a JDK of version 16 or above, and Debian's package
 kotlin (or KOTLIN_JARS: a class path that holds kotlin-compiler.jar and kotlin-stdlib.jar)."""
@@ -43,16 +43,18 @@ VISIBILITY = {0: 'internal', 1: 'private'}
 CLASS_KIND = {1: 'interface', 4: 'annotation'}
 
 
-def classes(path):
-    """Name, class file and input of each class that carries metadata."""
+def classes(path, seen):
+    """Name, class file and input of each class that carries metadata and isn't among those seen, which it then is."""
     with zipfile.ZipFile(path) as jar:
         for name in jar.namelist():
-            if name.endswith('.class'):
-                data = jar.read(name)
-                try:
-                    yield name, data, class_input.of_class(data)
-                except class_input.NoMetadata:
-                    pass
+            data = jar.read(name) if name.endswith('.class') else None
+            if data is None or data in seen:
+                continue
+            try:
+                yield name, data, class_input.of_class(data)
+                seen.add(data)
+            except class_input.NoMetadata:
+                pass
 
 
 def kotlin_targets(inputs):
@@ -202,8 +204,8 @@ class Count:
                 self.of['bare'] += all(m[part] is None for part in ('field', 'getter', 'setter'))
 
 
-def measured(path):
-    found, count = list(classes(path)), Count()
+def measured(path, seen):
+    found, count = list(classes(path, seen)), Count()
     for (name, data, given), kotlins in zip(found, kotlin_targets([given for _, _, given in found])):
         count.class_file(name, data, given, kotlins)
     return count
@@ -231,7 +233,9 @@ def main(args):
         shown, args = int(args[1]), args[2:]
     if not args or any(path.startswith('-') for path in args):
         sys.exit(__doc__)
-    counts, total = {os.path.basename(path): measured(path) for path in args}, Count()
+    counts, total, seen = {}, Count(), set()
+    for path in args:
+        counts[os.path.basename(path)] = measured(path, seen)
     for count in counts.values():
         total.add(count)
     if len(counts) > 1:
