@@ -169,6 +169,9 @@ class Count:
         self.of['wrong', 'said'] += wrong and bool(said)
         self.of['others'] += bool(j.others)
         self.of['others', 'right'] += bool(j.others) and not wrong
+        self.of['link', by] += j.link
+        self.of['link', 'differs'] += j.link and kotlins != (j.target.name, j.target.descriptor)
+        self.of['link', 'wrong'] += j.link and wrong
         if j.there and not wrong:
             return
         kinds = departures(head, j, kotlins, members)
@@ -219,6 +222,8 @@ ROWS = (('classes with metadata', 'classes'), ('  refused by the reader', 'refus
         ('share a target', 'shared'), ('  that is in the class', ('shared', 'there')),
         ("in the class, but another's", 'wrong'), ('  of which targets.py says something', ('wrong', 'said')),
         ('"may be the method of"', 'others'), ('  of a right target', ('others', 'right')),
+        ('to be linked by signature', ('link', 'signature')), ('to be linked by default', ('link', 'default')),
+        ("  either not as Kotlin's reader says", ('link', 'differs')), ("    which is another method of the class", ('link', 'wrong')),
         ('kinds of departure', None), *(('  ' + kind, kind) for kind in KINDS), ('  (several at once)', 'several'),
         ('properties', 'properties'), ('  getters', 'getter'), ('    not in the class', ('getter', 'absent')),
         ('  setters', 'setter'), ('    not in the class', ('setter', 'absent')),

@@ -26,7 +26,8 @@ Target = collections.namedtuple('Target', 'declaration part by name descriptor r
 #   there        the class has that method or field
 #   shared       the other targets of the sheet that are the same method or field
 #   others       of a target that is there: targets that aren't, whose method this may be
-Judgement = collections.namedtuple('Judgement', 'target there shared others')
+#   link         whether to link it
+Judgement = collections.namedtuple('Judgement', 'target there shared others link')
 
 # bits of a declaration's flags (metadata.proto): 0 says that it has annotations, 1 to 3 are its visibility
 ANNOTATED, VISIBILITY, INTERNAL, PRIVATE = 1, 7 << 1, 0 << 1, 1 << 1
@@ -76,13 +77,19 @@ def judge(found, members):
     same, lost = collections.defaultdict(list), collections.defaultdict(list)
     for t in found:
         same[is_field(t), t.name, t.descriptor].append(t)
-        if t.by == 'default' and t.renamed and not there(t, members) and not lengthened(t, members):
+        if t.renamed and t.by and not there(t, members) and not lengthened(t, members):
             lost[t.descriptor].append(t)
 
+    def can_be_renamed(t):
+        return t.renamed or t.by == 'default' and lengthened(t, members)
+
     def judgement(t):
-        shared = [other for other in same[is_field(t), t.name, t.descriptor] if other is not t] if t.by else []
-        doubtful = t.by == 'default' and there(t, members) and (t.renamed or lengthened(t, members))
-        return Judgement(t, there(t, members), shared, lost[t.descriptor] if doubtful else [])
+        if t.by is None:
+            return Judgement(t, False, [], [], False)
+        shared = [other for other in same[is_field(t), t.name, t.descriptor] if other is not t]
+        others = lost[t.descriptor] if there(t, members) and can_be_renamed(t) else []
+        alone = not shared or not can_be_renamed(t) and all(map(can_be_renamed, shared))
+        return Judgement(t, there(t, members), shared, others, there(t, members) and alone and not others)
     return [judgement(t) for t in found]
 
 
@@ -95,8 +102,8 @@ def there(t, members):
 
 
 def lengthened(t, members):
-    """Whether the class has the descriptor under a longer name: NAME$MODULE of an internal member, NAME$PART of a private function of a part,
-    NAME-HASH of a function with a parameter of an inline class."""
+    """Whether the class has a function's descriptor under a longer name: NAME$MODULE of an internal member, NAME$PART of a private function of
+    a part, NAME-HASH of a function with a parameter of an inline class."""
     return any(name.startswith((t.name + '$', t.name + '-')) and descriptor == t.descriptor for name, descriptor in members.methods)
 
 
@@ -109,7 +116,7 @@ def declared(m):
 
 
 def words(judgement, head):
-    """What is to be said of a target, as a list of texts: empty if it can be linked."""
+    """What is to be said of a target, as a list of texts; empty if nothing stands against it."""
     t, said = judgement.target, []
     if t.by is None:
         said.append('no target')

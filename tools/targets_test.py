@@ -147,6 +147,21 @@ class Judgements(unittest.TestCase):
             self.assertEqual(said(kind, [f, function('g', '()V', flags=flags)], [('f', '()V'), ('g$main', '()V')]),
                              [[], ['not in the class']])
 
+    def test_what_to_link(self):
+        def linked(declarations, methods):
+            judged = targets.judge(targets.targets({'kind': 2, 'of': declarations}), targets.Members(dict.fromkeys(methods, 1), {}))
+            return [j.link for j in judged]
+        plain, renamed, recorded = function('f', '()V'), function('f', '()V', flags=ANNOTATED), function('g', '()V', 'f', '()V', ANNOTATED)
+        self.assertEqual(linked([plain], [('f', '()V')]), [True])
+        self.assertEqual(linked([plain], [('f', '()I')]), [False])
+        self.assertEqual(linked([function('f', None)], [('f', '()V')]), [False])
+        self.assertEqual(linked([plain, renamed, renamed], [('f', '()V')]), [True, False, False])
+        self.assertEqual(linked([recorded, renamed], [('f', '()V')]), [True, False])
+        self.assertEqual(linked([plain, plain], [('f', '()V')]), [False, False])
+        self.assertEqual(linked([renamed, renamed], [('f', '()V')]), [False, False])
+        self.assertEqual(linked([plain, renamed], []), [False, False])
+        self.assertEqual(linked([renamed, function('h', '()V', flags=ANNOTATED)], [('f', '()V')]), [False, False])
+
     def test_a_field_is_no_method(self):
         p = {'record': 'property', 'name': 'p', 'receiver': 0, 'field': 'p', 'field descriptor': 'I',
              'getter': 'p', 'getter descriptor': 'I', 'setter': None, 'setter descriptor': None}
