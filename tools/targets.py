@@ -77,11 +77,11 @@ def judge(found, members):
     same, lost = collections.defaultdict(list), collections.defaultdict(list)
     for t in found:
         same[is_field(t), t.name, t.descriptor].append(t)
-        if t.renamed and t.by and not there(t, members) and not lengthened(t, members):
+        if t.renamed and t.by and not there(t, members) and not lengthened(t, '$-', members):
             lost[t.descriptor].append(t)
 
     def can_be_renamed(t):
-        return t.renamed or t.by == 'default' and lengthened(t, members)
+        return t.renamed or t.by == 'default' and lengthened(t, '-', members)
 
     def judgement(t):
         if t.by is None:
@@ -101,10 +101,11 @@ def there(t, members):
     return (t.name, t.descriptor) in (members.fields if is_field(t) else members.methods)
 
 
-def lengthened(t, members):
-    """Whether the class has a function's descriptor under a longer name: NAME$MODULE of an internal member, NAME$PART of a private function of
-    a part, NAME-HASH of a function with a parameter of an inline class."""
-    return any(name.startswith((t.name + '$', t.name + '-')) and descriptor == t.descriptor for name, descriptor in members.methods)
+def lengthened(t, marks, members):
+    """Whether the class has a function's descriptor under its name, one of these marks, and more: NAME$MODULE of an internal member, NAME$PART
+    of a private function of a part, NAME-HASH of a function with a parameter of an inline class."""
+    longer = tuple(t.name + mark for mark in marks)
+    return any(name.startswith(longer) and descriptor == t.descriptor for name, descriptor in members.methods)
 
 
 def declared(m):

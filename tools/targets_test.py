@@ -1,12 +1,15 @@
 #!/usr/bin/env python3
 """targets.py and measure_links.py on the examples, on class files that are cut short, and on sheets made here. The lines of the examples are
 the Rust's."""
-import os, shutil, sys, unittest
+import os, re, shutil, sys, unittest
 
 sys.dont_write_bytecode = True
 import class_input, measure_links, sheet_text, targets
 
 EXAMPLES = os.path.join(os.path.dirname(os.path.abspath(__file__)), '..', 'examples')
+STDLIB = '/usr/share/java/kotlin-stdlib.jar'
+MANUAL = os.path.join(EXAMPLES, '..', 'docs', 'MANUAL.md')
+KOTLIN_THERE = bool(shutil.which('java')) and all(map(os.path.exists, measure_links.KOTLIN.split(':')))
 
 
 def example(name):
@@ -199,7 +202,7 @@ class Kinds(unittest.TestCase):
             for declared, (method, descriptor, kind) in expected.items():
                 self.assertEqual(measure_links.departures(head, judged[declared], (method, descriptor), members), [kind])
 
-    @unittest.skipUnless(shutil.which('java') and all(map(os.path.exists, measure_links.KOTLIN.split(':'))), 'no Java or no Kotlin')
+    @unittest.skipUnless(KOTLIN_THERE, 'no Java or no Kotlin')
     def test_what_kotlin_reads_of_the_examples(self):
         found = [example(name) for name in DEPARTURES]
         told = measure_links.kotlin_targets([class_input.of_class(data) for _, data in found])
@@ -223,6 +226,28 @@ class Kinds(unittest.TestCase):
         head = {'kind': 1, 'flags': PLAIN, 'of': [function('f', None)]}
         self.assertEqual(measure_links.absent_kind(head, head['of'][0], t, members), measure_links.RELOCATED)
         self.assertEqual(measure_links.absent_kind(head, head['of'][0], t, targets.Members({}, {})), measure_links.OTHER)
+
+
+class Figures(unittest.TestCase):
+    """What MANUAL says of the standard library, measured again where the library that it speaks of and the program are there."""
+
+    @unittest.skipUnless(KOTLIN_THERE and os.path.realpath(STDLIB).endswith('-1.3.31.jar') and os.path.exists(measure_links.PROGRAM),
+                         'no Java, no Kotlin 1.3.31 or no program')
+    def test_the_standard_library(self):
+        count = measure_links.measured(STDLIB, set()).of
+        with open(MANUAL, encoding='utf-8') as f:
+            rows = [[cell.strip() for cell in line.strip()[1:-1].split('|')] for line in f if line.startswith('|')]
+        start = rows.index(['', 'kotlin-stdlib', 'kotlinx-coroutines-core', 'gradle-kotlin-dsl', 'kotlin-reflect', 'kotlin-compiler', 'all'])
+        keys = ('classes', 'declarations', 'signature', ('signature', 'absent'), 'default', ('default', 'absent'), 'none',
+                'shared', ('shared', 'there'), 'wrong')
+        self.assertEqual([int(row[1].replace(',', '')) for row in rows[start + 2:start + 2 + len(keys)]], [count[key] for key in keys])
+        start = rows.index(['declared', "the sheet's target", 'in the class', 'found'])
+        M = measure_links
+        kinds = (M.FUNCTION, M.NESTED, M.COLLECTION, M.BUILT_IN, M.COMPANION, M.REFERENCE, M.NOTHING, M.INTERNAL, M.PART, M.INLINE, M.JVM_NAME,
+                 M.ANNOTATION, M.INTERFACE, M.UNNAMED, M.RELOCATED, M.UNIT)
+        found = [re.search(r'\((\d+)\)|^0$', row[-1]) for row in rows[start + 2:start + 2 + len(kinds)]]
+        self.assertEqual([int(f[1] or 0) for f in found], [count[kind] for kind in kinds])
+        self.assertEqual(count[M.OTHER], 0)
 
 
 if __name__ == '__main__':
