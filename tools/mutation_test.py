@@ -20,12 +20,16 @@ NUMBERS = [0, 1, 2, 3, 0x7f, 0x80, 0xff]
 
 
 def seeds():
-    """Class files to damage: the examples, and made ones."""
-    folder = os.path.join(ROOT, 'examples')
+    """Class files to damage: examples, and made ones."""
+    folder, examples = os.path.join(ROOT, 'examples'), []
     for name in sorted(os.listdir(folder)):
         if name.endswith('.class'):
             with open(os.path.join(folder, name), 'rb') as f:
-                yield f.read()
+                examples.append(f.read())
+    return examples, list(made())
+
+
+def made():
     function = made_class.package(made_class.field(3, b'\x10\0' + made_class.field(3, b'\x30\1')), ['f', 'kotlin/Unit'])
     nest = made_class.nested_annotation
     for depth in (1, 3, 50, 3000):
@@ -41,9 +45,9 @@ def seeds():
     yield made_class.class_file(None)
 
 
-def changed(whole, chance):
-    """A damaged copy of one of these, more often of the examples, which are the first: as a file, in bytes alone, or in what its annotation holds."""
-    data, how = chance.choice(whole[:13] if chance.random() < 0.7 else whole), chance.randrange(3)
+def changed(examples, others, chance):
+    """A damaged copy of one of these: as a file, in bytes alone, or in what its annotation holds."""
+    data, how = chance.choice(examples if chance.random() < 0.7 else others), chance.randrange(3)
     if how == 2:
         try:
             return with_other_metadata(class_input.ClassFile(data).metadata(), chance)
@@ -143,9 +147,10 @@ def keep(data, suffix):
 
 def over_classes(all_forms, count, chance):
     """Every class through every form. Gives how many faults there were."""
-    whole, faults = list(seeds()), 0
+    (examples, others), faults = seeds(), 0
+    whole = examples + others
     for at in range(count):
-        data = whole[at] if at < len(whole) else changed(whole, chance)
+        data = whole[at] if at < len(whole) else changed(examples, others, chance)
         for one in all_forms:
             try:
                 one.take(One(data))
@@ -159,13 +164,13 @@ def over_classes(all_forms, count, chance):
 
 def over_jars(count, chance):
     """Damaged jars, through the reading of files."""
-    whole, faults = list(seeds()), 0
+    examples, faults = seeds()[0], 0
     with tempfile.TemporaryDirectory() as folder:
         for at in range(count):
             made, path = io.BytesIO(), os.path.join(folder, 'made.jar')
             with zipfile.ZipFile(made, 'w', chance.choice([zipfile.ZIP_STORED, zipfile.ZIP_DEFLATED, zipfile.ZIP_BZIP2, zipfile.ZIP_LZMA])) as jar:
                 for name in range(chance.randint(1, 3)):
-                    jar.writestr(f'made/{name}.class', chance.choice(whole[:13]))
+                    jar.writestr(f'made/{name}.class', chance.choice(examples))
             data = damaged(made.getvalue(), chance, 8)
             with open(path, 'wb') as f:
                 f.write(data)

@@ -172,12 +172,13 @@ class Json(InFolder):
         o, = objects(sheet('read', '--json', 'examples/LinkingKt.class')[1])
         of = {json.dumps([m['name'], len(m['parameters']), m['parameters'] and m['parameters'][0]['name']]): m['target'] for m in o['functions']}
         self.assertEqual(of['["refund", 1, "numbers"]'], {
-            'by': 'default', 'name': 'refund', 'descriptor': '(Ljava/util/List;)I', 'in_class': True, 'shared_with': [],
+            'by': 'default', 'name': 'refund', 'descriptor': '(Ljava/util/List;)I', 'in_class': True, 'link': False, 'shared_with': [],
             'may_be_of': [{'declaration': 'fun refundSale(articles: kotlin.collections.List<kotlin.String>)', 'part': 'method'}]})
         self.assertEqual(of['["refundSale", 1, "articles"]']['in_class'], False)
         self.assertEqual(of['["sum", 1, "cents"]']['shared_with'],
                          [{'declaration': 'fun sum(lines: kotlin.collections.List<till.Line>)', 'part': 'method'}])
         self.assertEqual(of['["closed", 0, []]']['by'], 'signature')
+        self.assertEqual([of[f'["sum", 1, "{name}"]']['link'] for name in ('cents', 'lines')], [True, False])
 
     def test_check(self):
         status, out, _ = sheet('check', '--json', 'examples')
@@ -189,7 +190,7 @@ class Json(InFolder):
         self.assertEqual(told[-1]['findings'], [{
             'declaration': 'fun kotlin.collections.Iterable<(type parameter)>.cents(of: kotlin.Function1<(type parameter), kotlin.Long>)',
             'part': 'method', 'by': 'default', 'name': 'cents', 'descriptor': '(Ljava/lang/Iterable;Lkotlin/Function1;)J', 'in_class': False,
-            'shared_with': [], 'may_be_of': []}])
+            'shared_with': [], 'may_be_of': [], 'link': False}])
 
     def test_facade_and_part(self):
         self.put('F.class', made_class.class_file({'k': 4, 'mv': [1, 1, 15], 'd1': ['made/F__AKt', 'made/F__BKt']}, 'made/F'))
@@ -339,7 +340,7 @@ class Paths(InFolder):
         controller, terminal = pty.openpty()
         subprocess.run([SHEET, 'read', 'examples'], cwd=ROOT, stdout=subprocess.DEVNULL, stderr=terminal)
         os.close(terminal)
-        self.assertIn(b' of 13 classes, examples/', os.read(controller, 65536))
+        self.assertIn(f' of {len(NAMES)} classes, examples/'.encode(), os.read(controller, 65536))
         os.close(controller)
         self.assertNotIn('classes,', sheet('read', 'examples')[2])
 
@@ -373,7 +374,11 @@ class Statuses(InFolder):
         status, out, said = sheet('check', 'examples/TillKt.class', 'examples/Sale.class')
         self.assertEqual((status, out), (3, 'examples/TillKt.class: fun kotlin.collections.Iterable<(type parameter)>.cents(of: kotlin.Function1<'
                                          '(type parameter), kotlin.Long>)  default cents(Ljava/lang/Iterable;Lkotlin/Function1;)J [not in the class]\n'))
-        self.assertIn('1 findings among 12 targets; functions without a target: 1', said)
+        self.assertEqual(said.splitlines()[1:], [
+            'sheet: functions and constructors by default: 4, of which 1 not in the class, 0 shared, 0 perhaps of another',
+            'sheet: functions and constructors by signature: 2, of which 0 not in the class, 0 shared, 0 perhaps of another',
+            'sheet: functions and constructors without a target: 1',
+            'sheet: fields, getters and setters by signature: 6, of which 0 not in the class, 0 shared, 0 perhaps of another'])
 
     def test_output_that_cannot_be_written(self):
         for words in (['read', 'examples'], ['read', '--json', 'examples'], ['check', 'examples'], ['--help']):

@@ -1,6 +1,7 @@
 #!/usr/bin/env bash
-# class_input.py on the examples: the inputs' hashes are those that are noted. What sheet_text.py refuses. ./sheet (sheet_test.py).
-# targets.py on the examples. crate_uses.py on a repository of two crates.
+# class_input.py on the examples: the inputs' hashes are those that are noted. What sheet_text.py refuses. ./sheet: examples, jars, refusals, exit
+# statuses (sheet_test.py), on a fresh copy (build_test.py), on damaged classes (mutation_test.py).
+# targets.py and measure_links.py on the examples. crate_uses.py on a repository of two crates.
 # The tools for proofs, and that each proof is what its template gives. That README and NOTICE name every crate.
 set -eu
 cd "$(dirname "$0")/.."
@@ -54,8 +55,9 @@ refused 'cut short' say '0 0 0102ffffffff -'
 refused 'no count announced' say '0 0 0102ffffffff060000000000000000000000000007ffffffff -'
 refused 'was announced' say '0 0 0102ffffffff0600000000000000000001000000 -'
 
-# targets.py: what declarations link to
-python3 -B tools/targets_test.py 2> "$here/out" || { cat "$here/out"; failed=1; }
+# targets.py and measure_links.py: what declarations link to, and the figures of MANUAL
+python3 -B tools/targets_test.py -v 2> "$here/out" || { cat "$here/out"; failed=1; }
+sed -n "s/^\(test[a-z_]*\) .*skipped '\(.*\)'$/tools: \1 skipped, \2/p" "$here/out"
 
 # crate_uses.py: a crate above another, named by its code, by a proof, or in comments alone
 uses=$here/uses
