@@ -201,6 +201,20 @@ class Json(InFolder):
         self.assertEqual(sheet('read', self.path('F.class'))[1], 'facade of a multi-file class made/F  flags 6  parts made/F__AKt, made/F__BKt\n')
         self.assertEqual(sheet('read', self.path('P.class'))[1], 'part of a multi-file class made/F__AKt  flags 6  facade made/F\n')
 
+    def test_the_schema_refuses(self):
+        """What the schema is there for: a name more or fewer, a value of another kind."""
+        whole, = objects(sheet('read', '--json', 'examples/TillKt.class')[1])
+        wrong = [{**whole, 'more': 1}, {k: v for k, v in whole.items() if k != 'types'}, {**whole, 'flags': -1}, {**whole, 'flags': True},
+                 {**whole, 'state': 'written'}, {**whole, 'parts': [None]}, {**whole, 'functions': [{**whole['functions'][0], 'returns': 'Int'}]}]
+        self.assertEqual([bool(schema.faults(o, SCHEMA, SCHEMA)) for o in [whole, *wrong]], [False] + [True] * len(wrong))
+
+    def test_every_name_of_the_schema_is_told(self):
+        with open(os.path.join(ROOT, 'docs', 'JSON.md'), encoding='utf-8') as f:
+            told = set(re.findall(r'`(\w+)`', f.read()))
+        names = {name for part in SCHEMA['$defs'].values() for name in part.get('properties', {})}
+        names |= set(SCHEMA['$defs']['refused']['properties']['refusal']['properties'])
+        self.assertEqual(names - told, set())
+
     def test_the_manual_shows_what_is_printed(self):
         with open(os.path.join(ROOT, 'docs', 'JSON.md'), encoding='utf-8') as f:
             shown = re.findall(r'^    \$ (./sheet .*)\n((?:    .*\n)+)', f.read(), re.M)
@@ -343,6 +357,15 @@ class Paths(InFolder):
         self.assertIn(f' of {len(NAMES)} classes, examples/'.encode(), os.read(controller, 65536))
         os.close(controller)
         self.assertNotIn('classes,', sheet('read', 'examples')[2])
+
+    def test_results_and_progress_on_one_terminal(self):
+        controller, terminal = pty.openpty()
+        subprocess.run([SHEET, 'read', '--line', 'examples/Line.class', 'examples/Reason.class'], cwd=ROOT, stdout=terminal, stderr=terminal)
+        os.close(terminal)
+        told = os.read(controller, 65536).decode().replace('\r\n', '\n')
+        os.close(controller)
+        self.assertIn('\r\x1b[K' + example('Line', '.line').decode(), told)
+        self.assertIn('classes, examples/Line.class', told)
 
 
 class Statuses(InFolder):
