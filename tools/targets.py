@@ -111,9 +111,9 @@ def lengthened(t, marks, members):
 def declared(m):
     """A declaration in words, without its flags and targets."""
     if m['record'] == 'property':
-        return f"property {sheet_text.receiver_text(m)}{m['name']}"
+        return f"property {sheet_text.receiver_text(m)}{sheet_text.shown(m['name'])}"
     parameters = '(' + ', '.join(map(sheet_text.parameter_text, m['of'])) + ')'
-    return 'constructor' + parameters if m['record'] == 'constructor' else f"fun {sheet_text.receiver_text(m)}{m['name']}{parameters}"
+    return 'constructor' + parameters if m['record'] == 'constructor' else f"fun {sheet_text.receiver_text(m)}{sheet_text.shown(m['name'])}{parameters}"
 
 
 def words(judgement, head):

@@ -91,7 +91,7 @@ class Targets(unittest.TestCase):
 class Judgements(unittest.TestCase):
     def test_examples(self):
         self.assertEqual(complaints('TillKt'), [(
-            'fun kotlin.collections.Iterable<(unnamed)>.cents(of: kotlin.Function1<(unnamed), kotlin.Long>)', ['not in the class'])])
+            'fun kotlin.collections.Iterable<(type parameter)>.cents(of: kotlin.Function1<(type parameter), kotlin.Long>)', ['not in the class'])])
         self.assertEqual(complaints('Sale'), [('fun void()', ['no target'])])
         for name in ('Line', 'Refund', 'Reason', 'Journal', 'Journal$DefaultImpls'):
             self.assertEqual(complaints(name), [])

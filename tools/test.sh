@@ -1,5 +1,6 @@
 #!/usr/bin/env bash
-# class_input.py and sheet_text.py on the examples: each sheet in words is examples/NAME.txt, and the inputs' hashes are those that are noted.
+# class_input.py on the examples: the inputs' hashes are those that are noted. What sheet_text.py refuses. ./sheet: examples, jars, refusals, exit
+# statuses (sheet_test.py), on a fresh copy (build_test.py), on damaged classes (mutation_test.py).
 # targets.py and measure_links.py on the examples. crate_uses.py on a repository of two crates.
 # The tools for proofs, and that each proof is what its template gives. That README and NOTICE name every crate.
 set -eu
@@ -18,8 +19,6 @@ refused() { # words that must be said, command ..
 
 for line in examples/*.line; do
     name=${line%.line}
-    python3 -B tools/sheet_text.py "$line" > "$here/text"
-    same "sheet_text" "$name.txt" "$here/text"
     python3 -B tools/class_input.py "$name.class" > "$here/input"
     (cd examples; sha256sum < "$here/input" | sed "s/-/$(basename "$name")/") >> "$here/hashes"
 done
@@ -86,21 +85,19 @@ python3 -B "$uses/tools/crate_uses.py" --write
 printf 'low:\nhigh: low io # nothing\n' > "$here/expected"
 same 'crate_uses --write' "$here/expected" "$uses/crates.txt"
 
-# ./read: with a program that knows one answer, and with the real one where it is built
-printf '#!/bin/sh\ncat examples/Sale.line\n' > "$here/knows_sale"
-printf '#!/bin/sh\necho 7 0 - -\n' > "$here/refuses"
-chmod +x "$here/knows_sale" "$here/refuses"
-SHEET_READER=$here/knows_sale ./read examples/Sale.class > "$here/text"
-same "./read" examples/Sale.txt "$here/text"
-SHEET_READER=$here/knows_sale ./read --line "$here/till.jar" till/Sale.class > "$here/text"
-same "./read --line" examples/Sale.line "$here/text"
-SHEET_READER=$here/refuses refused 'truncated' ./read examples/Sale.class
-SHEET_READER=$here/refuses refused '7 0 - -' ./read --line examples/Sale.class
-refused 'usage' ./read
+# ./sheet, where its library is there or can be built; the program itself, where it is built
+if command -v rt > "$here/out"; then
+    for test in sheet_test build_test 'mutation_test 1000'; do
+        # shellcheck disable=SC2086
+        python3 -B tools/${test/_test/_test.py} > "$here/out" 2>&1 || { cat "$here/out"; failed=1; }
+    done
+else
+    echo 'tools: ./sheet skipped, no rt to build its library'
+fi
 if [ -x target/bin/sheet_reader ]; then
     for line in examples/*.line; do
-        SHEET_READER=target/bin/sheet_reader ./read "${line%.line}.class" > "$here/text"
-        same "sheet_reader" "${line%.line}.txt" "$here/text"
+        python3 -B tools/class_input.py "${line%.line}.class" | target/bin/sheet_reader > "$here/line"
+        same "sheet_reader" "$line" "$here/line"
     done
 else
     echo 'tools: sheet_reader itself skipped, it is not built'
