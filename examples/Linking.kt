@@ -31,6 +31,12 @@ fun Int.Companion.cents(): Int = 100
 
 fun closed(): Unit? = null
 
+inline class Cents(val count: Long)
+
+fun paid(cents: Cents?): Boolean = cents != null
+
+fun paid(sale: Sale, cents: Cents): Boolean = sale.total() == cents.count
+
 const val CURRENCY: String = "EUR"
 
 class Drawer {

@@ -20,10 +20,10 @@ class TooLong(Exception):
 
 
 class Found:
-    """A class file in a folder (entry None) or in a jar."""
+    """A class file by itself (entry None) or in a jar."""
 
-    def __init__(self, file, entry=None, jar=None, named=False):
-        self.file, self.entry, self.jar = file, entry, jar
+    def __init__(self, file, entry=None, named=False):
+        self.file, self.entry = file, entry
         self.named = named  # by itself, not with its folder or jar
 
     def path(self):
@@ -31,12 +31,13 @@ class Found:
 
     def data(self):
         """Its bytes, or FileFailed, or TooLong."""
-        if self.jar is None:
+        if self.entry is None:
             return file_bytes(self.file)
+        jar = Jars.opened(self.file)
         try:
-            if self.jar.getinfo(self.entry).file_size > LIMIT:
+            if jar.getinfo(self.entry).file_size > LIMIT:
                 raise TooLong()
-            return self.jar.read(self.entry)
+            return jar.read(self.entry)
         except ZIP_FAULTS as why:
             raise FileFailed(f'{self.path()}: {words(why)}') from None
 
@@ -59,23 +60,32 @@ def file_bytes(path):
     return data
 
 
-def jar_opened(path):
-    try:
-        return zipfile.ZipFile(path)
-    except ZIP_FAULTS as why:
-        raise FileFailed(f'{path}: not a jar that can be read: {words(why)}') from None
+class Jars:
+    """The jar that was opened last: a folder may hold more jars than may be open at once."""
+    path, jar = None, None
+
+    @classmethod
+    def opened(cls, path):
+        if cls.path != path:
+            if cls.jar:
+                cls.jar.close()
+            cls.path, cls.jar = None, None
+            try:
+                cls.jar = zipfile.ZipFile(path)
+            except ZIP_FAULTS as why:
+                raise FileFailed(f'{path}: not a jar that can be read: {words(why)}') from None
+            cls.path = path
+        return cls.jar
 
 
 def in_jar(path):
-    jar = jar_opened(path)
-    return [Found(path, name, jar) for name in jar.namelist() if name.endswith('.class')]
+    return [Found(path, name) for name in Jars.opened(path).namelist() if name.endswith('.class')]
 
 
 def one_entry(path, entry):
-    jar = jar_opened(path)
-    if entry not in jar.namelist():
+    if entry not in Jars.opened(path).namelist():
         raise FileFailed(f'{path}!/{entry}: the jar has no such entry')
-    return [Found(path, entry, jar, named=True)]
+    return [Found(path, entry, named=True)]
 
 
 def in_folder(path, failed):
@@ -86,6 +96,8 @@ def in_folder(path, failed):
         folders.sort()
         for name in sorted(files):
             inner = os.path.join(folder, name)
+            if not os.path.isfile(inner) and not os.path.islink(inner):
+                continue  # a pipe or a device
             if name.endswith('.class'):
                 found.append(Found(inner))
             elif name.endswith('.jar'):

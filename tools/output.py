@@ -11,7 +11,10 @@ def write(text):
     try:
         if sys.stdout is None:
             raise OutputFailed('it is closed')
+        Progress.clear()
         sys.stdout.buffer.write(text.encode('utf-8', 'surrogateescape'))
+        if Progress.shown:
+            sys.stdout.buffer.flush()  # before the progress line comes again, perhaps on the same terminal
     except OSError as why:
         raise OutputFailed(why.strerror or str(why)) from None
 
@@ -54,7 +57,7 @@ def say(text):
 class Progress:
     """A line on standard error that is written over, if that is a terminal: some steps a second."""
     EVERY = 0.1
-    last, on_line = 0.0, False
+    last, on_line, shown = 0.0, False, False
 
     @classmethod
     def show(cls, text):
@@ -62,7 +65,7 @@ class Progress:
         if now - cls.last >= cls.EVERY and sys.stderr is not None and sys.stderr.isatty():
             width = 79
             to_stderr('\r\x1b[K' + (text if len(text) <= width else text[:width - 2] + '..'))
-            cls.last, cls.on_line = now, True
+            cls.last, cls.on_line, cls.shown = now, True, True
 
     @classmethod
     def clear(cls):

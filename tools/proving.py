@@ -47,7 +47,7 @@ def prove(say, progress):
         found = DONE.match(line or '')
         if found and found[1] in crates:
             done.append(found[1])
-            say(f'{found[1]}: {so_far()}')
+            say(f'{so_far()}: {found[1]}')
         progress.show(f'sheet: {so_far()}')
     for line in lines_of(['rt', 'staticlib', 'sheet_calls']):
         progress.show(f'sheet: {so_far()}, writing the library')

@@ -59,7 +59,7 @@ def target_json(judgement, head):
     """What a declaration links to, and what the class file says of it."""
     t = judgement.target
     return {'by': t.by, 'name': t.name if t.by else None, 'descriptor': t.descriptor, 'in_class': judgement.there,
-            'shared_with': others_json(judgement.shared, head), 'may_be_of': others_json(judgement.others, head)}
+            'shared_with': others_json(judgement.shared, head), 'may_be_of': others_json(judgement.others, head), 'link': judgement.link}
 
 
 def others_json(others, head):

@@ -1,6 +1,6 @@
 #!/usr/bin/env python3
 """./sheet from outside: examples, jars and folders, refusals, JSON, exit statuses, words. The lines of the examples are the Rust's."""
-import json, os, pty, re, shutil, struct, subprocess, sys, tempfile, unittest, zipfile
+import json, os, pty, re, resource, subprocess, sys, tempfile, unittest, zipfile
 
 sys.dont_write_bytecode = True
 sys.setrecursionlimit(20000)
@@ -172,12 +172,13 @@ class Json(InFolder):
         o, = objects(sheet('read', '--json', 'examples/LinkingKt.class')[1])
         of = {json.dumps([m['name'], len(m['parameters']), m['parameters'] and m['parameters'][0]['name']]): m['target'] for m in o['functions']}
         self.assertEqual(of['["refund", 1, "numbers"]'], {
-            'by': 'default', 'name': 'refund', 'descriptor': '(Ljava/util/List;)I', 'in_class': True, 'shared_with': [],
+            'by': 'default', 'name': 'refund', 'descriptor': '(Ljava/util/List;)I', 'in_class': True, 'link': False, 'shared_with': [],
             'may_be_of': [{'declaration': 'fun refundSale(articles: kotlin.collections.List<kotlin.String>)', 'part': 'method'}]})
         self.assertEqual(of['["refundSale", 1, "articles"]']['in_class'], False)
         self.assertEqual(of['["sum", 1, "cents"]']['shared_with'],
                          [{'declaration': 'fun sum(lines: kotlin.collections.List<till.Line>)', 'part': 'method'}])
         self.assertEqual(of['["closed", 0, []]']['by'], 'signature')
+        self.assertEqual([of[f'["sum", 1, "{name}"]']['link'] for name in ('cents', 'lines')], [True, False])
 
     def test_check(self):
         status, out, _ = sheet('check', '--json', 'examples')
@@ -189,7 +190,7 @@ class Json(InFolder):
         self.assertEqual(told[-1]['findings'], [{
             'declaration': 'fun kotlin.collections.Iterable<(type parameter)>.cents(of: kotlin.Function1<(type parameter), kotlin.Long>)',
             'part': 'method', 'by': 'default', 'name': 'cents', 'descriptor': '(Ljava/lang/Iterable;Lkotlin/Function1;)J', 'in_class': False,
-            'shared_with': [], 'may_be_of': []}])
+            'shared_with': [], 'may_be_of': [], 'link': False}])
 
     def test_facade_and_part(self):
         self.put('F.class', made_class.class_file({'k': 4, 'mv': [1, 1, 15], 'd1': ['made/F__AKt', 'made/F__BKt']}, 'made/F'))
@@ -199,6 +200,20 @@ class Json(InFolder):
         self.assertEqual((part['parts'], part['facade'], part['class']), ([], 'made/F', 'made/F__AKt'))
         self.assertEqual(sheet('read', self.path('F.class'))[1], 'facade of a multi-file class made/F  flags 6  parts made/F__AKt, made/F__BKt\n')
         self.assertEqual(sheet('read', self.path('P.class'))[1], 'part of a multi-file class made/F__AKt  flags 6  facade made/F\n')
+
+    def test_the_schema_refuses(self):
+        """What the schema is there for: a name more or fewer, a value of another kind."""
+        whole, = objects(sheet('read', '--json', 'examples/TillKt.class')[1])
+        wrong = [{**whole, 'more': 1}, {k: v for k, v in whole.items() if k != 'types'}, {**whole, 'flags': -1}, {**whole, 'flags': True},
+                 {**whole, 'state': 'written'}, {**whole, 'parts': [None]}, {**whole, 'functions': [{**whole['functions'][0], 'returns': 'Int'}]}]
+        self.assertEqual([bool(schema.faults(o, SCHEMA, SCHEMA)) for o in [whole, *wrong]], [False] + [True] * len(wrong))
+
+    def test_every_name_of_the_schema_is_told(self):
+        with open(os.path.join(ROOT, 'docs', 'JSON.md'), encoding='utf-8') as f:
+            told = set(re.findall(r'`(\w+)`', f.read()))
+        names = {name for part in SCHEMA['$defs'].values() for name in part.get('properties', {})}
+        names |= set(SCHEMA['$defs']['refused']['properties']['refusal']['properties'])
+        self.assertEqual(names - told, set())
 
     def test_the_manual_shows_what_is_printed(self):
         with open(os.path.join(ROOT, 'docs', 'JSON.md'), encoding='utf-8') as f:
@@ -248,6 +263,8 @@ class Refusals(InFolder):
         with open(os.path.join(ROOT, 'include', 'sheet_reader.h'), encoding='utf-8') as f:
             named = dict(re.findall(r'^    SHEET_(\w+) = (\d+),? +/\*', f.read().split('Refusals')[1].split('};')[0], re.M))
         import sheets
+        with open(os.path.join(ROOT, 'include', 'sheet_reader.h'), encoding='utf-8') as f:
+            self.assertIn(f'#define SHEET_FORMAT {sheets.FORMAT}\n', f.read())
         self.assertEqual({int(n): name.lower().replace('_', ' ') for name, n in named.items()}, sheets.REFUSAL_NAMES)
         self.assertEqual(SCHEMA['$defs']['refused']['properties']['refusal']['properties']['name']['enum'], list(sheets.REFUSAL_NAMES.values()))
 
@@ -298,6 +315,14 @@ class Paths(InFolder):
         self.assertEqual(status, 4)
         self.assertIn('bad.jar: not a jar that can be read', said)
 
+    def test_more_jars_than_may_be_open(self):
+        for at in range(40):
+            self.jar(f'{at:02}.jar', {'till/Line.class': example('Line', '.class')})
+        os.mkfifo(self.path('pipe.class'))
+        status, out, said = sheet('check', self.here, preexec_fn=lambda: resource.setrlimit(resource.RLIMIT_NOFILE, (30, 30)))
+        self.assertEqual((status, out), (0, ''))
+        self.assertIn('40 read, 0 refused', said)
+
     def test_what_is_no_kotlin_class(self):
         status, out, said = sheet('read', self.put('Java.class', made_class.class_file(None)))
         self.assertEqual((status, out), (1, ''))
@@ -329,9 +354,18 @@ class Paths(InFolder):
         controller, terminal = pty.openpty()
         subprocess.run([SHEET, 'read', 'examples'], cwd=ROOT, stdout=subprocess.DEVNULL, stderr=terminal)
         os.close(terminal)
-        self.assertIn(b' of 13 classes, examples/', os.read(controller, 65536))
+        self.assertIn(f' of {len(NAMES)} classes, examples/'.encode(), os.read(controller, 65536))
         os.close(controller)
         self.assertNotIn('classes,', sheet('read', 'examples')[2])
+
+    def test_results_and_progress_on_one_terminal(self):
+        controller, terminal = pty.openpty()
+        subprocess.run([SHEET, 'read', '--line', 'examples/Line.class', 'examples/Reason.class'], cwd=ROOT, stdout=terminal, stderr=terminal)
+        os.close(terminal)
+        told = os.read(controller, 65536).decode().replace('\r\n', '\n')
+        os.close(controller)
+        self.assertIn('\r\x1b[K' + example('Line', '.line').decode(), told)
+        self.assertIn('classes, examples/Line.class', told)
 
 
 class Statuses(InFolder):
@@ -363,7 +397,11 @@ class Statuses(InFolder):
         status, out, said = sheet('check', 'examples/TillKt.class', 'examples/Sale.class')
         self.assertEqual((status, out), (3, 'examples/TillKt.class: fun kotlin.collections.Iterable<(type parameter)>.cents(of: kotlin.Function1<'
                                          '(type parameter), kotlin.Long>)  default cents(Ljava/lang/Iterable;Lkotlin/Function1;)J [not in the class]\n'))
-        self.assertIn('1 findings among 12 targets; functions without a target: 1', said)
+        self.assertEqual(said.splitlines()[1:], [
+            'sheet: functions and constructors by default: 4, of which 1 not in the class, 0 shared, 0 perhaps of another',
+            'sheet: functions and constructors by signature: 2, of which 0 not in the class, 0 shared, 0 perhaps of another',
+            'sheet: functions and constructors without a target: 1',
+            'sheet: fields, getters and setters by signature: 6, of which 0 not in the class, 0 shared, 0 perhaps of another'])
 
     def test_output_that_cannot_be_written(self):
         for words in (['read', 'examples'], ['read', '--json', 'examples'], ['check', 'examples'], ['--help']):

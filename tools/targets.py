@@ -19,18 +19,20 @@ Members = collections.namedtuple('Members', 'methods fields')
 #   by           'signature', 'default' (the name, or <init>, and the default descriptor), or None where the sheet tells no method
 #   descriptor   None where `by` is None
 #   renamed      whether the compiler may have named the method otherwise, which a sheet doesn't tell of a target by default: the declaration
-#                has annotations, of which one may be @JvmName, or it is an internal member of a class
+#                has annotations, of which one may be @JvmName, is an internal member of a class, or a private function of a multi-file part
 Target = collections.namedtuple('Target', 'declaration part by name descriptor renamed')
 
 # what the class says of a target
 #   there        the class has that method or field
 #   shared       the other targets of the sheet that are the same method or field
 #   others       of a target that is there: targets that aren't, whose method this may be
-Judgement = collections.namedtuple('Judgement', 'target there shared others')
+#   link         whether to link it
+Judgement = collections.namedtuple('Judgement', 'target there shared others link')
 
-# bits of a declaration's flags (metadata.proto): 0 says that it has annotations, 1 to 3 are its visibility, of which 0 is internal
-ANNOTATED, VISIBILITY = 1, 7 << 1
-CLASS = 1
+# bits of a declaration's flags (metadata.proto): 0 says that it has annotations, 1 to 3 are its visibility
+ANNOTATED, VISIBILITY, INTERNAL, PRIVATE = 1, 7 << 1, 0 << 1, 1 << 1
+# metadata kind and visibility of functions that get a longer name
+LONGER = {(1, INTERNAL), (5, PRIVATE)}
 
 
 def text_of(constant):
@@ -54,7 +56,7 @@ def method_target(place, m, kind):
         return Target(place, 'method', 'signature', m['signature'], m['descriptor'], False)
     if m['record'] == 'constructor':
         return Target(place, 'method', 'default' if m['default'] is not None else None, '<init>', m['default'], False)
-    renamed = bool(m['flags'] & ANNOTATED) or kind == CLASS and not m['flags'] & VISIBILITY
+    renamed = bool(m['flags'] & ANNOTATED) or (kind, m['flags'] & VISIBILITY) in LONGER
     return Target(place, 'method', 'default' if m['default'] is not None else None, m['name'], m['default'], renamed)
 
 
@@ -75,13 +77,19 @@ def judge(found, members):
     same, lost = collections.defaultdict(list), collections.defaultdict(list)
     for t in found:
         same[is_field(t), t.name, t.descriptor].append(t)
-        if t.by == 'default' and t.renamed and not there(t, members) and not mangled(t, members):
+        if t.renamed and t.by and not there(t, members) and not lengthened(t, '$-', members):
             lost[t.descriptor].append(t)
 
+    def can_be_renamed(t):
+        return t.renamed or t.by == 'default' and lengthened(t, '-', members)
+
     def judgement(t):
-        shared = [other for other in same[is_field(t), t.name, t.descriptor] if other is not t] if t.by else []
-        others = lost[t.descriptor] if t.by == 'default' and t.renamed and there(t, members) else []
-        return Judgement(t, there(t, members), shared, others)
+        if t.by is None:
+            return Judgement(t, False, [], [], False)
+        shared = [other for other in same[is_field(t), t.name, t.descriptor] if other is not t]
+        others = lost[t.descriptor] if there(t, members) and can_be_renamed(t) else []
+        alone = not shared or not can_be_renamed(t) and all(map(can_be_renamed, shared))
+        return Judgement(t, there(t, members), shared, others, there(t, members) and alone and not others)
     return [judgement(t) for t in found]
 
 
@@ -93,9 +101,11 @@ def there(t, members):
     return (t.name, t.descriptor) in (members.fields if is_field(t) else members.methods)
 
 
-def mangled(t, members):
-    """Whether the class has the method under the name of an internal member: NAME$MODULE."""
-    return any(name.startswith(t.name + '$') and descriptor == t.descriptor for name, descriptor in members.methods)
+def lengthened(t, marks, members):
+    """Whether the class has a function's descriptor under its name, one of these marks, and more: NAME$MODULE of an internal member, NAME$PART
+    of a private function of a part, NAME-HASH of a function with a parameter of an inline class."""
+    longer = tuple(t.name + mark for mark in marks)
+    return any(name.startswith(longer) and descriptor == t.descriptor for name, descriptor in members.methods)
 
 
 def declared(m):
@@ -107,7 +117,7 @@ def declared(m):
 
 
 def words(judgement, head):
-    """What is to be said of a target, as a list of texts: empty if it can be linked."""
+    """What is to be said of a target, as a list of texts; empty if nothing stands against it."""
     t, said = judgement.target, []
     if t.by is None:
         said.append('no target')

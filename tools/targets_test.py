@@ -1,11 +1,15 @@
 #!/usr/bin/env python3
-"""targets.py on the examples, on class files that are cut short, and on sheets made here. The lines of the examples are the Rust's."""
-import os, sys, unittest
+"""targets.py and measure_links.py on the examples, on class files that are cut short, and on sheets made here. The lines of the examples are
+the Rust's."""
+import os, re, shutil, sys, unittest
 
 sys.dont_write_bytecode = True
-import class_input, sheet_text, targets
+import class_input, measure_links, sheet_text, targets
 
 EXAMPLES = os.path.join(os.path.dirname(os.path.abspath(__file__)), '..', 'examples')
+STDLIB = '/usr/share/java/kotlin-stdlib.jar'
+MANUAL = os.path.join(EXAMPLES, '..', 'docs', 'MANUAL.md')
+KOTLIN_THERE = bool(shutil.which('java')) and all(map(os.path.exists, measure_links.KOTLIN.split(':')))
 
 
 def example(name):
@@ -23,7 +27,7 @@ def complaints(name):
     return [(declared, words) for declared, words in said if words]
 
 
-PLAIN, ANNOTATED, INTERNAL = 6, 7, 0
+PLAIN, ANNOTATED, INTERNAL, PRIVATE = 6, 7, 0, 2
 
 
 def function(name, default, signature=None, descriptor=None, flags=PLAIN):
@@ -101,6 +105,7 @@ class Judgements(unittest.TestCase):
             ('fun kept(copy: kotlin.Cloneable)', lost),
             ('fun lines(sale: till.Sale)', lost),
             ('fun named(function: kotlin.reflect.KFunction1<till.Sale, till.Refund>)', lost),
+            ('fun paid(cents: till.Cents?)', lost),
             ('fun price(article: kotlin.collections.Map.Entry<kotlin.String, kotlin.Long>)', lost),
             ('fun refund(numbers: kotlin.collections.List<kotlin.Int>)',
              ['may be the method of fun refundSale(articles: kotlin.collections.List<kotlin.String>)']),
@@ -113,6 +118,7 @@ class Judgements(unittest.TestCase):
         self.assertEqual(complaints('Stock'), [('fun find(article: kotlin.String)', lost)])
         self.assertEqual(complaints('Priced'), [('constructor(cents: kotlin.Long)', lost)])
         self.assertEqual(complaints('Drawer$Coin'), [])
+        self.assertEqual(complaints('Cents'), [])
 
     def test_shared(self):
         self.assertEqual(said(2, [function('f', '()V'), function('g', '()I', 'f', '()V'), function('f', '()I')], [('f', '()V')]),
@@ -129,15 +135,119 @@ class Judgements(unittest.TestCase):
         self.assertEqual(said(1, [function('f', '()V', flags=INTERNAL), g], [('f', '()V')]), [['may be the method of fun g()'], lost])
         self.assertEqual(said(2, [function('f', '()V', flags=INTERNAL), g], [('f', '()V')]), [[], lost])
 
-    def test_an_internal_member_under_its_long_name_takes_no_other(self):
-        f, g = function('f', '()V', flags=ANNOTATED), function('g', '()V', flags=INTERNAL)
-        self.assertEqual(said(1, [f, g], [('f', '()V'), ('g$main', '()V')]), [[], ['not in the class']])
+        self.assertEqual(said(5, [function('f', '()V', flags=PRIVATE), g], [('f', '()V')]), [['may be the method of fun g()'], lost])
+        self.assertEqual(said(2, [function('f', '()V', flags=PRIVATE), g], [('f', '()V')]), [[], lost])
+
+    def test_a_parameter_of_an_inline_class(self):
+        """f is f-hash on the JVM, and g is f."""
+        methods = [('f', '(LC;)V'), ('f-hash', '(LC;)V')]
+        self.assertEqual(said(2, [function('f', '(LC;)V'), function('g', '(LC;)V', flags=ANNOTATED)], methods),
+                         [['may be the method of fun g()'], ['not in the class']])
+
+    def test_a_function_under_its_longer_name_takes_no_other(self):
+        f = function('f', '()V', flags=ANNOTATED)
+        for kind, flags in (1, INTERNAL), (5, PRIVATE):
+            self.assertEqual(said(kind, [f, function('g', '()V', flags=flags)], [('f', '()V'), ('g$main', '()V')]),
+                             [[], ['not in the class']])
+
+    def test_what_to_link(self):
+        def linked(declarations, methods):
+            judged = targets.judge(targets.targets({'kind': 2, 'of': declarations}), targets.Members(dict.fromkeys(methods, 1), {}))
+            return [j.link for j in judged]
+        plain, renamed, recorded = function('f', '()V'), function('f', '()V', flags=ANNOTATED), function('g', '()V', 'f', '()V', ANNOTATED)
+        self.assertEqual(linked([plain], [('f', '()V')]), [True])
+        self.assertEqual(linked([plain], [('f', '()I')]), [False])
+        self.assertEqual(linked([function('f', None)], [('f', '()V')]), [False])
+        self.assertEqual(linked([plain, renamed, renamed], [('f', '()V')]), [True, False, False])
+        self.assertEqual(linked([recorded, renamed], [('f', '()V')]), [True, False])
+        self.assertEqual(linked([plain, plain], [('f', '()V')]), [False, False])
+        self.assertEqual(linked([renamed, renamed], [('f', '()V')]), [False, False])
+        self.assertEqual(linked([plain, renamed], []), [False, False])
+        self.assertEqual(linked([renamed, function('h', '()V', flags=ANNOTATED)], [('f', '()V')]), [False, False])
 
     def test_a_field_is_no_method(self):
         p = {'record': 'property', 'name': 'p', 'receiver': 0, 'field': 'p', 'field descriptor': 'I',
              'getter': 'p', 'getter descriptor': 'I', 'setter': None, 'setter descriptor': None}
         judged = targets.judge(targets.targets({'kind': 1, 'of': [p]}), targets.Members({}, {('p', 'I'): 2}))
         self.assertEqual([(j.target.part, j.there, j.shared) for j in judged], [('field', True, []), ('getter', False, [])])
+
+
+# the methods of functions and constructors of the examples whose sheets say another or none, by `javap -p -s`, and the kind of departure;
+# where the class has none, what Kotlin's reader gives
+DEPARTURES = {
+    'LinkingKt': {
+        'count': ('count', '(Ltill/Drawer$Coin;)I', measure_links.NESTED),
+        'each': ('each', '(Ltill/Sale;Lkotlin/jvm/functions/Function1;)V', measure_links.FUNCTION),
+        'kept': ('kept', '(Ljava/lang/Cloneable;)Z', measure_links.BUILT_IN),
+        'lines': ('lines', '(Ltill/Sale;)Ljava/util/Iterator;', measure_links.COLLECTION),
+        'named': ('named', '(Lkotlin/reflect/KFunction;)Ljava/lang/String;', measure_links.REFERENCE),
+        'paid': ('paid-2nxs4XI', '(Ltill/Cents;)Z', measure_links.INLINE),
+        'price': ('price', '(Ljava/util/Map$Entry;)J', measure_links.COLLECTION),
+        'refund': ('refundAll', '(Ljava/util/List;)I', measure_links.JVM_NAME),
+        'refundSale': ('refund', '(Ljava/util/List;)I', measure_links.JVM_NAME),
+        'cents': ('cents', '(Lkotlin/jvm/internal/IntCompanionObject;)I', measure_links.COMPANION)},
+    'Drawer': {'open': ('open$main', '()Z', measure_links.INTERNAL)},
+    'Sale': {'void': ('void', '()Ljava/lang/Void;', measure_links.NOTHING)},
+    'Stock': {'find': ('find', '(Ljava/lang/String;)I', measure_links.INTERFACE)},
+    'Priced': {'<init>': ('<init>', '(J)V', measure_links.ANNOTATION)},
+}
+
+
+class Kinds(unittest.TestCase):
+    def test_departures_of_the_examples(self):
+        for name, expected in DEPARTURES.items():
+            head, data = example(name)
+            members = targets.class_members(data)
+            judged = {j.target.name: j for j in targets.judge(targets.targets(head), members)}
+            for declared, (method, descriptor, kind) in expected.items():
+                self.assertEqual(measure_links.departures(head, judged[declared], (method, descriptor), members), [kind])
+
+    @unittest.skipUnless(KOTLIN_THERE, 'no Java or no Kotlin')
+    def test_what_kotlin_reads_of_the_examples(self):
+        found = [example(name) for name in DEPARTURES]
+        told = measure_links.kotlin_targets([class_input.of_class(data) for _, data in found])
+        for (head, _), kotlins, expected in zip(found, told, DEPARTURES.values()):
+            self.assertEqual(len(kotlins), len(head['of']))
+            for m, rows in zip(head['of'], kotlins):
+                name = m.get('name', '<init>')
+                if name in expected and not m['signature']:
+                    self.assertEqual(rows, [expected[name][:2]])
+
+    def test_names_that_get_longer(self):
+        m = {'name': 'f', 'flags': PRIVATE}
+        self.assertEqual(measure_links.name_kind({'kind': 5}, m, 'f$FilesKt__FileKt'), measure_links.PART)
+        self.assertEqual(measure_links.name_kind({'kind': 2}, m, 'f$FilesKt__FileKt'), measure_links.JVM_NAME)
+        self.assertEqual(measure_links.name_kind({'kind': 5}, m, 'g'), measure_links.JVM_NAME)
+        self.assertEqual(measure_links.name_kind({'kind': 2}, m, 'f-2nxs4XI'), measure_links.INLINE)
+
+    def test_relocated_packages(self):
+        t = targets.Target(0, 'method', 'signature', 'f', '(La/b/C;I)La/D;', False)
+        members = targets.Members({('f', '(Lx/a/b/C;I)Lx/a/D;'): 1}, {})
+        head = {'kind': 1, 'flags': PLAIN, 'of': [function('f', None)]}
+        self.assertEqual(measure_links.absent_kind(head, head['of'][0], t, members), measure_links.RELOCATED)
+        self.assertEqual(measure_links.absent_kind(head, head['of'][0], t, targets.Members({}, {})), measure_links.OTHER)
+
+
+class Figures(unittest.TestCase):
+    """What MANUAL says of the standard library, measured again where the library that it speaks of and the program are there."""
+
+    @unittest.skipUnless(KOTLIN_THERE and os.path.realpath(STDLIB).endswith('-1.3.31.jar') and os.path.exists(measure_links.PROGRAM),
+                         'no Java, no Kotlin 1.3.31 or no program')
+    def test_the_standard_library(self):
+        count = measure_links.measured(STDLIB, set()).of
+        with open(MANUAL, encoding='utf-8') as f:
+            rows = [[cell.strip() for cell in line.strip()[1:-1].split('|')] for line in f if line.startswith('|')]
+        start = rows.index(['', 'kotlin-stdlib', 'kotlinx-coroutines-core', 'gradle-kotlin-dsl', 'kotlin-reflect', 'kotlin-compiler', 'all'])
+        keys = ('classes', 'declarations', 'signature', ('signature', 'absent'), 'default', ('default', 'absent'), 'none',
+                'shared', ('shared', 'there'), 'wrong')
+        self.assertEqual([int(row[1].replace(',', '')) for row in rows[start + 2:start + 2 + len(keys)]], [count[key] for key in keys])
+        start = rows.index(['declared', "the sheet's target", 'in the class', 'found'])
+        M = measure_links
+        kinds = (M.FUNCTION, M.NESTED, M.COLLECTION, M.BUILT_IN, M.COMPANION, M.REFERENCE, M.NOTHING, M.INTERNAL, M.PART, M.INLINE, M.JVM_NAME,
+                 M.ANNOTATION, M.INTERFACE, M.UNNAMED, M.RELOCATED, M.UNIT)
+        found = [re.search(r'\((\d+)\)|^0$', row[-1]) for row in rows[start + 2:start + 2 + len(kinds)]]
+        self.assertEqual([int(f[1] or 0) for f in found], [count[kind] for kind in kinds])
+        self.assertEqual(count[M.OTHER], 0)
 
 
 if __name__ == '__main__':

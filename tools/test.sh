@@ -1,6 +1,7 @@
 #!/usr/bin/env bash
-# class_input.py on the examples: the inputs' hashes are those that are noted. What sheet_text.py refuses. ./sheet (sheet_test.py).
-# targets.py on the examples. crate_uses.py on a repository of two crates.
+# class_input.py on the examples: the inputs' hashes are those that are noted. What sheet_text.py refuses. ./sheet: examples, jars, refusals, exit
+# statuses (sheet_test.py), on a fresh copy (build_test.py), on damaged classes (mutation_test.py).
+# targets.py and measure_links.py on the examples. crate_uses.py on a repository of two crates.
 # That MANUAL, the header and the tools have the definitions' tables; that README names the files to believe, README and
 # NOTICE every crate; the page of check times. The tools for proofs, and that each proof is what its template gives.
 set -eu
@@ -55,8 +56,9 @@ refused 'cut short' say '0 0 0102ffffffff -'
 refused 'no count announced' say '0 0 0102ffffffff060000000000000000000000000007ffffffff -'
 refused 'was announced' say '0 0 0102ffffffff0600000000000000000001000000 -'
 
-# targets.py: what declarations link to
-python3 -B tools/targets_test.py 2> "$here/out" || { cat "$here/out"; failed=1; }
+# targets.py and measure_links.py: what declarations link to, and the figures of MANUAL
+python3 -B tools/targets_test.py -v 2> "$here/out" || { cat "$here/out"; failed=1; }
+sed -n "s/^\(test[a-z_]*\) .*skipped '\(.*\)'$/tools: \1 skipped, \2/p" "$here/out"
 
 # crate_uses.py: a crate above another, named by its code, by a proof, or in comments alone
 uses=$here/uses
@@ -85,8 +87,11 @@ printf 'low:\nhigh: low io # nothing\n' > "$here/expected"
 same 'crate_uses --write' "$here/expected" "$uses/crates.txt"
 
 # ./sheet, where its library is there or can be built; the program itself, where it is built
-if command -v rt > "$here/out" || [ -e target/unproved/libsheet_calls.so ]; then
-    python3 -B tools/sheet_test.py 2> "$here/out" || { cat "$here/out"; failed=1; }
+if command -v rt > "$here/out"; then
+    for test in sheet_test build_test 'mutation_test 1000'; do
+        # shellcheck disable=SC2086
+        python3 -B tools/${test/_test/_test.py} > "$here/out" 2>&1 || { cat "$here/out"; failed=1; }
+    done
 else
     echo 'tools: ./sheet skipped, no rt to build its library'
 fi

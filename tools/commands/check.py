@@ -8,6 +8,8 @@ declaration. Functions of which the sheet tells no method are counted in the sum
 
 Exit status: 0 nothing was found; 3 something was; 1 a class was refused or is damaged, or a file named by itself has no Kotlin metadata;
 2 usage; 4 a file can't be read, the output can't be written, or the library can't be built. Of several the first of 4, 1, 3."""
+import collections
+
 import output, runs, sheet_json, targets
 from commands.read import InJson, InText
 from sheet_text import shown
@@ -23,21 +25,28 @@ def findings(one):
 
 
 class Tally:
-    """What was found, counted."""
+    """What was found, counted: for (whether of a property, by) how many targets there are, aren't in the class, are shared, may be another's."""
 
     def __init__(self):
-        self.targets, self.found, self.no_target = 0, 0, 0
+        self.found, self.counts = 0, collections.defaultdict(lambda: [0, 0, 0, 0])
 
     def take(self, one):
+        for j in one.judgements:
+            count = self.counts[j.target.part != 'method', j.target.by]
+            for at, holds in enumerate([True, not j.there, bool(j.shared), bool(j.others)]):
+                count[at] += holds
         found = findings(one)
-        told = sum(j.target.by is not None for j in one.judgements)
-        self.targets += told
-        self.no_target += len(one.judgements) - told
         self.found += len(found)
         return found
 
-    def text(self):
-        return f'{self.found} findings among {self.targets} targets; functions without a target: {self.no_target}'
+    def lines(self):
+        """The counts in words."""
+        for (of_property, by), (there, missing, shared, others) in sorted(self.counts.items(), key=str):
+            what = 'fields, getters and setters' if of_property else 'functions and constructors'
+            if by is None:
+                yield f'{what} without a target: {there}'
+            else:
+                yield f'{what} by {by}: {there}, of which {missing} not in the class, {shared} shared, {others} perhaps of another'
 
 
 class FindingsInText(InText):
@@ -68,6 +77,6 @@ def run(options, files, command):
     tally = Tally()
     this = runs.Run(FindingsInJson(tally) if '--json' in options else FindingsInText(tally), command)
     this.over(files)
-    if tally.targets or tally.no_target:
-        output.say(tally.text())
+    for line in tally.lines():
+        output.say(line)
     return this.status() or (runs.FOUND if tally.found else runs.OK)
