@@ -364,6 +364,7 @@ class Paths(InFolder):
         os.close(terminal)
         told = os.read(controller, 65536).decode().replace('\r\n', '\n')
         os.close(controller)
+        told = re.sub('(\x1b\\[K)sheet: the reader is built WITHOUT PROOF.*\n', r'\1', told)  # said in front of the first result, if it is so
         self.assertIn('\r\x1b[K' + example('Line', '.line').decode(), told)
         self.assertIn('classes, examples/Line.class', told)
 
