@@ -252,12 +252,6 @@ class ClassFile:
         raise NoMetadata()
 
 
-def opened(class_file):
-    """The bytes of a class file from its attributes on, its constant pool, its fields and its methods."""
-    c = class_file if isinstance(class_file, ClassFile) else ClassFile(class_file)
-    return Bytes(c.rest), c.pool, c.fields, c.methods
-
-
 def program_input(m):
     """k and mv as four signed numbers, d1 and d2 as units with their count in front, the ends of d2's strings with theirs."""
     return b''.join([

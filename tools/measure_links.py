@@ -6,15 +6,14 @@ the Kotlin compiler's own reader gives (KotlinTargets.java). Printed are, for ea
 link by signature and by default, how many of these name no method of the class, share a method, or name another declaration's; then the
 kinds of departure; then properties. A class file that is in several jars counts in the first. With --examples N declarations of each kind.
 
-It needs the program (target/bin/sheet_reader, or another named by SHEET_READER), a JDK of version 16 or above, and Debian's package
-kotlin (or KOTLIN_JARS: a class path that holds kotlin-compiler.jar and kotlin-stdlib.jar)."""
+It reads by the library, as ./sheet does. It needs a JDK of version 16 or above and Debian's package kotlin (or KOTLIN_JARS: a class path
+that holds kotlin-compiler.jar and kotlin-stdlib.jar)."""
 import collections, os, re, struct, subprocess, sys, zipfile
 
 sys.dont_write_bytecode = True
-import class_input, sheet_text, targets
+import class_input, library, library_build, sheets, targets
 
 HERE = os.path.dirname(os.path.abspath(__file__))
-PROGRAM = os.environ.get('SHEET_READER', os.path.join(HERE, '..', 'target', 'bin', 'sheet_reader'))
 KOTLIN = os.environ.get('KOTLIN_JARS', '/usr/share/java/kotlin-compiler.jar:/usr/share/java/kotlin-stdlib.jar')
 
 # kinds of departure, in the order in which they are printed
@@ -44,21 +43,23 @@ CLASS_KIND = {1: 'interface', 4: 'annotation'}
 
 
 def classes(path, seen):
-    """Name, class file and input of each class that carries metadata and isn't among those seen, which it then is."""
+    """Name, class file and metadata of each class that carries metadata and isn't among those seen, which it then is."""
     with zipfile.ZipFile(path) as jar:
         for name in jar.namelist():
             data = jar.read(name) if name.endswith('.class') else None
             if data is None or data in seen:
                 continue
             try:
-                yield name, data, class_input.of_class(data)
+                class_file = class_input.ClassFile(data)
+                yield name, class_file, class_file.metadata()
                 seen.add(data)
             except class_input.NoMetadata:
                 pass
 
 
-def kotlin_targets(inputs):
-    """For each input what Kotlin's reader links its declarations to, by rows of names and descriptors, or None if it doesn't read it."""
+def kotlin_targets(all_metadata):
+    """For each class what Kotlin's reader links its declarations to, by rows of names and descriptors, or None if it doesn't read it."""
+    inputs = map(class_input.program_input, all_metadata)
     batch = b''.join(struct.pack('<I', len(data)) + data for data in inputs)
     java = ['java', '-cp', KOTLIN, os.path.join(HERE, 'KotlinTargets.java')]
     told = []
@@ -69,14 +70,6 @@ def kotlin_targets(inputs):
             cells = [None if cell == '-' else cell for cell in line.split('\t')]
             told[-1].append(list(zip(cells[::2], cells[1::2])))
     return told
-
-
-def sheet_of(data):
-    """The sheet that the program gives for an input, or the number of its refusal."""
-    line = subprocess.run([PROGRAM], input=data, stdout=subprocess.PIPE, check=True).stdout.decode().split()
-    if line[0] != '0':
-        return int(line[0])
-    return sheet_text.Walk(*(b'' if word == '-' else bytes.fromhex(word) for word in line[2:])).sheet()
 
 
 def parts(descriptor):
@@ -185,15 +178,15 @@ class Count:
         self.of[j.target.part] += 1
         self.of[j.target.part, 'absent'] += not j.there
 
-    def class_file(self, name, data, given, kotlins):
+    def class_file(self, name, class_file, answer, kotlins):
         self.of['classes'] += 1
-        head = sheet_of(given)
-        if isinstance(head, int) or kotlins is None:
-            self.of['refused' if isinstance(head, int) else 'unread'] += 1
+        if answer.number or kotlins is None:
+            self.of['refused' if answer.number else 'unread'] += 1
             return
+        head = sheets.Walk(answer.sheet, answer.text).sheet()
         if len(kotlins) != len(head['of']):
             raise SystemExit(f"measure_links: {name} has {len(head['of'])} declarations on its sheet and {len(kotlins)} for Kotlin")
-        members = targets.class_members(data)
+        members = targets.class_members(class_file)
         for j in targets.judge(targets.targets(head), members):
             if j.target.part == 'method':
                 self.method(name, head, j, kotlins[j.target.declaration][0], members)
@@ -207,11 +200,15 @@ class Count:
                 self.of['bare'] += all(m[part] is None for part in ('field', 'getter', 'setter'))
 
 
-def measured(path, seen):
+def measured(path, reader, seen):
     found, count = list(classes(path, seen)), Count()
-    for (name, data, given), kotlins in zip(found, kotlin_targets([given for _, _, given in found])):
-        count.class_file(name, data, given, kotlins)
+    for (name, class_file, metadata), kotlins in zip(found, kotlin_targets([metadata for _, _, metadata in found])):
+        count.class_file(name, class_file, reader.read(metadata), kotlins)
     return count
+
+
+def reader_library():
+    return library.opened(lambda words: print(f'measure_links: {words}', file=sys.stderr), './sheet')
 
 
 ROWS = (('classes with metadata', 'classes'), ('  refused by the reader', 'refused'), ("  not read by Kotlin's reader", 'unread'),
@@ -238,9 +235,9 @@ def main(args):
         shown, args = int(args[1]), args[2:]
     if not args or any(path.startswith('-') for path in args):
         sys.exit(__doc__)
-    counts, total, seen = {}, Count(), set()
+    reader, counts, total, seen = reader_library(), {}, Count(), set()
     for path in args:
-        counts[os.path.basename(path)] = measured(path, seen)
+        counts[os.path.basename(path)] = measured(path, reader, seen)
     for count in counts.values():
         total.add(count)
     if len(counts) > 1:
@@ -258,5 +255,5 @@ def main(args):
 if __name__ == '__main__':
     try:
         main(sys.argv[1:])
-    except (OSError, zipfile.BadZipFile, class_input.Damaged, subprocess.CalledProcessError) as why:
+    except (OSError, zipfile.BadZipFile, class_input.Damaged, library_build.BuildFailed, subprocess.CalledProcessError) as why:
         sys.exit(f'measure_links: {why}')

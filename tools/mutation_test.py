@@ -4,8 +4,9 @@
 Damaged class files in every form of ./sheet: COUNT copies of the examples and of made classes (annotations nested in one another, elements of
 kotlin.Metadata of wrong kinds, types nested in one another), changed in some places of the file, of bytes alone, or of what the annotation
 holds; then a tenth as many damaged jars.
-A fault is an exception that the tool doesn't expect, or JSON that doesn't keep to the schema. The same seed gives the same run. At the end stands
-what came of them; the exit status is 1 if there was a fault, with the class in a file that is named."""
+A fault is an exception that the tool doesn't expect, JSON that doesn't keep to the schema, or a character in the output that doesn't print. The
+same seed gives the same run. At the end stands what came of them; the exit status is 1 if there was a fault, with the class in a file that is
+named."""
 import io, json, os, random, sys, tempfile, time, traceback, zipfile
 
 sys.dont_write_bytecode = True
@@ -183,10 +184,15 @@ def over_jars(count, chance):
     return faults
 
 
+def held(text):
+    """In place of writing to the output, and of messages."""
+    if not all(line.isprintable() for line in text.split('\n')):
+        raise AssertionError(f'this does not print: {text!r}')
+
+
 def main(words):
-    count, seed = [*map(int, words), 2000, 1][0], [*map(int, words[1:]), 1][0]
-    written, said, began = [], [], time.monotonic()
-    output.write, output.to_stderr = (lambda text: written.append(len(text))), (lambda text: said.append(len(text)))
+    count, seed = [*map(int, words), 2000][0], [*map(int, words[1:]), 1][0]
+    began, output.write, output.to_stderr = time.monotonic(), held, held
     all_forms = forms()
     faults = over_classes(all_forms, count, random.Random(seed))
     in_jars = over_jars(count // 10, random.Random(seed + 1))

@@ -454,6 +454,14 @@ class Words(unittest.TestCase):
             6: 'public final val', 0x106: 'public final var', 0x806: 'public final const val', 0x1106: 'public final lateinit var',
             0x4006: 'public final external val', 0x8006: 'public final delegated val', 0x10006: 'public final expect val', 0x2606: 'public final val'})
 
+    def test_the_manual_has_the_same_bits(self):
+        with open(os.path.join(ROOT, 'docs', 'MANUAL.md'), encoding='utf-8') as f:
+            rows = re.findall(r'^\| (\d+) \| ([\w ]*?) ?\| ([\w ]*?) ?\| ([\w ]*?) ?\| ([\w ]*?) ?\|$', f.read(), re.M)
+        tables = [flag_words.CLASS_BITS, flag_words.CONSTRUCTOR_BITS, flag_words.FUNCTION_BITS, [*flag_words.PROPERTY_BITS, (8, 'var')]]
+        told = [[(int(row[0]), row[at]) for row in rows if row[at] and not row[at].startswith('has ')] for at in range(1, 5)]
+        told[1].append((4, 'secondary'))
+        self.assertEqual(told, [sorted(table) for table in tables])
+
     def words(self, record, table):
         for flags, words in table.items():
             self.assertEqual(' '.join(flag_words.words(record, flags)), words, (record, flags))

@@ -1,12 +1,13 @@
 """Which methods and fields the declarations of a sheet link to, and whether the class has them.
 
-    head = sheet_text.Walk(sheet, text).sheet()         the sheet, as sheet_text.py reads it
-    for j in targets.judge(targets.targets(head), targets.class_members(class_file)):
+    head = sheets.Walk(sheet, text).sheet()
+    members = targets.class_members(class_input.ClassFile(data))
+    for j in targets.judge(targets.targets(head), members):
         print(targets.declared(head['of'][j.target.declaration]), j.target.name, j.target.descriptor, targets.words(j, head))
 
 What a sheet says of a method may differ from what the Kotlin compiler wrote (docs/MANUAL.md, "How to link"). So a target is looked up in the
 class file's own tables (JVMS 4.5, 4.6) before it is linked."""
-import collections, struct
+import collections
 
 import class_input, sheet_text
 
@@ -35,19 +36,14 @@ ANNOTATED, VISIBILITY, INTERNAL, PRIVATE = 1, 7 << 1, 0 << 1, 1 << 1
 LONGER = {(1, INTERNAL), (5, PRIVATE)}
 
 
-def text_of(constant):
-    """A constant's text as the sheet has it: a lone surrogate is U+FFFD."""
-    units = class_input.modified_utf8(constant)
-    return struct.pack(f'<{len(units)}H', *units).decode('utf-16-le', 'replace')
-
-
-def class_members(data):
-    """The methods and fields of a class file; class_input.Damaged if it can't be read."""
-    _, pool, fields, methods = class_input.opened(data)
+def class_members(class_file):
+    """The methods and fields of a class_input.ClassFile; class_input.Damaged if one has no name or descriptor."""
+    def text(place):
+        return class_input.text_of(class_input.constant(class_file.pool, place, bytes))
 
     def named(members):
-        return {tuple(text_of(class_input.constant(pool, at, bytes)) for at in places): access for access, *places in members}
-    return Members(named(methods), named(fields))
+        return {(text(name), text(descriptor)): access for access, name, descriptor in members}
+    return Members(named(class_file.methods), named(class_file.fields))
 
 
 def method_target(place, m, kind):
@@ -110,10 +106,11 @@ def lengthened(t, marks, members):
 
 def declared(m):
     """A declaration in words, without its flags and targets."""
-    if m['record'] == 'property':
-        return f"property {sheet_text.receiver_text(m)}{sheet_text.shown(m['name'])}"
-    parameters = '(' + ', '.join(map(sheet_text.parameter_text, m['of'])) + ')'
-    return 'constructor' + parameters if m['record'] == 'constructor' else f"fun {sheet_text.receiver_text(m)}{sheet_text.shown(m['name'])}{parameters}"
+    parameters = '(' + ', '.join(map(sheet_text.parameter_text, m.get('of', []))) + ')'
+    if m['record'] == 'constructor':
+        return 'constructor' + parameters
+    name = sheet_text.receiver_text(m) + sheet_text.shown(m['name'])
+    return f'property {name}' if m['record'] == 'property' else f'fun {name}{parameters}'
 
 
 def words(judgement, head):

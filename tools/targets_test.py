@@ -4,7 +4,7 @@ the Rust's."""
 import os, re, shutil, sys, unittest
 
 sys.dont_write_bytecode = True
-import class_input, measure_links, sheet_text, targets
+import class_input, measure_links, sheets, targets
 
 EXAMPLES = os.path.join(os.path.dirname(os.path.abspath(__file__)), '..', 'examples')
 STDLIB = '/usr/share/java/kotlin-stdlib.jar'
@@ -16,14 +16,18 @@ def example(name):
     with open(os.path.join(EXAMPLES, name + '.line'), encoding='ascii') as f:
         sheet, text = (b'' if w == '-' else bytes.fromhex(w) for w in f.read().split()[2:])
     with open(os.path.join(EXAMPLES, name + '.class'), 'rb') as f:
-        return sheet_text.Walk(sheet, text).sheet(), f.read()
+        return sheets.Walk(sheet, text).sheet(), f.read()
+
+
+def members_of(data):
+    return targets.class_members(class_input.ClassFile(data))
 
 
 def complaints(name):
     """Each declaration of an example of which something is said, and what."""
     head, data = example(name)
     said = [(targets.declared(head['of'][j.target.declaration]), targets.words(j, head))
-            for j in targets.judge(targets.targets(head), targets.class_members(data))]
+            for j in targets.judge(targets.targets(head), members_of(data))]
     return [(declared, words) for declared, words in said if words]
 
 
@@ -31,7 +35,7 @@ PLAIN, ANNOTATED, INTERNAL, PRIVATE = 6, 7, 0, 2
 
 
 def function(name, default, signature=None, descriptor=None, flags=PLAIN):
-    """A function as sheet_text.Walk gives it."""
+    """A function as sheets.Walk gives it."""
     return {'record': 'function', 'name': name, 'flags': flags, 'receiver': 0, 'of': [],
             'signature': signature, 'descriptor': descriptor, 'default': default}
 
@@ -47,13 +51,13 @@ class Members(unittest.TestCase):
     def test_tables_are_those_that_javap_prints(self):
         """Name, descriptor and access of every method and field of TillKt and Reason, from `javap -p -v`."""
         _, data = example('TillKt')
-        self.assertEqual(targets.class_members(data), targets.Members({
+        self.assertEqual(members_of(data), targets.Members({
             ('refund', '(Ltill/Sale;JLtill/Reason;)Ltill/Refund;'): 0x0019,
             ('refund$default', '(Ltill/Sale;JLtill/Reason;ILjava/lang/Object;)Ltill/Refund;'): 0x1009,
             ('cents', '(Ljava/lang/Iterable;Lkotlin/jvm/functions/Function1;)J'): 0x0019,
             ('isEmpty', '(Ltill/Sale;)Z'): 0x0019}, {}))
         _, data = example('Reason')
-        self.assertEqual(targets.class_members(data).fields, {
+        self.assertEqual(members_of(data).fields, {
             ('DAMAGED', 'Ltill/Reason;'): 0x4019, ('UNWANTED', 'Ltill/Reason;'): 0x4019, ('$VALUES', '[Ltill/Reason;'): 0x101a})
 
     def test_a_file_that_ends_early_is_damaged(self):
@@ -61,11 +65,11 @@ class Members(unittest.TestCase):
         methods = data.index(b'RuntimeVisibleAnnotations')
         for size in range(0, methods, 7):
             with self.assertRaises(class_input.Damaged):
-                targets.class_members(data[:size])
+                members_of(data[:size])
 
     def test_text_of_a_constant(self):
-        self.assertEqual(targets.text_of(b'\xc0\x80a\xed\xa0\xbd\xed\xb8\x80'), '\0a\U0001f600')
-        self.assertEqual(targets.text_of(b'\xed\xa0\xbdx'), '\ufffdx')
+        self.assertEqual(class_input.text_of(b'\xc0\x80a\xed\xa0\xbd\xed\xb8\x80'), '\0a\U0001f600')
+        self.assertEqual(class_input.text_of(b'\xed\xa0\xbdx'), '\ufffdx')
 
 
 class Targets(unittest.TestCase):
@@ -197,7 +201,7 @@ class Kinds(unittest.TestCase):
     def test_departures_of_the_examples(self):
         for name, expected in DEPARTURES.items():
             head, data = example(name)
-            members = targets.class_members(data)
+            members = members_of(data)
             judged = {j.target.name: j for j in targets.judge(targets.targets(head), members)}
             for declared, (method, descriptor, kind) in expected.items():
                 self.assertEqual(measure_links.departures(head, judged[declared], (method, descriptor), members), [kind])
@@ -205,7 +209,7 @@ class Kinds(unittest.TestCase):
     @unittest.skipUnless(KOTLIN_THERE, 'no Java or no Kotlin')
     def test_what_kotlin_reads_of_the_examples(self):
         found = [example(name) for name in DEPARTURES]
-        told = measure_links.kotlin_targets([class_input.of_class(data) for _, data in found])
+        told = measure_links.kotlin_targets([class_input.ClassFile(data).metadata() for _, data in found])
         for (head, _), kotlins, expected in zip(found, told, DEPARTURES.values()):
             self.assertEqual(len(kotlins), len(head['of']))
             for m, rows in zip(head['of'], kotlins):
@@ -229,12 +233,12 @@ class Kinds(unittest.TestCase):
 
 
 class Figures(unittest.TestCase):
-    """What MANUAL says of the standard library, measured again where the library that it speaks of and the program are there."""
+    """What MANUAL says of the standard library, measured again where the library that it speaks of is there."""
 
-    @unittest.skipUnless(KOTLIN_THERE and os.path.realpath(STDLIB).endswith('-1.3.31.jar') and os.path.exists(measure_links.PROGRAM),
-                         'no Java, no Kotlin 1.3.31 or no program')
+    @unittest.skipUnless(KOTLIN_THERE and os.path.realpath(STDLIB).endswith('-1.3.31.jar') and shutil.which('rt'),
+                         'no Java, no Kotlin 1.3.31 or no rt')
     def test_the_standard_library(self):
-        count = measure_links.measured(STDLIB, set()).of
+        count = measure_links.measured(STDLIB, measure_links.reader_library(), set()).of
         with open(MANUAL, encoding='utf-8') as f:
             rows = [[cell.strip() for cell in line.strip()[1:-1].split('|')] for line in f if line.startswith('|')]
         start = rows.index(['', 'kotlin-stdlib', 'kotlinx-coroutines-core', 'gradle-kotlin-dsl', 'kotlin-reflect', 'kotlin-compiler', 'all'])

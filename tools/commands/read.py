@@ -1,7 +1,7 @@
 """usage: sheet read [--json | --records | --line] FILE..
 
-Prints the call sheets of compiled Kotlin classes. FILE is a class file, a jar, a folder (all .class and .jar files in it and below), or one
-class of a jar as app.jar!/till/Sale.class.
+Prints the call sheets of compiled Kotlin classes. FILE is a class file, a jar or other zip file, a folder (all .class and .jar files in it and
+below), or one class of a jar as app.jar!/till/Sale.class. Jars inside a jar aren't opened.
 
 Without an option a sheet is in words, a declaration to a line: the declaration, its flags as a number, its recorded method (`signature`) and
 its default descriptor (`default`), or the field, getter and setter of a property. Beside a target stands what the class file says of it:
