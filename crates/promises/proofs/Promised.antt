@@ -96,5 +96,6 @@ promised sheet text i u z =
       records = rows;
       areRecords = back;
       typesCounted = types ∙ omega (arith, declarations-count (kindOf (i .k)) d, entered);
+      typesEntered = rw types (omega (arith, entered));
       textCut = rw (s, t, size) (refs-in-order WellFormed rows tabled formed (a .fitting .textShort));
     }

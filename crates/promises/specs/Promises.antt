@@ -3,7 +3,7 @@
 use mathlib.Core.Path.{_≡_}
 use mathlib.Core.List.{List}
 use mathlib.Core.Option.{some}
-use Prim.Native.Nat.{ℕ}
+use Prim.Native.Nat.{ℕ, _+_}
 use lib.ListN.{take}
 use Rattle.foundation.specs.Results.{ok}
 use Rattle.sheet.specs.Rows.{Row}
@@ -11,6 +11,7 @@ use Rattle.sheet.specs.Reading.{rowsOf}
 use Rattle.sheet.specs.Refs.{refsOf, CutInOrder}
 use Rattle.characters.specs.WellFormed.{WellFormed}
 use Rattle.declaration_rows.specs.Declarations.{Declarations}
+use Rattle.schema.specs.Reading.{allowance}
 use Rattle.schema.specs.Counting.{countKind}
 use Rattle.inputs.specs.Inputs.{Input, kindOf}
 use Rattle.inputs.specs.Outcomes.{Answer}
@@ -35,5 +36,7 @@ pub record Promised (i : Input) (a : Answer) : Type 0 where
   pub records : List Row
   pub areRecords : rowsOf (sheetBytes a) (textBytes a) ≡ some records
   pub typesCounted : a .types ≡ countKind 6 records
+  -- It is the number of types that the reading entered: together with those that it might still have entered they make the allowance of 2,048.
+  pub typesEntered : a .types + left ≡ allowance
   -- The refs on the sheet cut the whole text in order, each into well-formed UTF-8.
   pub textCut : CutInOrder WellFormed (textBytes a) 0 (a .textLength) (refsOf (sheetBytes a))
