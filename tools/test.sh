@@ -1,7 +1,7 @@
 #!/usr/bin/env bash
 # class_input.py and sheet_text.py on the examples: each sheet in words is examples/NAME.txt, and the inputs' hashes are those that are noted.
 # crate_uses.py on a repository of two crates.
-# The tools for proofs, and that each proof is what its template gives. That README and NOTICE name every crate.
+# The tools for proofs, and that each proof is what its template gives. That README and NOTICE name every crate, and the header the definitions' limits.
 set -eu
 cd "$(dirname "$0")/.."
 here=$(mktemp -d)
@@ -120,5 +120,18 @@ for crate in $(sed 's/#.*//; s/:.*//' crates.txt); do
     sed '/Apache License/,$d' NOTICE | grep -qw -- "$crate" || { echo "NOTICE doesn't name $crate"; failed=1; }
     grep -q -- "\`$crate\`" README.md || { echo "README's map doesn't name $crate"; failed=1; }
 done
+
+# the header's limits, of which the theorems speak
+while read -r constant name file; do
+    header=$(sed -n "s/^ *$constant = \([0-9]*\),*$/\1/p" include/sheet_reader.h)
+    definition=$(sed -n "s/^$name = \([0-9]*\)$/\1/p" "crates/$file")
+    [ "${header:-none}" = "$definition" ] || { echo "$constant: ${header:-none} in the header, $name is ${definition:-none}"; failed=1; }
+done <<'L'
+SHEET_UNIT_LIMIT unitLimit encoding/specs/Encoding.antt
+SHEET_STRING_LIMIT stringLimit inputs/specs/Inputs.antt
+SHEET_TYPE_LIMIT allowance schema/specs/Reading.antt
+SHEET_TEXT_LIMIT textLimit passes/specs/Answered.antt
+SHEET_LONGEST longestSheet promises/specs/Promises.antt
+L
 
 if [ "$failed" = 0 ]; then echo 'tools: ok'; else exit 1; fi
