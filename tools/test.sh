@@ -128,4 +128,17 @@ for crate in $(sed 's/#.*//; s/:.*//' crates.txt); do
     grep -q -- "\`$crate\`" README.md || { echo "README's map doesn't name $crate"; failed=1; }
 done
 
+# the header's limits, of which the theorems speak
+while read -r constant name file; do
+    header=$(sed -n "s/^ *$constant = \([0-9]*\),*$/\1/p" include/sheet_reader.h)
+    definition=$(sed -n "s/^$name = \([0-9]*\)$/\1/p" "crates/$file")
+    [ "${header:-none}" = "$definition" ] || { echo "$constant: ${header:-none} in the header, $name is ${definition:-none}"; failed=1; }
+done <<'L'
+SHEET_UNIT_LIMIT unitLimit encoding/specs/Encoding.antt
+SHEET_STRING_LIMIT stringLimit inputs/specs/Inputs.antt
+SHEET_TYPE_LIMIT allowance schema/specs/Reading.antt
+SHEET_TEXT_LIMIT textLimit passes/specs/Answered.antt
+SHEET_LONGEST longestSheet promises/specs/Promises.antt
+L
+
 if [ "$failed" = 0 ]; then echo 'tools: ok'; else exit 1; fi

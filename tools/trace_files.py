@@ -12,6 +12,7 @@ PAGE = 'docs/TRACE.md'
 DEFINED = r'^(?:(?:abbrev|unfoldable) )*pub (?!mod )(?:data |record )?([^\s:(){}]+)'
 CONSTRUCTORS = r'^  ((?:[^\s:(){}.=]+ )+): '
 CODE = r'^ *(?:pub )?(?:extern "C" )?(?:fn|struct|enum) (\w+)'
+CLAUSE = r'^ *ensures (\w+) \{'
 # words in backquotes that name nothing of the crates: of the Rust, of the kit, parameters
 OUTSIDE = {'default_jvm_signature', 'of', 'is_local', 'class_name', 'first', 'second', 'src', 'msg', 'base', 'set', 'sets', 'take', 'drop'}
 TESTS = ('tests', 'ruled out', 'must-fail', 'requires')
@@ -36,8 +37,11 @@ class Names:
                     self.parts[name].add(str(at))
             self.parts[path.stem].add(str(at))
         elif path.suffix == '.rt' and at.parts[1] == 'src':
-            for name in re.findall(CODE, path.read_text(encoding='utf-8'), re.M):
+            text = path.read_text(encoding='utf-8')
+            for name in re.findall(CODE, text, re.M):
                 self.files[name].add(str(at))
+            for name in re.findall(CLAUSE, text, re.M):
+                self.parts[name].add(str(at))
         elif path.suffix == '.edit':
             self.files[path.stem].add(str(at))
 
