@@ -9,7 +9,7 @@ use native.Mathlib.Nat.{zero-add}
 use native.Mathlib.Omega.{arith}
 use borrow.Rule.Slice.PartMut.{putMid, midOf, postOf, post-is, take-put, same-len-mid}
 use lib.Dec.{eqb}
-use lib.ListN.{length, take, drop, getD, length-take, length-drop}
+use lib.ListN.{length, take, drop, getD, length-append, length-take, length-drop}
 use lib.Seq.{length-take-le, drop-append-seam, drop-length, getD-take, getD-drop, take-take, take-append-seam}
 use Rattle.foundation.specs.Results as Results
 use Rattle.foundation.specs.Results.{Res, ok, refused, _from_, got}
@@ -205,7 +205,7 @@ module _ (bytes : List ℕ) (start end rest : ℕ) (o : start ≤ end) (i : end 
       opened-then d after l opened.NoRoom w s = λ room.
           let n = length-drop (3 * count) after in
           let c = count-few in
-          w .body (record { inside = k; short = room .short; long = omega (arith, room .long) })
+          w .body (record { inside = k; short = omega (arith, room .short); long = omega (arith, room .long) })
 
 pub payload-refused : (bytes notes : List ℕ) (x : parted.Split) → reader.SplitTold bytes (readDelimited (_from_ 0 bytes)) x
     → {error : WireError} → x ≡ parts.Refused error → OpenedTold bytes notes (opened.Refused error)
@@ -220,7 +220,7 @@ payload-parts bytes x t g =
     let w = subst (reader.SplitTold bytes (readDelimited (_from_ 0 bytes))) g t in
     (w .0, w .2, w .3, w .4)
 
-pub payload-too-long : (bytes notes : List ℕ) → 4294967295 < length bytes → OpenedTold bytes notes opened.NoRoom
+pub payload-too-long : (bytes notes : List ℕ) → 65535 < length bytes → OpenedTold bytes notes opened.NoRoom
 payload-too-long bytes notes h room = omega (arith, room .short)
 
 -- What is lent besides stands after the notes of both tables.
@@ -260,40 +260,46 @@ opened-longer bytes a b at tables e o = record {
 
 -- The tables' part opened, then codes and sizes noted after it.
 module _ (bytes d2 ends notes : List ℕ) (limit : ℕ) (c : limit ≡ codesFrom (length notes)) (part : List ℕ)
-    (l : length part ≡ length (midOf 0 limit notes)) (r : Opened) (t : OpenedTold bytes part r) where
-  opened-length : length part ≡ limit
-  opened-length = let i = codes-inside (length notes) c in l ∙ rw length-take (omega arith)
+    (l : length part ≡ length (take limit notes)) (r : Opened) (t : OpenedTold bytes part r) where
+  -- with the part opened
+  abbrev all : List ℕ
+  all = part ++ drop limit notes
+
+  limit-inside : limit ≤ length notes
+  limit-inside = codes-inside (length notes) c
+
+  part-length : length part ≡ limit
+  part-length = let i = limit-inside in l ∙ rw length-take (omega arith)
+
+  all-length : length all ≡ length notes
+  all-length = let i = limit-inside in omega (arith, length-append part (drop limit notes), length-drop limit notes, part-length)
 
   pub lent-body : {at : ℕ} {tables : Tables} → r ≡ opened.Body at tables → (coded sized : List ℕ)
-      → Keeps (codesFrom (length (putMid 0 limit notes part))) (putMid 0 limit notes part) coded
-      → Keeps (sizesFrom (length coded)) coded sized → (endsFit 0 ends (length d2) ≡ true → SizesOf d2 ends sized)
-      → LentTold bytes d2 ends sized (opened.Body at tables)
+      → Keeps (codesFrom (length all)) all coded → Keeps (sizesFrom (length coded)) coded sized
+      → (endsFit 0 ends (length d2) ≡ true → SizesOf d2 ends sized) → LentTold bytes d2 ends sized (opened.Body at tables)
   lent-body {at} {tables} e coded sized k m s = record {
     opened = opened-longer bytes part sized at tables kept (subst (OpenedTold bytes part) e t);
     sizes = s;
   }
     where
-      whole : length (putMid 0 limit notes part) ≡ length notes
-      whole = same-len-mid 0 limit notes part l
-
-      codes : Keeps limit (putMid 0 limit notes part) coded
-      codes = subst (λ (n : ℕ). Keeps n (putMid 0 limit notes part) coded) (ap codesFrom whole ∙ sym c) k
+      codes : Keeps limit all coded
+      codes = subst (λ (n : ℕ). Keeps n all coded) (ap codesFrom all-length ∙ sym c) k
 
       sizes-after : limit ≤ sizesFrom (length coded)
-      sizes-after = subst (λ (n : ℕ). n ≤ sizesFrom (length coded)) (ap codesFrom (k .long ∙ whole) ∙ sym c) (codes-before (length coded))
+      sizes-after = subst (λ (n : ℕ). n ≤ sizesFrom (length coded)) (ap codesFrom (k .long ∙ all-length) ∙ sym c) (codes-before (length coded))
 
       kept : take (length part) sized ≡ part
       kept =
-          ap (λ (n : ℕ). take n sized) opened-length
+          ap (λ (n : ℕ). take n sized) part-length
           ∙ keeps-less sizes-after m .first
           ∙ codes .first
-          ∙ ap (λ (n : ℕ). take n (part ++ postOf 0 limit notes)) (sym opened-length)
-          ∙ take-append-seam part (postOf 0 limit notes)
+          ∙ ap (λ (n : ℕ). take n all) (sym part-length)
+          ∙ take-append-seam part (drop limit notes)
 
-  pub lent-refused : {error : WireError} (after : List ℕ) → r ≡ opened.Refused error → LentTold bytes d2 ends after (opened.Refused error)
-  lent-refused after e = subst (OpenedTold bytes part) e t
+  pub lent-refused : {error : WireError} → r ≡ opened.Refused error → LentTold bytes d2 ends all (opened.Refused error)
+  lent-refused e = subst (OpenedTold bytes part) e t
 
-  pub lent-no-room : r ≡ opened.NoRoom → LentTold bytes d2 ends (putMid 0 limit notes part) opened.NoRoom
+  pub lent-no-room : r ≡ opened.NoRoom → LentTold bytes d2 ends all opened.NoRoom
   lent-no-room e room =
-      let z : codesFrom (length (putMid 0 limit notes part)) ≡ limit = ap codesFrom (same-len-mid 0 limit notes part l) ∙ sym c in
-      subst (OpenedTold bytes part) e t (record { short = room .short; long = subst (λ (n : ℕ). 3 * length bytes ≤ 2 * n) (z ∙ sym opened-length) (room .long) })
+      let z : codesFrom (length all) ≡ length part = ap codesFrom all-length ∙ sym c ∙ sym part-length in
+      subst (OpenedTold bytes part) e t (record { short = room .short; long = subst (λ (n : ℕ). 3 * length bytes ≤ 2 * n) z (room .long) })

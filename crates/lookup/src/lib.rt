@@ -228,7 +228,11 @@ fn noted_at(notes: &[u64], at: usize, class: bool) -> Decided
     if notes.len() / RECORD_WORDS <= at {
         return Decided::No;
     }
-    noted_as(class, notes[RECORD_WORDS * at], notes[RECORD_WORDS * at + 1])
+    noted_as(
+        class,
+        notes[RECORD_WORDS * at],
+        notes[RECORD_WORDS * at + 1],
+    )
 }
 
 // The name that the record of an index builds, or with `class` its class name, if it decides: it has a string or a predefined index, even if

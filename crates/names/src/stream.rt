@@ -276,7 +276,14 @@ fn put_measured(s: &[u8], change: Change, size: usize, area: &mut [u8], at: usiz
 }
 
 // A measured part of the predefined list.
-fn put_measured_list(start: usize, end: usize, change: Change, size: usize, area: &mut [u8], at: usize)
+fn put_measured_list(
+    start: usize,
+    end: usize,
+    change: Change,
+    size: usize,
+    area: &mut [u8],
+    at: usize,
+)
     requires { ⌜ at + size < 2 ^ 64 ⌝ }
     ensures { λ _. ⌜ now (area .exit) ≡ sets (now (area .entry)) at (utf8 (fitted size (map (changed change) (fromUtf8 (partFrom start end predefinedList))))) ⌝ }
 {
@@ -284,7 +291,14 @@ fn put_measured_list(start: usize, end: usize, change: Change, size: usize, area
 }
 
 // The characters of a name's source, changed, where their size is noted. Where there is room for none, nothing is walked.
-fn put_noted(payload: &[u8], d2: &[u16], name: Name, change: Change, area: &mut [u8], at: usize) -> usize
+fn put_noted(
+    payload: &[u8],
+    d2: &[u16],
+    name: Name,
+    change: Change,
+    area: &mut [u8],
+    at: usize,
+) -> usize
     requires { ⌜ (0 < name .source) × (name .source ≤ 3) × (isMeasured (name .size) ≡ true) × (at + name .size < 2 ^ 64) ⌝ }
     ensures { λ r. ⌜ PutText (sourceBytes (name .size) change (sourceText (now (payload .entry)) (now (d2 .entry)) name)) at r (now (area .entry)) (now (area .exit)) ⌝ }
 {
