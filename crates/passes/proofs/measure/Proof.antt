@@ -4,12 +4,12 @@ use Rattle.passes.proofs.measure.Statement.{statement}
 use Rattle.passes.proofs.measure.Tie as tie
 use Rattle.passes.proofs.measure.Reads as reads
 use Rattle.passes.proofs.measure.Lts as lts
-use Rattle.declarations.proofs.payload.open_payload.Reads as open-payload-reads
+use Rattle.declarations.proofs.payload.open_lent.Reads as open-lent-reads
 use Rattle.passes.proofs.walk.Reads as walk-reads
 
 -- src/lib.rt:102:9
-open-payload-requires : tie.Need-open-payload-requires
-open-payload-requires c κs = search needs
+open-lent-requires : tie.Need-open-lent-requires
+open-lent-requires c κs = c .before .before .before .before .before .before .before .pre .d2-short
 
 -- src/lib.rt:104:24
 enum-known-opened : tie.Need-enum-known-opened
@@ -17,7 +17,7 @@ enum-known-opened c = search needs
 
 -- src/lib.rt:105:17
 walk-requires : tie.Need-walk-requires
-walk-requires c κs = (c .before .before .before .before .before .before .before .before .before .before .before .before .before .before .before .before .pre, (opened-is (c .before .before .before .before .before .before .before .before .before .before .before .before .before .before .before .before .args .bytes .now) (c .before .before .before .before .before .before .before .before .open-payload .last .1 .0) (c .before .before .before .before .before .before .before .before .open-payload .result) (c .before .before .before .before .before .before .before .before .open-payload .ensures) (c .before .before .before .before .opened .given .1)))
+walk-requires c κs = (c .before .before .before .before .before .before .before .before .before .before .before .before .before .before .before .before .pre, (opened-is (c .before .before .before .before .before .before .before .before .before .before .before .before .before .before .before .before .args .bytes .now) (c .before .before .before .before .before .before .before .before .before .before .before .before .before .before .before .before .args .d2 .now) (c .before .before .before .before .before .before .before .before .before .before .before .before .before .before .before .before .args .ends .now) (c .before .before .before .before .before .before .before .before .open-lent .last .1 .1 .1 .0) (c .before .before .before .before .before .before .before .before .open-lent .result) (c .before .before .before .before .before .before .before .before .open-lent .ensures) (c .before .before .before .before .opened .given .1)))
 
 -- src/lib.rt:117:30
 enum-known-body : tie.Need-enum-known-body
@@ -37,7 +37,7 @@ enum-told c = search needs
 
 -- src/lib.rt:90:1
 same-length : tie.Need-same-length
-same-length c = c .before .before .before .before .before .before .before .before .before .before .before .before .before .before .before .before .open-payload .kept .1 .0
+same-length c = c .before .before .before .before .before .before .before .before .before .before .before .before .before .before .before .before .open-lent .kept .1 .1 .1 .0
 
 -- src/lib.rt:90:1
 same-length-2 : tie.Need-same-length-2
@@ -49,11 +49,11 @@ same-length-3 c = search needs
 
 -- src/lib.rt:90:1
 returns : tie.Need-returns
-returns c = walked-done (c .before .before .before .before .before .before .before .before .before .before .before .before .before .before .before .before .before .before .before .before .before .before .before .before .args .kind) (c .before .before .before .before .before .before .before .before .before .before .before .before .before .before .before .before .before .before .before .before .before .before .before .before .args .bytes .now) (c .before .before .before .before .before .before .before .before .before .before .before .before .before .before .before .before .before .before .before .before .before .before .before .before .args .d2 .now) (c .before .before .before .before .before .before .before .before .before .before .before .before .before .before .before .before .before .before .before .before .before .before .before .before .args .ends .now) (c .before .before .before .before .before .before .before .before .before .before .before .before .before .before .before .before .open-payload .last .1 .0) (opened-is (c .before .before .before .before .before .before .before .before .before .before .before .before .before .before .before .before .before .before .before .before .before .before .before .before .args .bytes .now) (c .before .before .before .before .before .before .before .before .before .before .before .before .before .before .before .before .open-payload .last .1 .0) (c .before .before .before .before .before .before .before .before .before .before .before .before .before .before .before .before .open-payload .result) (c .before .before .before .before .before .before .before .before .before .before .before .before .before .before .before .before .open-payload .ensures) (c .before .before .before .before .before .before .before .before .before .before .before .before .opened .given .1)) (c .before .before .before .before .before .before .before .walk .result) (c .before .before .before .before .before .before .before .before .before .before .before .before .before .before .before .before .before .before .before .before .before .before .before .before .args .scratch-sheet .now) (c .before .before .before .before .before .before .before .walk .last .1 .1 .1 .1 .1 .1 .1 .0) (c .before .before .before .before .before .before .before .before .before .before .before .before .before .before .before .before .before .before .before .before .before .before .before .before .args .scratch-text .now) (c .before .before .before .before .before .before .before .walk .last .1 .1 .1 .1 .1 .1 .1 .1 .0) (c .before .before .before .before .before .before .before .walk .ensures) (c .before .body .given .1)
+returns c = walked-done (c .before .before .before .before .before .before .before .before .before .before .before .before .before .before .before .before .before .before .before .before .before .before .before .before .args .kind) (c .before .before .before .before .before .before .before .before .before .before .before .before .before .before .before .before .before .before .before .before .before .before .before .before .args .bytes .now) (c .before .before .before .before .before .before .before .before .before .before .before .before .before .before .before .before .before .before .before .before .before .before .before .before .args .d2 .now) (c .before .before .before .before .before .before .before .before .before .before .before .before .before .before .before .before .before .before .before .before .before .before .before .before .args .ends .now) (c .before .before .before .before .before .before .before .before .before .before .before .before .before .before .before .before .open-lent .last .1 .1 .1 .0) (opened-is (c .before .before .before .before .before .before .before .before .before .before .before .before .before .before .before .before .before .before .before .before .before .before .before .before .args .bytes .now) (c .before .before .before .before .before .before .before .before .before .before .before .before .before .before .before .before .before .before .before .before .before .before .before .before .args .d2 .now) (c .before .before .before .before .before .before .before .before .before .before .before .before .before .before .before .before .before .before .before .before .before .before .before .before .args .ends .now) (c .before .before .before .before .before .before .before .before .before .before .before .before .before .before .before .before .open-lent .last .1 .1 .1 .0) (c .before .before .before .before .before .before .before .before .before .before .before .before .before .before .before .before .open-lent .result) (c .before .before .before .before .before .before .before .before .before .before .before .before .before .before .before .before .open-lent .ensures) (c .before .before .before .before .before .before .before .before .before .before .before .before .opened .given .1)) (c .before .before .before .before .before .before .before .walk .result) (c .before .before .before .before .before .before .before .before .before .before .before .before .before .before .before .before .before .before .before .before .before .before .before .before .args .scratch-sheet .now) (c .before .before .before .before .before .before .before .walk .last .1 .1 .1 .1 .1 .1 .1 .0) (c .before .before .before .before .before .before .before .before .before .before .before .before .before .before .before .before .before .before .before .before .before .before .before .before .args .scratch-text .now) (c .before .before .before .before .before .before .before .walk .last .1 .1 .1 .1 .1 .1 .1 .1 .0) (c .before .before .before .before .before .before .before .walk .ensures) (c .before .body .given .1)
 
 -- src/lib.rt:90:1
 same-length-4 : tie.Need-same-length-4
-same-length-4 c = c .before .before .before .before .before .before .before .before .before .before .before .before .before .before .before .before .open-payload .kept .1 .0
+same-length-4 c = c .before .before .before .before .before .before .before .before .before .before .before .before .before .before .before .before .open-lent .kept .1 .1 .1 .0
 
 -- src/lib.rt:90:1
 same-length-5 : tie.Need-same-length-5
@@ -65,7 +65,7 @@ same-length-6 c = search needs
 
 -- src/lib.rt:90:1
 returns-2 : tie.Need-returns-2
-returns-2 c = walked-stops (c .before .before .before .before .before .before .before .before .before .before .before .before .before .before .before .before .before .before .before .before .before .before .before .before .args .kind) (c .before .before .before .before .before .before .before .before .before .before .before .before .before .before .before .before .before .before .before .before .before .before .before .before .args .bytes .now) (c .before .before .before .before .before .before .before .before .before .before .before .before .before .before .before .before .before .before .before .before .before .before .before .before .args .d2 .now) (c .before .before .before .before .before .before .before .before .before .before .before .before .before .before .before .before .before .before .before .before .before .before .before .before .args .ends .now) (c .before .before .before .before .before .before .before .before .before .before .before .before .before .before .before .before .open-payload .last .1 .0) (opened-is (c .before .before .before .before .before .before .before .before .before .before .before .before .before .before .before .before .before .before .before .before .before .before .before .before .args .bytes .now) (c .before .before .before .before .before .before .before .before .before .before .before .before .before .before .before .before .open-payload .last .1 .0) (c .before .before .before .before .before .before .before .before .before .before .before .before .before .before .before .before .open-payload .result) (c .before .before .before .before .before .before .before .before .before .before .before .before .before .before .before .before .open-payload .ensures) (c .before .before .before .before .before .before .before .before .before .before .before .before .opened .given .1)) (c .before .before .before .before .before .before .before .walk .result) (c .before .before .before .before .before .before .before .before .before .before .before .before .before .before .before .before .before .before .before .before .before .before .before .before .args .scratch-sheet .now) (c .before .before .before .before .before .before .before .walk .last .1 .1 .1 .1 .1 .1 .1 .0) (c .before .before .before .before .before .before .before .before .before .before .before .before .before .before .before .before .before .before .before .before .before .before .before .before .args .scratch-text .now) (c .before .before .before .before .before .before .before .walk .last .1 .1 .1 .1 .1 .1 .1 .1 .0) (c .before .before .before .before .before .before .before .walk .ensures) (c .before .body2 .given .1)
+returns-2 c = walked-stops (c .before .before .before .before .before .before .before .before .before .before .before .before .before .before .before .before .before .before .before .before .before .before .before .before .args .kind) (c .before .before .before .before .before .before .before .before .before .before .before .before .before .before .before .before .before .before .before .before .before .before .before .before .args .bytes .now) (c .before .before .before .before .before .before .before .before .before .before .before .before .before .before .before .before .before .before .before .before .before .before .before .before .args .d2 .now) (c .before .before .before .before .before .before .before .before .before .before .before .before .before .before .before .before .before .before .before .before .before .before .before .before .args .ends .now) (c .before .before .before .before .before .before .before .before .before .before .before .before .before .before .before .before .open-lent .last .1 .1 .1 .0) (opened-is (c .before .before .before .before .before .before .before .before .before .before .before .before .before .before .before .before .before .before .before .before .before .before .before .before .args .bytes .now) (c .before .before .before .before .before .before .before .before .before .before .before .before .before .before .before .before .before .before .before .before .before .before .before .before .args .d2 .now) (c .before .before .before .before .before .before .before .before .before .before .before .before .before .before .before .before .before .before .before .before .before .before .before .before .args .ends .now) (c .before .before .before .before .before .before .before .before .before .before .before .before .before .before .before .before .open-lent .last .1 .1 .1 .0) (c .before .before .before .before .before .before .before .before .before .before .before .before .before .before .before .before .open-lent .result) (c .before .before .before .before .before .before .before .before .before .before .before .before .before .before .before .before .open-lent .ensures) (c .before .before .before .before .before .before .before .before .before .before .before .before .opened .given .1)) (c .before .before .before .before .before .before .before .walk .result) (c .before .before .before .before .before .before .before .before .before .before .before .before .before .before .before .before .before .before .before .before .before .before .before .before .args .scratch-sheet .now) (c .before .before .before .before .before .before .before .walk .last .1 .1 .1 .1 .1 .1 .1 .0) (c .before .before .before .before .before .before .before .before .before .before .before .before .before .before .before .before .before .before .before .before .before .before .before .before .args .scratch-text .now) (c .before .before .before .before .before .before .before .walk .last .1 .1 .1 .1 .1 .1 .1 .1 .0) (c .before .before .before .before .before .before .before .walk .ensures) (c .before .body2 .given .1)
 
 -- src/lib.rt:90:1
 same-length-7 : tie.Need-same-length-7
@@ -73,7 +73,7 @@ same-length-7 c = search needs
 
 -- src/lib.rt:90:1
 returns-3 : tie.Need-returns-3
-returns-3 c = opened-refused (c .before .before .before .before .before .before .before .before .before .before .before .before .before .args .bytes .now) (c .before .before .before .before .before .open-payload .last .1 .0) (c .before .before .before .before .before .open-payload .result) (c .before .before .before .before .before .open-payload .ensures) (c .before .opened2 .given .1) (c .before .before .before .before .before .before .before .before .before .before .before .before .before .args .kind) (c .before .before .before .before .before .before .before .before .before .before .before .before .before .args .d2 .now) (c .before .before .before .before .before .before .before .before .before .before .before .before .before .args .ends .now)
+returns-3 c = opened-refused (c .before .before .before .before .before .before .before .before .before .before .before .before .before .args .bytes .now) (c .before .before .before .before .before .before .before .before .before .before .before .before .before .args .d2 .now) (c .before .before .before .before .before .before .before .before .before .before .before .before .before .args .ends .now) (c .before .before .before .before .before .open-lent .last .1 .1 .1 .0) (c .before .before .before .before .before .open-lent .result) (c .before .before .before .before .before .open-lent .ensures) (c .before .opened2 .given .1) (c .before .before .before .before .before .before .before .before .before .before .before .before .before .args .kind)
 
 -- src/lib.rt:90:1
 same-length-8 : tie.Need-same-length-8
@@ -81,13 +81,13 @@ same-length-8 c = search needs
 
 -- src/lib.rt:90:1
 returns-4 : tie.Need-returns-4
-returns-4 c = opened-no-room (c .before .before .before .before .before .before .before .before .before .before .before .before .args .bytes .now) (c .before .before .before .before .open-payload .last .1 .0) (c .before .before .before .before .open-payload .result) (c .before .before .before .before .open-payload .ensures) (c .enum-told .given .1)
+returns-4 c = opened-no-room (c .before .before .before .before .before .before .before .before .before .before .before .before .args .bytes .now) (c .before .before .before .before .before .before .before .before .before .before .before .before .args .d2 .now) (c .before .before .before .before .before .before .before .before .before .before .before .before .args .ends .now) (c .before .before .before .before .open-lent .last .1 .1 .1 .0) (c .before .before .before .before .open-lent .result) (c .before .before .before .before .open-lent .ensures) (c .enum-told .given .1)
 
 pub measure-spec : {M : Type 1} → statement M
 measure-spec =
     tie.close
     (tie.spec
-    open-payload-requires
+    open-lent-requires
     enum-known-opened
     walk-requires
     enum-known-body

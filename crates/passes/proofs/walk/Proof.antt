@@ -13,11 +13,11 @@ use Rattle.passes.proofs.start.Reads as start-reads
 
 -- src/lib.rt:76:9
 sub-body-in : tie.Need-sub-body-in
-sub-body-in c = c .before .before .before .before .before .before .pre .1 .inside
+sub-body-in c = c .before .before .before .before .before .before .pre .1 .opened .inside
 
 -- src/lib.rt:76:9
 part-body-in-start : tie.Need-part-body-in-start
-part-body-in-start c = c .before .before .before .before .before .before .pre .1 .inside
+part-body-in-start c = c .before .before .before .before .before .before .pre .1 .opened .inside
 
 -- src/lib.rt:76:9
 part-body-in-end : tie.Need-part-body-in-end
@@ -25,7 +25,7 @@ part-body-in-end c = search needs
 
 -- src/lib.rt:77:9
 cast-body-in : tie.Need-cast-body-in
-cast-body-in c = let h = c .before .before .before .before .before .before .before .pre .0 .bytes-short in let g = c .before .before .before .before .before .before .before .pre .1 .inside in record { fits = omega arith }
+cast-body-in c = let h = c .before .before .before .before .before .before .before .pre .0 .bytes-short in let g = c .before .before .before .before .before .before .before .pre .1 .opened .inside in record { fits = omega arith }
 
 -- src/lib.rt:83:9
 start-requires : tie.Need-start-requires
@@ -33,7 +33,7 @@ start-requires c κs = search needs
 
 -- src/lib.rt:74:5
 body-in-requires : tie.Need-body-in-requires
-body-in-requires c κs = (start-affords (c .before .before .before .before .before .before .before .before .before .before .args .bytes .now) (c .before .before .before .before .before .before .before .before .before .before .args .d2 .now) (c .before .before .before .before .before .before .before .before .before .before .args .ends .now) (c .before .before .before .before .before .before .before .before .before .before .args .at) (c .before .before .before .before .before .before .before .before .before .before .pre .0) (c .before .before .start .ensures), part-stands (c .before .before .before .before .before .before .before .before .before .before .args .bytes .now) (c .before .before .before .before .before .before .before .before .before .before .args .at) (length (c .before .before .before .before .before .before .before .before .before .before .args .bytes .now)) (c .before .before .before .before .before .before .before .before .before .before .pre .1 .inside) (le-refl (length (c .before .before .before .before .before .before .before .before .before .before .args .bytes .now))))
+body-in-requires c κs = (start-affords (c .before .before .before .before .before .before .before .before .before .before .args .bytes .now) (c .before .before .before .before .before .before .before .before .before .before .args .d2 .now) (c .before .before .before .before .before .before .before .before .before .before .args .ends .now) (c .before .before .before .before .before .before .before .before .before .before .args .at) (c .before .before .before .before .before .before .before .before .before .before .pre .0) (c .before .before .start .ensures), part-stands (c .before .before .before .before .before .before .before .before .before .before .args .bytes .now) (c .before .before .before .before .before .before .before .before .before .before .args .at) (length (c .before .before .before .before .before .before .before .before .before .before .args .bytes .now)) (c .before .before .before .before .before .before .before .before .before .before .pre .1 .opened .inside) (le-refl (length (c .before .before .before .before .before .before .before .before .before .before .args .bytes .now))))
 
 -- src/lib.rt:60:1
 same-length : tie.Need-same-length

@@ -39,7 +39,7 @@ returns c = copied-out (c .before .before .before .before .before .before .befor
 
 -- src/areas.rt:50:5
 walk-requires : tie.Need-walk-requires
-walk-requires c κs = (c .before .before .before .before .before .before .before .before .before .before .before .before .before .before .before .pre .0, c .before .before .before .before .before .before .before .before .before .before .before .before .before .before .before .pre .3 .opened)
+walk-requires c κs = (c .before .before .before .before .before .before .before .before .before .before .before .before .before .before .before .pre .0, c .before .before .before .before .before .before .before .before .before .before .before .before .before .before .before .pre .3 .lent)
 
 -- src/areas.rt:21:1
 same-length-3 : tie.Need-same-length-3
