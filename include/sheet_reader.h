@@ -44,6 +44,8 @@ enum {
     SHEET_SHEET_TOO_LONG = 12      /* longer than sheet_size: lend more; SHEET_LONGEST is always enough */
 };
 
+/* Limits. Areas of SHEET_LONGEST and SHEET_TEXT_LIMIT bytes are always enough: with them 12 is never given, and 11 only to a class whose text fits no
+ * area. It is proved for every input (areas-enough in crates/promises/proofs/Longest.antt) and stands in the contract of sheet_read, clause `enough`. */
 enum {
     SHEET_UNIT_LIMIT = 32768,
     SHEET_STRING_LIMIT = 4096,
@@ -65,7 +67,8 @@ enum {
  * Counts are of elements, sizes of bytes. What is handed in may hold anything: there is no input that the function doesn't answer.
  *
  * What the caller owes, of the memory alone:
- *   - every pointer is aligned for its type and not NULL, also where the count is 0: then hand over the address of any object of that type;
+ *   - every pointer is aligned for its type and not NULL, also where the count is 0: then hand over the address of any object of that type
+ *     (an empty std::vector's data() may be NULL: host/cpp/read_class.cpp);
  *   - d1, d2 and ends are readable over their counts, sheet, text and answer are writable over theirs, and nothing else writes to any of
  *     them until the call returns;
  *   - sheet, text and answer overlap neither each other nor d1, d2 or ends. (d1, d2 and ends are only read; they may overlap each other.)

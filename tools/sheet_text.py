@@ -3,173 +3,126 @@
 
 Prints each sheet in words, a declaration to a line, or with --records a record to a line, indented under its owner. A refusal is printed
 with what to do. The exit status is 0 if every line holds a sheet, 1 if one is a refusal, 2 if one is neither."""
-import signal, struct, sys
+import collections, signal, sys
 
-KINDS = {1: 'class', 2: 'file', 3: 'synthetic class', 4: 'facade of a multi-file class', 5: 'part of a multi-file class'}
-
-# cells after the kind byte: a width in bytes, or 'ref' (docs/MANUAL.md, "The sheet")
-RECORDS = {
-    1: ('head', [('kind', 1), ('name', 'ref'), ('flags', 8), ('constructors', 2), ('functions', 2), ('properties', 2)]),
-    2: ('constructor', [('flags', 8), ('signature', 'ref'), ('descriptor', 'ref'), ('parameters', 2)]),
-    3: ('function', [('name', 'ref'), ('flags', 8), ('signature', 'ref'), ('descriptor', 'ref'), ('receiver', 1), ('parameters', 2)]),
-    4: ('property', [('name', 'ref'), ('flags', 8), ('receiver', 1), ('getter default', 1), ('setter default', 1),
-                     ('field', 'ref'), ('field descriptor', 'ref'), ('getter', 'ref'), ('getter descriptor', 'ref'),
-                     ('setter', 'ref'), ('setter descriptor', 'ref')]),
-    5: ('parameter', [('name', 'ref'), ('default', 1)]),
-    6: ('type', [('role', 1), ('nullable', 1), ('name', 'ref'), ('arguments', 2)]),
-    7: ('default descriptor', [('descriptor', 'ref')]),
-}
-
-ROLES = {1: 'returned or property type', 2: 'receiver', 3: 'parameter', 4: 'vararg element', 5: 'argument'}
-
-# what happened, and what to do
-REFUSALS = {
-    1: ('d1 has more than 32,768 units', 'the class is too large for this reader: leave it out, or split its source file'),
-    2: ('d2 has more than 32,768 units or 4,096 strings', 'the class is too large for this reader: leave it out, or split its source file'),
-    3: ('the string ends fall, or the last is not the number of units of d2', 'mend the code that lays out d2'),
-    4: ('the major metadata version is above 2', 'the class comes from a newer compiler: compile it with an older metadata version'),
-    5: ('d1 is empty', 'compile the class again, or leave it out'),
-    6: ('a unit of d1 is above 255', 'd1 was damaged on the way: take the class file anew, or compile again'),
-    7: ('the payload is truncated', 'd1 is damaged, or has the seven-bit form of an old compiler: take the class file anew, or compile again'),
-    8: ('a field has a wire type that is not read', 'd1 is damaged, or has the seven-bit form of an old compiler: take the class file anew, or compile again'),
-    9: ('a varint is too long', 'd1 is damaged, or has the seven-bit form of an old compiler: take the class file anew, or compile again'),
-    10: ('the class has more than 2,048 types', 'the class is too large for this reader: split its source file'),
-    11: ('the texts are longer than the text area or 65,534 bytes', 'lend a text area of 65,534 bytes; if it was that long, split the source file'),
-    12: ('the sheet is longer than its area', 'lend a longer sheet area'),
-}
-DETAILS = {6: 'the unit', 8: 'the type'}
+sys.dont_write_bytecode = True
+import flag_words
+from sheets import KINDS, RECORDS, REFUSALS, ROLES, NotALine, Walk, line_answer, records, refusal_text
 
 
-class NotALine(Exception):
-    """The line isn't one of sheet_reader's, or its sheet doesn't keep to the table."""
+# JVM names that the class file tells: of the class; the parts of a multi-file class's facade; the facade of a part, or None
+ClassNames = collections.namedtuple('ClassNames', 'name parts facade')
 
 
-def records(sheet, text):
-    """The records in order, each a dictionary of its cells."""
-    at = 0
-    while at < len(sheet):
-        kind = sheet[at]
-        if kind not in RECORDS:
-            raise NotALine(f'byte {at} of the sheet is {kind}, no kind of record')
-        record, at = {'record': RECORDS[kind][0]}, at + 1
-        for name, width in RECORDS[kind][1]:
-            cell = sheet[at:at + (4 if width == 'ref' else width)]
-            at += 4 if width == 'ref' else width
-            if at > len(sheet):
-                raise NotALine('the last record is cut short')
-            record[name] = ref(cell, text) if width == 'ref' else int.from_bytes(cell, 'little')
-        yield record
-
-
-def ref(cell, text):
-    if cell == b'\xff\xff\xff\xff':
-        return None
-    offset, size = struct.unpack('<HH', cell)
-    if offset + size > len(text):
-        raise NotALine('a ref points past the text')
-    return text[offset:offset + size].decode('utf-8', 'replace')
-
-
-class Walk:
-    """The records, taken one after the other by their counts."""
-
-    def __init__(self, sheet, text):
-        self.all, self.at = list(records(sheet, text)), 0
-
-    def next(self, record):
-        if self.at == len(self.all) or self.all[self.at]['record'] != record:
-            raise NotALine(f'a {record} was announced and does not follow')
-        self.at += 1
-        return self.all[self.at - 1]
-
-    def type_of(self, role):
-        """The type of that role with its arguments, if one stands here."""
-        if self.at < len(self.all) and self.all[self.at].get('role') == role:
-            t = self.next('type')
-            t['of'] = [self.type_of(5) for _ in range(t['arguments'])]
-            if None in t['of']:
-                raise NotALine('an argument was announced and does not follow')
-            return t
-        return None
-
-    def parameter(self):
-        p = self.next('parameter')
-        p['type'], p['vararg'] = self.type_of(3), self.type_of(4)
-        return p
-
-    def owned(self, m, types):
-        m['of'] = [self.parameter() for _ in range(m['parameters'])]
-        if types:
-            m['receiver type'], m['type'] = self.type_of(2), self.type_of(1)
-        m['default'] = self.next('default descriptor')['descriptor']
-        return m
-
-    def property(self):
-        p = self.next('property')
-        p['receiver type'], p['type'] = self.type_of(2), self.type_of(1)
-        return p
-
-    def sheet(self):
-        h = self.next('head')
-        h['of'] = [self.owned(self.next('constructor'), False) for _ in range(h['constructors'])]
-        h['of'] += [self.owned(self.next('function'), True) for _ in range(h['functions'])]
-        h['of'] += [self.property() for _ in range(h['properties'])]
-        if self.at < len(self.all):
-            raise NotALine('records follow that no count announced')
-        return h
+def shown(text):
+    """A text as it may stand in a line: what doesn't print is written by its number, so that no name can break a line or steer a terminal."""
+    if text.isprintable() and '\\' not in text:
+        return text
+    return ''.join(c if c.isprintable() and c != '\\' else '\\\\' if c == '\\' else f'\\u{{{ord(c):x}}}' for c in text)
 
 
 def named(name):
-    return '(unnamed)' if name is None else name
+    return '(unnamed)' if name is None else shown(name)
 
 
 def type_text(t):
+    """A type with its arguments. A type without a class name is a type parameter. No recursion: types may be 2,048 deep."""
     if t is None:
         return '(no type)'
-    inner = '<' + ', '.join(map(type_text, t['of'])) + '>' if t['of'] else ''
-    return named(t['name']) + inner + ('?' if t['nullable'] else '')
+    done, left = [], [t]
+    while left:
+        t = left.pop()
+        if isinstance(t, str):
+            done.append(t)
+            continue
+        parts = ['(type parameter)' if t['name'] is None else shown(t['name'])]
+        if t['of']:
+            parts += ['<', t['of'][0], *(part for a in t['of'][1:] for part in (', ', a)), '>']
+        left += reversed(parts + ['?'] * t['nullable'])
+    return ''.join(done)
 
 
 def parameter_text(p):
-    return ('vararg ' if p['vararg'] else '') + named(p['name']) + ': ' + type_text(p['type']) + (' = ..' if p['default'] else '')
+    """A vararg parameter is declared by the type of its elements."""
+    declared = 'vararg ' * bool(p['vararg']) + named(p['name']) + ': ' + type_text(p['vararg'] or p['type'])
+    return declared + (' = ..' if p['default'] else '')
 
 
 def receiver_text(m):
     return type_text(m['receiver type']) + '.' if m['receiver'] else ''
 
 
-def method(name, descriptor):
-    return 'none' if name is None else name + descriptor
-
-
-def member_text(m):
-    flags = f"  flags {m['flags']}"
+def declaration_text(m):
+    """A declaration as Kotlin writes it, with the words of its flags."""
+    words = ' '.join(flag_words.words(m['record'], m['flags']))
     if m['record'] == 'property':
-        where = ''.join(f"  {part} {method(m[part], m[part + ' descriptor'])}" for part in ('field', 'getter', 'setter') if m[part] is not None)
-        own = ''.join(f'  {part} not default' for part in ('getter', 'setter') if not m[part + ' default'])
-        return f"property {receiver_text(m)}{m['name']}: {type_text(m['type'])}{flags}{where}{own}"
+        return f"{words} {receiver_text(m)}{shown(m['name'])}: {type_text(m['type'])}"
     parameters = '(' + ', '.join(map(parameter_text, m['of'])) + ')'
-    tail = f"{flags}  signature {method(m['signature'], m['descriptor'])}  default {m['default'] or 'none'}"
     if m['record'] == 'constructor':
-        return 'constructor' + parameters + tail
-    suspends = 'suspend ' if m['flags'] >> 13 & 1 else ''
-    return f"{suspends}fun {receiver_text(m)}{m['name']}{parameters}: {type_text(m['type'])}{tail}"
+        return f'{words} constructor{parameters}'
+    return f"{words} fun {receiver_text(m)}{shown(m['name'])}{parameters}: {type_text(m['type'])}"
 
 
-def sheet_text(sheet, text):
-    h = Walk(sheet, text).sheet()
-    yield ' '.join([KINDS.get(h['kind'], str(h['kind']))] + ([h['name']] if h['name'] is not None else [])) + f"  flags {h['flags']}"
-    for m in h['of']:
-        yield '  ' + member_text(m)
+def marked(words):
+    """What is said of a target, in brackets."""
+    return f" [{'; '.join(words)}]" if words else ''
 
 
-def cells(record):
-    show = {None: 'none'}
-    return ', '.join(f'{name} {ROLES.get(value, value) if name == "role" else show.get(value, value)}'
-                     for name, value in record.items() if name != 'record')
+def method_text(name, descriptor):
+    return 'none' if name is None else shown(name) + shown(descriptor)
 
 
-def record_text(sheet, text):
+def targets_text(m, marks):
+    """The methods and fields of a declaration; a mark stands beside what it is said of."""
+    if m['record'] == 'property':
+        found = ''
+        for part in ('field', 'getter', 'setter'):
+            if m[part] is not None:
+                between = ' ' if part == 'field' else ''
+                found += f"  {part} {shown(m[part])}{between}{shown(m[part + ' descriptor'])}{marked(marks.get(part))}"
+        return found + ''.join(f'  {part} not default' for part in ('getter', 'setter') if not m[part + ' default'])
+    recorded, said = m['signature'] is not None, marked(marks.get('method'))
+    signature = method_text(m['signature'], m['descriptor']) + said * recorded
+    default = 'none' if m['default'] is None else shown(m['default'])
+    return f'  signature {signature}  default {default}{said * (not recorded)}'
+
+
+def head_text(h, own):
+    """The head. Only a class has its name on the sheet; `own` is what the class file tells of names: a ClassNames, or None."""
+    name = h['name'] and shown(h['name'])
+    if h['kind'] == 1:
+        words = [*flag_words.words('head', h['flags']), named(name)]
+        said = f'  JVM name {shown(own.name)}' if own and own.name.replace('/', '.') != h['name'] else ''
+    else:
+        words = [KINDS.get(h['kind'], str(h['kind'])), *([shown(own.name)] if own else [])]
+        said = around_text(own) if own else ''
+    return ' '.join(words) + f"  flags {h['flags']}" + said
+
+
+def around_text(own):
+    """The parts of a multi-file class's facade, or the facade of a part."""
+    parts = '  parts ' + ', '.join(map(shown, own.parts)) if own.parts else ''
+    return parts + (f'  facade {shown(own.facade)}' if own.facade is not None else '')
+
+
+def sheet_lines(head, own=None, marks=None):
+    """A sheet in words, a declaration to a line. `marks` has, by a declaration's place, what is said of each of its targets by part."""
+    yield head_text(head, own)
+    for place, m in enumerate(head['of']):
+        yield f"  {declaration_text(m)}  flags {m['flags']}{targets_text(m, (marks or {}).get(place, {}))}"
+
+
+def cell_text(record, name, value):
+    if value is None:
+        return f'{name} none'
+    if name == 'role':
+        return f'{name} {ROLES.get(value, value)}'
+    if name == 'flags' and (record['record'] != 'head' or record['kind'] == 1):
+        return f"{name} {value} ({', '.join(flag_words.words(record['record'], value))})"
+    return f'{name} {shown(value) if isinstance(value, str) else value}'
+
+
+def record_lines(sheet, text):
     """A record to a line, indented under its owner; `announced` holds the arguments that are still to come of the types around."""
     Walk(sheet, text).sheet()
     depths = {'head': 0, 'constructor': 1, 'function': 1, 'property': 1, 'parameter': 2, 'default descriptor': 2}
@@ -186,41 +139,29 @@ def record_text(sheet, text):
                     announced[-1] -= 1
         else:
             depth = depths[record['record']]
-        yield '  ' * depth + record['record'] + ': ' + cells(record)
+        cells = ', '.join(cell_text(record, name, value) for name, value in record.items() if name != 'record')
+        yield '  ' * depth + record['record'] + ': ' + cells
 
 
-def refusal_text(number, detail):
-    what, advice = REFUSALS[number]
-    told = f' ({DETAILS[number]}: {detail})' if number in DETAILS else ''
-    return f'refused, {number}: {what}{told}. What to do: {advice}.'
-
-
-def line_text(line, form):
+def line_text(line, in_records):
     """Whether the line holds a sheet, and its text."""
-    words = line.split()
-    if words == ['input']:
+    if line.split() == ['input']:
         return False, ['input: the input ends before what it announces. What to do: make it again with class_input.py.']
-    try:
-        number, detail = int(words[0]), int(words[1])
-        sheet, text = (b'' if w == '-' else bytes.fromhex(w) for w in words[2:])
-    except (ValueError, IndexError):
-        raise NotALine('it is not number, detail, sheet and text')
-    if number in REFUSALS:
+    number, detail, sheet, text = line_answer(line)
+    if number:
         return False, [refusal_text(number, detail)]
-    if number != 0:
-        raise NotALine(f'there is no refusal {number}')
-    return True, list(form(sheet, text))
+    return True, list(record_lines(sheet, text) if in_records else sheet_lines(Walk(sheet, text).sheet()))
 
 
 def main(args):
-    form = record_text if '--records' in args else sheet_text
+    in_records = '--records' in args
     args = [a for a in args if a != '--records']
     if len(args) > 1 or any(a.startswith('-') for a in args):
         sys.exit(__doc__)
     lines, status = (open(args[0], encoding='ascii') if args else sys.stdin), 0
     for line in lines:
         try:
-            sheet, text = line_text(line, form)
+            sheet, text = line_text(line, in_records)
         except NotALine as why:
             print(f'sheet_text: this is no line of sheet_reader: {why}', file=sys.stderr)
             return 2

@@ -1,7 +1,9 @@
 #!/usr/bin/env bash
-# class_input.py and sheet_text.py on the examples: each sheet in words is examples/NAME.txt, and the inputs' hashes are those that are noted.
-# crate_uses.py and public.py on a repository of two crates; public.py on the crates.
-# The tools for proofs, and that each proof is what its template gives. That README and NOTICE name every crate.
+# class_input.py on the examples: the inputs' hashes are those that are noted. What sheet_text.py refuses. ./sheet: examples, jars, refusals, exit
+# statuses (sheet_test.py), on a fresh copy (build_test.py), on damaged classes (mutation_test.py).
+# targets.py and measure_links.py on the examples. crate_uses.py and public.py on a repository of two crates; public.py on the crates.
+# That MANUAL, the header and the tools have the definitions' tables; that README names the files to believe, README and
+# NOTICE every crate; the page of check times. The tools for proofs, and that each proof is what its template gives.
 set -eu
 cd "$(dirname "$0")/.."
 here=$(mktemp -d)
@@ -18,8 +20,6 @@ refused() { # words that must be said, command ..
 
 for line in examples/*.line; do
     name=${line%.line}
-    python3 -B tools/sheet_text.py "$line" > "$here/text"
-    same "sheet_text" "$name.txt" "$here/text"
     python3 -B tools/class_input.py "$name.class" > "$here/input"
     (cd examples; sha256sum < "$here/input" | sed "s/-/$(basename "$name")/") >> "$here/hashes"
 done
@@ -55,6 +55,10 @@ refused 'no refusal 13' say '13 0 - -'
 refused 'cut short' say '0 0 0102ffffffff -'
 refused 'no count announced' say '0 0 0102ffffffff060000000000000000000000000007ffffffff -'
 refused 'was announced' say '0 0 0102ffffffff0600000000000000000001000000 -'
+
+# targets.py and measure_links.py: what declarations link to, and the figures of MANUAL
+python3 -B tools/targets_test.py -v 2> "$here/out" || { cat "$here/out"; failed=1; }
+sed -n "s/^\(test[a-z_]*\) .*skipped '\(.*\)'$/tools: \1 skipped, \2/p" "$here/out"
 
 # crate_uses.py: a crate above another, named by its code, by a proof, or in comments alone
 uses=$here/uses
@@ -126,34 +130,37 @@ same 'public.py --write' "$here/expected" "$here/given"
 refused 'low::named is in the table of docs/TRACE.md, and no public function' public_check
 python3 -B tools/public.py --check || failed=1
 
-# ./read: with a program that knows one answer, and with the real one where it is built
-printf '#!/bin/sh\ncat examples/Sale.line\n' > "$here/knows_sale"
-printf '#!/bin/sh\necho 7 0 - -\n' > "$here/refuses"
-chmod +x "$here/knows_sale" "$here/refuses"
-SHEET_READER=$here/knows_sale ./read examples/Sale.class > "$here/text"
-same "./read" examples/Sale.txt "$here/text"
-SHEET_READER=$here/knows_sale ./read --line "$here/till.jar" till/Sale.class > "$here/text"
-same "./read --line" examples/Sale.line "$here/text"
-SHEET_READER=$here/refuses refused 'truncated' ./read examples/Sale.class
-SHEET_READER=$here/refuses refused '7 0 - -' ./read --line examples/Sale.class
-refused 'usage' ./read
+# ./sheet, where its library is there or can be built; the program itself, where it is built
+if command -v rt > "$here/out"; then
+    for test in sheet_test build_test 'mutation_test 1000'; do
+        # shellcheck disable=SC2086
+        python3 -B tools/${test/_test/_test.py} > "$here/out" 2>&1 || { cat "$here/out"; failed=1; }
+    done
+else
+    echo 'tools: ./sheet skipped, no rt to build its library'
+fi
 if [ -x target/bin/sheet_reader ]; then
     for line in examples/*.line; do
-        SHEET_READER=target/bin/sheet_reader ./read "${line%.line}.class" > "$here/text"
-        same "sheet_reader" "${line%.line}.txt" "$here/text"
+        python3 -B tools/class_input.py "${line%.line}.class" | target/bin/sheet_reader > "$here/line"
+        same "sheet_reader" "$line" "$here/line"
     done
 else
     echo 'tools: sheet_reader itself skipped, it is not built'
 fi
 
 # real classes, where a corpus and Debian's Kotlin are there
-corpus=${SHEET_CORPUS:-../shared/corpus/classes.bin}
+corpus=${SHEET_CORPUS:-../shared/corpus}/classes.bin
 jar=/usr/share/java/kotlin-stdlib.jar
 if [ -e "$corpus" ] && [ -e "$jar" ]; then
     python3 tools/reproduce.py "$corpus" "$jar" || { echo 'no input of the corpus is made'; failed=1; }
 else
     echo 'tools: real classes skipped, no corpus or no kotlin-stdlib.jar'
 fi
+
+# the tables that MANUAL, the header and the tools repeat
+bash tools/tables_test.sh || failed=1
+# pages that tools make or hold to the crates
+bash tools/pages_test.sh || failed=1
 
 # proofs and their templates
 bash tools/proofs/test.sh || failed=1
@@ -164,5 +171,18 @@ for crate in $(sed 's/#.*//; s/:.*//' crates.txt); do
     sed '/Apache License/,$d' NOTICE | grep -qw -- "$crate" || { echo "NOTICE doesn't name $crate"; failed=1; }
     grep -q -- "\`$crate\`" README.md || { echo "README's map doesn't name $crate"; failed=1; }
 done
+
+# the header's limits, of which the theorems speak
+while read -r constant name file; do
+    header=$(sed -n "s/^ *$constant = \([0-9]*\),*$/\1/p" include/sheet_reader.h)
+    definition=$(sed -n "s/^$name = \([0-9]*\)$/\1/p" "crates/$file")
+    [ "${header:-none}" = "$definition" ] || { echo "$constant: ${header:-none} in the header, $name is ${definition:-none}"; failed=1; }
+done <<'L'
+SHEET_UNIT_LIMIT unitLimit encoding/specs/Encoding.antt
+SHEET_STRING_LIMIT stringLimit inputs/specs/Inputs.antt
+SHEET_TYPE_LIMIT allowance schema/specs/Reading.antt
+SHEET_TEXT_LIMIT textLimit passes/specs/Answered.antt
+SHEET_LONGEST longestSheet promises/specs/Promises.antt
+L
 
 if [ "$failed" = 0 ]; then echo 'tools: ok'; else exit 1; fi

@@ -1,10 +1,11 @@
 //! Writes inputs with the original's answer lines, for a program that replays them. See host/README.md.
 
+mod cases;
 mod examples;
 mod sized;
 
 use harness::answer::Whole;
-use harness::expected::{expected, Basis};
+use harness::expected::{expected, Basis, Expected};
 use harness::input::Input;
 use harness::limits::Areas;
 use harness::random::Random;
@@ -17,14 +18,16 @@ const LONGEST: usize = 400;
 
 fn main() {
     let Some(folder) = std::env::args().nth(1) else {
-        eprintln!("vectors FOLDER    writes made, limits, sized and classes, each as .bin and .lines");
+        eprintln!(
+            "vectors FOLDER    writes made, limits and classes, each as .bin and .lines, and the files of area_replays"
+        );
         std::process::exit(2);
     };
     let folder = Path::new(&folder);
     std::fs::create_dir_all(folder).expect("a folder to write to");
     write(folder, "made", &made_inputs());
     write(folder, "limits", &examples::limits());
-    sized::write(folder);
+    sized::write(&folder.join("area_replays"));
     let classes = corpus::classes();
     if classes.is_empty() {
         println!("classes: none, no file of real classes in {}", corpus::folder().display());
@@ -38,14 +41,24 @@ fn main() {
 
 /// The answer of an input that a replay may hold: the original's, a limit's, or the 2,049th type.
 fn answer(input: &Input, areas: Areas) -> Option<Whole> {
-    let expected = expected(input, areas);
-    assert!(expected.disagreement.is_none(), "the second reading differs from the Rust");
+    let expected = checked(input, areas);
     let settled = match expected.basis {
         Basis::Original | Basis::Limits => true,
         Basis::Second => expected.whole.answer.number == 10,
         Basis::TooMuch => false,
     };
     settled.then_some(expected.whole)
+}
+
+/// The answer of a case that is written down: where the original can't be run, the second reading's.
+fn settled(input: &Input, areas: Areas) -> Whole {
+    checked(input, areas).whole
+}
+
+fn checked(input: &Input, areas: Areas) -> Expected {
+    let expected = expected(input, areas);
+    assert!(expected.disagreement.is_none(), "the second reading differs from the Rust");
+    expected
 }
 
 fn write(folder: &Path, name: &str, inputs: &[Input]) -> String {

@@ -1,9 +1,10 @@
 //! Inputs with the sizes of the areas that they are read into, and the answers with all bytes of both areas.
 
-use crate::{answer, examples, numbered};
+use crate::cases::Case;
+use crate::{answer, cases, examples, numbered, settled};
 use harness::answer::{Answer, Whole};
 use harness::expected::around;
-use harness::input::{hex, Input};
+use harness::input::hex;
 use harness::limits::{Areas, TEXT};
 use std::path::Path;
 
@@ -16,21 +17,29 @@ const LONGEST_SHEET: u64 = 150;
 const ACCEPTED: usize = 26;
 const REFUSED: usize = 4;
 
+/// What the crate `area_replays` is run on and what it must write: a file for each list, its arguments, and all lines.
 pub fn write(folder: &Path) {
-    let (mut bin, mut lines) = (Vec::new(), String::new());
-    let pairs = pairs();
-    for (input, areas) in &pairs {
-        let whole = answer(input, *areas).expect("an input that is settled");
-        let bytes = input.to_bytes();
-        for number in [bytes.len(), areas.sheet, areas.text] {
-            bin.extend((number as u32).to_le_bytes());
+    let data = folder.join("data");
+    std::fs::create_dir_all(&data).expect("a folder to write to");
+    let (mut arguments, mut lines) = (String::new(), String::new());
+    let made = ("sized".to_string(), pairs());
+    for (name, cases) in std::iter::once(made).chain(cases::lists()) {
+        let mut bin = Vec::new();
+        lines += &format!("{name}.bin\n");
+        for (input, areas) in &cases {
+            let bytes = input.to_bytes();
+            for number in [bytes.len(), areas.sheet, areas.text] {
+                bin.extend((number as u32).to_le_bytes());
+            }
+            bin.extend(bytes);
+            lines += &line(&settled(input, *areas), *areas);
         }
-        bin.extend(bytes);
-        lines += &line(&whole, *areas);
+        arguments += &format!("{name}.bin\n");
+        std::fs::write(data.join(format!("{name}.bin")), &bin).expect("a file written");
+        println!("{name}: {} inputs with areas", cases.len());
     }
-    std::fs::write(folder.join("sized.bin"), &bin).expect("a file written");
-    std::fs::write(folder.join("sized.lines"), &lines).expect("a file written");
-    println!("sized: {} inputs with areas, {} bytes", pairs.len(), bin.len() + lines.len());
+    std::fs::write(folder.join("args"), &arguments).expect("a file written");
+    std::fs::write(folder.join("stdout"), &lines).expect("a file written");
 }
 
 /// Both lengths, the number of types, number, detail, and the areas with the bytes that stay as they were.
@@ -49,7 +58,7 @@ fn line(whole: &Whole, areas: Areas) -> String {
     format!("{sheet} {text} {types} {number} {detail} {sheet_area} {text_area}\n")
 }
 
-fn pairs() -> Vec<(Input, Areas)> {
+fn pairs() -> Vec<Case> {
     let mut pairs = Vec::new();
     let mut seen = [0; 13];
     let examples = examples::marked_examples();

@@ -1,8 +1,8 @@
-// Reads inputs one after the other, each with three numbers of 4 bytes in front: its length and the sizes of the areas for sheet and text.
-// Writes a line for each: both lengths and the number of types, then number, detail and all of both areas, which held a pattern before.
+// Reads the files that its arguments name: inputs one after the other, each with three numbers of 4 bytes in front, its length and the sizes of the
+// areas for sheet and text. Writes the file's name, and then a line for each input: both lengths and the number of types, number, detail and all of
+// both areas, which held a pattern before.
 ghost use mathlib.Core.Path.{_≡_};
 ghost use lib.ListN.{length};
-use libc::STDIN_FILENO;
 use libc::STDOUT_FILENO;
 use line::input::ends_at;
 use line::input::four_in;
@@ -103,16 +103,16 @@ fn show_kept(kept: &[u8], sheet: &mut [u8], text: &mut [u8]) -> bool {
     )
 }
 
-// The same with what is kept from standard input.
-fn read_and_show(kept: &mut [u8], sheet: &mut [u8], text: &mut [u8]) -> bool {
-    let got = io::read_full(STDIN_FILENO, kept);
+// The same with what is kept from a file.
+fn read_and_show(file: i32, kept: &mut [u8], sheet: &mut [u8], text: &mut [u8]) -> bool {
+    let got = io::read_full(file, kept);
     show_kept(&kept[..got], sheet, text)
 }
 
-// One input; false at the end, where areas are larger than 65,536 bytes, or where a line can't be written.
-fn replay() -> bool {
+// One input of a file; false at its end, where areas are larger than 65,536 bytes, or where a line can't be written.
+fn replay(file: i32) -> bool {
     let mut head = [0u8; 12];
-    let got = io::read_full(STDIN_FILENO, &mut head);
+    let got = io::read_full(file, &mut head);
     if got < 12 {
         return false;
     }
@@ -132,18 +132,40 @@ fn replay() -> bool {
         return false;
     }
     read_and_show(
+        file,
         &mut kept[..size],
         &mut sheet[..sheet_size],
         &mut text[..text_size],
     )
 }
 
-fn main() {
+// All inputs of a file.
+fn replay_all(file: i32) {
     let mut left: usize = 1000000;
     while 0 < left {
-        if !replay() {
+        if !replay(file) {
             return;
         }
         left -= 1;
+    }
+}
+
+// The file that an argument names, after a line with its name. One that can't be opened has no inputs.
+fn replay_named(argument: usize) {
+    let mut name = io::buffer();
+    let size = os::arg(argument, &mut name);
+    io::write_all(STDOUT_FILENO, &name[..size]);
+    io::write_all(STDOUT_FILENO, b"\n");
+    let file = os::open_read(&name[..size]);
+    replay_all(file);
+    libc::close(file);
+}
+
+fn main() {
+    let count = os::arg_count();
+    let mut argument = 1;
+    while argument < count {
+        replay_named(argument);
+        argument += 1;
     }
 }

@@ -1,3 +1,2 @@
 pub mod Computed
 pub mod Marked
-pub mod Vectors

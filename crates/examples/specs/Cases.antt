@@ -1,6 +1,6 @@
 -- A case: an input, two areas by their lengths, and the whole answer that the definitions must give.
 -- Assumes nothing.
-use mathlib.Core.Bool.{Bool, true, _&&_}
+use mathlib.Core.Bool.{Bool, _&&_}
 use mathlib.Core.List.{List, [], _∷_, _++_}
 use Prim.Native.Nat.{ℕ, zero, suc, _+_, _-_, _*_}
 use Prim.Native.String as S
@@ -17,19 +17,14 @@ use Rattle.metadata.specs.Read.{read}
 abbrev pub hexDigit : ℕ → ℕ
 hexDigit c = if ltb c 0x61 then c - 0x30 else c - 0x57
 
--- numbers of w hexadecimal digits each, of which the first has k more to come and n so far
-abbrev pub hexFrom : ℕ → ℕ → ℕ → String → List ℕ
-hexFrom w k n S.[] = []
-hexFrom w zero n (S._∷_ c s) = (n * 16 + hexDigit (code c)) ∷ hexFrom w (w - 1) 0 s
-hexFrom w (suc k) n (S._∷_ c s) = hexFrom w k (n * 16 + hexDigit (code c)) s
+-- bytes of two digits each, of which the first has k digits more to come and n so far
+abbrev pub hexFrom : ℕ → ℕ → String → List ℕ
+hexFrom k n S.[] = []
+hexFrom zero n (S._∷_ c s) = (n * 16 + hexDigit (code c)) ∷ hexFrom 1 0 s
+hexFrom (suc k) n (S._∷_ c s) = hexFrom k (n * 16 + hexDigit (code c)) s
 
--- bytes of two digits
 abbrev pub hex : String → List ℕ
-hex = hexFrom 2 1 0
-
--- units of four digits
-abbrev pub units : String → List ℕ
-units = hexFrom 4 3 0
+hex = hexFrom 1 0
 
 -- what the areas are filled with before
 abbrev pub filling : ℕ
@@ -69,7 +64,3 @@ holds c =
     let e = c .answer in
     eqb (a .number) (e .number) && eqb (a .detail) (e .detail) && eqb (a .types) (e .types) && eqb (a .sheetLength) (length (e .sheet))
     && eqb (a .textLength) (length (e .text)) && same (a .sheet) (area (c .sheetArea) (e .sheet)) && same (a .text) (area (c .textArea) (e .text))
-
-abbrev pub allHold : List Case → Bool
-allHold [] = true
-allHold (c ∷ cs) = holds c && allHold cs

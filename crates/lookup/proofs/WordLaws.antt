@@ -100,6 +100,23 @@ module _ (n : Name) (a b place steps : ℕ) (h : NameFits n) (ha : a < 65536) (h
       let g = class-ends (n .start) (n .end) a b place (h .start) (h .end) ha hb p in
       (rw there (ap decided.Yes name-is), rw (there, f, g) (ap (λ (m : Name). decided.Yes (classOf m a b)) name-is))
 
+-- Answers that are the same, and that are not.
+nameOf : Decided → Name → Name
+nameOf (decided.Yes n) m = n
+nameOf decided.No m = m
+
+same-yes : (n m : Name) → decided.Yes n ≡ decided.Yes m → n ≡ m
+unfolding nameOf
+same-yes n m e = ap (λ (d : Decided). nameOf d n) e
+
+isYes : Decided → ℕ
+isYes (decided.Yes n) = 1
+isYes decided.No = 0
+
+no-name : {n : Name} → decided.No ≡ decided.Yes n → ⊥
+unfolding isYes
+no-name e = let z : _≡_ {A = ℕ} 0 1 = ap isYes e in omega arith
+
 -- Words taken apart.
 module _ (place steps : ℕ) where
   pub noted-none : steps % 4 ≡ 0 → decided.No ≡ noted place steps
@@ -110,26 +127,37 @@ module _ (place steps : ℕ) where
   unfolding noted
   noted-some h = rw (ne-eqb (steps % 4) 0 h)
 
-  pub class-none : steps % 4 ≡ 0 → decided.No ≡ notedClass place steps
-  unfolding notedClass
-  class-none h = rw (eq-eqb (steps % 4) 0 h)
+  -- the class name, by the name
+  pub class-none : decided.No ≡ noted place steps → decided.No ≡ notedClass place steps
+  unfolding noted notedClass
+  class-none = go (eqb (steps % 4) 0)
+    where
+      go : (b : Bool) → decided.No ≡ (if b then decided.No else decided.Yes (notedName place steps))
+          → decided.No ≡ (if b then decided.No else decided.Yes (classOf (notedName place steps) (place / 65536 / 65536 % 65536) (place / 65536 / 65536 / 65536 % 65536)))
+      go true e = refl
+      go false e = absurd (no-name e)
 
-  pub class-some : (steps % 4 ≡ 0 → ⊥) → {size : ℕ}
-      → size ≡ classSize (steps / 4 / 4 / 2097152 / 2097152) (place % 65536) (place / 65536 / 65536 % 65536)
+  pub class-some : {n : Name} → decided.Yes n ≡ noted place steps → {size : ℕ} → size ≡ classSize (n .size) (n .start) (place / 65536 / 65536 % 65536)
       → decided.Yes
       (record {
-        source = steps % 4 - 1;
+        source = n .source;
         start = place / 65536 / 65536 % 65536;
         end = place / 65536 / 65536 / 65536 % 65536;
-        from = steps / 4 / 4 % 2097152;
-        to = steps / 4 / 4 / 2097152 % 2097152;
-        operation = steps / 4 % 4;
+        from = n .from;
+        to = n .to;
+        operation = n .operation;
         qualified = true;
         size = size;
       })
       ≡ notedClass place steps
-  unfolding notedClass
-  class-some h e = rw (ne-eqb (steps % 4) 0 h, e)
+  unfolding noted notedClass
+  class-some {n} e {size} f = rw f (go (eqb (steps % 4) 0) e)
+    where
+      go : (b : Bool) → decided.Yes n ≡ (if b then decided.No else decided.Yes (notedName place steps))
+          → decided.Yes (classOf n (place / 65536 / 65536 % 65536) (place / 65536 / 65536 / 65536 % 65536))
+          ≡ (if b then decided.No else decided.Yes (classOf (notedName place steps) (place / 65536 / 65536 % 65536) (place / 65536 / 65536 / 65536 % 65536)))
+      go true e = absurd (no-name (sym e))
+      go false e = ap (λ (m : Name). decided.Yes (classOf m (place / 65536 / 65536 % 65536) (place / 65536 / 65536 / 65536 % 65536))) (same-yes n (notedName place steps) e)
 
   pub as-class : {c : Bool} {d : Decided} → c ≡ true → d ≡ notedClass place steps → d ≡ notedAs c place steps
   as-class e f = rw e f

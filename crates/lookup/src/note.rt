@@ -63,24 +63,23 @@ pub(crate) fn class_size(size: usize, start: usize, first: usize) -> usize
 fn noted_class(place: u64, steps: u64) -> Decided
     ensures { λ r. ⌜ r ≡ notedClass place steps ⌝ }
 {
-    let kind = steps % 4;
-    if kind == 0 {
+    let answer = noted(place, steps);
+    let Decided::Yes { name } = answer else {
         return Decided::No;
-    }
-    let start = (place % 65536) as usize;
-    let first = (place / 65536 / 65536 % 65536) as usize;
-    let size = (steps / 4 / 4 / 2097152 / 2097152) as usize;
-    let name = Name {
-        source: (kind - 1) as u8,
-        start: first,
-        end: (place / 65536 / 65536 / 65536 % 65536) as usize,
-        from: (steps / 4 / 4 % 2097152) as u32,
-        to: (steps / 4 / 4 / 2097152 % 2097152) as u32,
-        operation: (steps / 4 % 4) as u8,
-        qualified: true,
-        size: class_size(size, start, first),
     };
-    Decided::Yes { name }
+    let first = (place / 65536 / 65536 % 65536) as usize;
+    Decided::Yes {
+        name: Name {
+            source: name.source,
+            start: first,
+            end: (place / 65536 / 65536 / 65536 % 65536) as usize,
+            from: name.from,
+            to: name.to,
+            operation: name.operation,
+            qualified: true,
+            size: class_size(name.size, name.start, first),
+        },
+    }
 }
 
 // The name, or with `class` the class name.

@@ -4,7 +4,7 @@ use mathlib.Core.Path.{_≡_, refl, ap, sym, _∙_}
 use mathlib.Core.Bool.{Bool, true, false}
 use mathlib.Core.List.{List, map}
 use mathlib.Core.Option.{Option, some}
-use Prim.Native.Nat.{ℕ, _+_, _≤_, _<_}
+use Prim.Native.Nat.{ℕ, _+_, _-_, _≤_, _<_}
 use native.Mathlib.Omega.{arith}
 use lib.ListN.{length, length-map}
 use lib.Seq.{sets}
@@ -12,7 +12,7 @@ use Rattle.foundation.specs.Texts.{Text}
 use Rattle.characters.specs.Characters.{fromUtf8, utf8}
 use Rattle.characters.specs.Plain.{isAscii, shown}
 use Rattle.names.specs.Name.{sourceText, fitted, isMeasured}
-use Rattle.names.specs.Stream.{changed, sourceBytes, PutText}
+use Rattle.names.specs.Stream.{changed, changedBytes, sourceBytes, PutText}
 use Rattle.names.specs.declared.name.Name.{Name}
 use Rattle.names.specs.declared.name.Change.{Change}
 use Rattle.names.proofs.AsciiLaws.{bytes-bytes}
@@ -40,3 +40,10 @@ module _ (size : ℕ) (h : Change) (m : isMeasured size ≡ true) {o : Option Te
 
   pub noted-fits : (K : ℕ) → at + length (sourceBytes size h o) < K → at + size < K
   noted-fits K l = omega (arith, noted-long)
+
+-- A text that was measured, written as far as the area goes.
+pub first-put : (h : Change) (t : Text) (at : ℕ) (A : List ℕ) {next : ℕ} {B : List ℕ} → next ≡ at + length (changedBytes h t)
+    → B ≡ sets A at (utf8 (fitted (next - at) (map (changed h) t))) → PutText (changedBytes h t) at next A B
+first-put h t at A {next} e w =
+    let z : length (changedBytes h t) ≡ next - at = omega arith in
+    record { place = e; written = w ∙ ap (λ (u : Text). sets A at (utf8 u)) (fitted-same (next - at) (map (changed h) t) z) }

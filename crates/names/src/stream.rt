@@ -161,6 +161,12 @@ fn put_units(
     if area.len() <= at {
         return past_units(&*units, start, end, change, at);
     }
+    if end < start {
+        return put_utf16(&*units, start, end, change, area, at);
+    }
+    if area.len() - at < end - start {
+        return put_first_units(&*units, start, end, change, area, at);
+    }
     put_utf16(&*units, start, end, change, area, at)
 }
 
@@ -255,6 +261,23 @@ fn put_fitted_units(
         left -= taken;
         i = one.next;
     }
+}
+
+// The text of some units of d2 that goes past the end of the area: measured, and walked only as far as the area goes.
+fn put_first_units(
+    units: &[u16],
+    start: usize,
+    end: usize,
+    change: Change,
+    area: &mut [u8],
+    at: usize,
+) -> usize
+    requires { ⌜ at + length (changedBytes change (fromUtf16 (partFrom start end (now units)))) < 2 ^ 64 ⌝ }
+    ensures { λ r. ⌜ PutText (changedBytes change (fromUtf16 (partFrom start end (now (units .entry))))) at r (now (area .entry)) (now (area .exit)) ⌝ }
+{
+    let next = past_units(&*units, start, end, change, at);
+    put_fitted_units(&*units, start, end, change, next - at, area, at);
+    next
 }
 
 // The text of some bytes whose size is noted: at once where it is made of characters below 128, none is replaced, and there is room for it.

@@ -1,6 +1,10 @@
 pub mod Accepted
+pub mod Weights
+pub mod Costs
 pub mod WalkLaws
 pub mod Tabled
 pub mod Sound
+pub mod Early
+pub mod Longest
 pub mod Promised
 pub mod Answered

@@ -35,6 +35,7 @@ use Rattle.promises.proofs.Accepted.{accepted-reads, sheet-bytes, text-
 use Rattle.promises.proofs.WalkLaws.{sheet-walked}
 use Rattle.promises.proofs.Tabled.{Good, rows-good}
 use Rattle.promises.proofs.Sound.{reading-fine, reading-enters}
+use Rattle.promises.proofs.Longest.{sheet-short}
 
 kind-small : (k : ℤ) → kindOf k < 256
 kind-small (pos n) =
@@ -96,5 +97,8 @@ promised sheet text i u z =
       records = rows;
       areRecords = back;
       typesCounted = types ∙ omega (arith, declarations-count (kindOf (i .k)) d, entered);
+      typesEntered = rw types (omega (arith, entered));
       textCut = rw (s, t, size) (refs-in-order WellFormed rows tabled formed (a .fitting .textShort));
+      sheetShort = rw (ap (λ (b : Answer). b .sheetLength) (a .fitting .answer)) (sheet-short i d (a .left) (a .reads));
+      textShort = rw size (a .fitting .textShort);
     }

@@ -1,9 +1,14 @@
 -- What the answers of the exported functions tell.
 -- Assumes nothing.
+use mathlib.Core.Path.{_≡_}
 use mathlib.Core.List.{List}
 use Prim.Native.Nat.{ℕ}
 use lib.ListN.{getD}
+use Rattle.characters.specs.WellFormed.{Units}
+use Rattle.inputs.specs.Inputs.{Input}
 use Rattle.inputs.specs.Outcomes as definition
+use Rattle.metadata.specs.Read.{read}
+use Rattle.defaults.specs.Demand.{Demand}
 
 -- an answer as five numbers, and what both areas hold afterwards
 abbrev pub toldIn : List ℕ → List ℕ → List ℕ → definition.Answer
@@ -16,3 +21,9 @@ toldIn a sheet text = record {
   sheet = sheet;
   text = text;
 }
+
+-- Demand 3 of an accepted answer and any second one: whatever areas and input the second call is given. A call promises of its own input that d2's
+-- units are of 16 bits, so that of two calls nothing is asked but that both are accepted.
+abbrev pub DemandWithAny : Input → definition.Answer → Type 0
+DemandWithAny i a =
+    (sheet text : List ℕ) (j : Input) (b : definition.Answer) → read sheet text j ≡ b → Units (j .d2) → b .number ≡ 0 → Demand i j a b

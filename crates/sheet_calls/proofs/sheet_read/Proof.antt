@@ -1,4 +1,9 @@
-use Rattle.sheet_calls.proofs.CallLaws.{exported-is}
+use native.Mathlib.Omega.{arith}
+use mathlib.Core.List.{[], _∷_}
+use Rattle.descriptors.proofs.ErasedLaws.{units-each}
+use Rattle.inputs.specs.Told.{input}
+use Rattle.sheet_calls.specs.CallTold.{toldIn}
+use Rattle.sheet_calls.proofs.CallLaws.{exported-is, answers}
 use borrow.Author.Needs.{needs}
 use Rattle.sheet_calls.proofs.sheet_read.Statement.{statement}
 use Rattle.sheet_calls.proofs.sheet_read.Tie as tie
@@ -20,7 +25,17 @@ same-length-2 c = search needs
 
 -- src/lib.rt:10:1
 returns : tie.Need-returns
-returns c = exported-is (c .before .before .before .before .before .before .before .before .before .before .before .before .before .args .sheet .now) (c .before .before .before .before .before .before .before .before .before .before .before .before .before .args .text .now) (c .before .before .before .before .before .before .before .before .before .before .before .before .before .args .k) (c .before .before .before .before .before .before .before .before .before .before .before .before .before .args .major) (c .before .before .before .before .before .before .before .before .before .before .before .before .before .args .minor) (c .before .before .before .before .before .before .before .before .before .before .before .before .before .args .patch) (c .before .before .before .before .before .before .before .before .before .before .before .before .before .args .d1 .now) (c .before .before .before .before .before .before .before .before .before .before .before .before .before .args .d2 .now) (c .before .before .before .before .before .before .before .before .before .before .before .before .before .args .ends .now) (c .before .before .before .before .before .before .before .before .before .before .before .before .before .fits .k) (c .before .before .before .before .before .before .before .before .before .before .before .before .before .fits .major) (c .before .before .before .before .before .before .before .before .before .before .before .before .before .fits .minor) (c .before .before .before .before .before .before .before .before .before .before .before .before .before .fits .patch) (c .before .before .before .before .before .read .result) (c .before .before .before .before .before .read .last .1 .1 .1 .1 .1 .0) (c .before .before .before .before .before .read .last .1 .1 .1 .1 .1 .1 .0) (c .before .before .before .before .before .read .ensures .0)
+returns c =
+    let a = c .before .before .before .before .before .before .before .before .before .before .before .before .before .args in
+    let f = c .before .before .before .before .before .before .before .before .before .before .before .before .before .fits in
+    let r = c .before .before .before .before .before .read .result in
+    let sheet′ = c .before .before .before .before .before .read .last .1 .1 .1 .1 .1 .0 in
+    let text′ = c .before .before .before .before .before .read .last .1 .1 .1 .1 .1 .1 .0 in
+    let told = exported-is (a .sheet .now) (a .text .now) (a .k) (a .major) (a .minor) (a .patch) (a .d1 .now) (a .d2 .now) (a .ends .now) (f .k) (f .major) (f .minor) (f .patch) r sheet′ text′ (c .before .before .before .before .before .read .ensures .0) in
+    answers (a .sheet .now) (a .text .now)
+    (input (a .k) (a .major ∷ a .minor ∷ a .patch ∷ []) (a .d1 .now) (a .d2 .now) (a .ends .now))
+    (toldIn (r .number ∷ r .detail ∷ r .sheet ∷ r .text ∷ r .types ∷ []) sheet′ text′)
+    told (units-each (a .d2 .now) λ i. omega (arith, c .before .before .before .before .before .before .before .before .before .before .before .shared-slice-known2 .given i))
 
 pub sheet-read-spec : {M : Type 1} → statement M
 sheet-read-spec = tie.close (tie.spec read-requires same-length same-length-2 returns)

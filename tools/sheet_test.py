@@ -1,0 +1,471 @@
+#!/usr/bin/env python3
+"""./sheet from outside: examples, jars and folders, refusals, JSON, exit statuses, words. The lines of the examples are the Rust's."""
+import json, os, pty, re, resource, subprocess, sys, tempfile, unittest, zipfile
+
+sys.dont_write_bytecode = True
+sys.setrecursionlimit(20000)
+import flag_words, made_class, schema
+
+ROOT = os.path.dirname(os.path.dirname(os.path.realpath(__file__)))
+SHEET, EXAMPLES = os.path.join(ROOT, 'sheet'), os.path.join(ROOT, 'examples')
+NAMES = [name[:-6] for name in sorted(os.listdir(EXAMPLES)) if name.endswith('.class')]
+with open(os.path.join(ROOT, 'docs', 'sheet.schema.json'), encoding='utf-8') as f:
+    SCHEMA = json.load(f)
+# what the tool may say of the library that it uses
+LIBRARY = re.compile(r'^sheet: .*WITHOUT PROOF.*\n', re.M)
+
+
+def example(name, suffix):
+    with open(os.path.join(EXAMPLES, name + suffix), 'rb') as f:
+        return f.read()
+
+
+def sheet(*words, cwd=ROOT, command=SHEET, **more):
+    """Exit status, output, messages."""
+    done = subprocess.run([command, *words], cwd=cwd, stdin=subprocess.DEVNULL, stdout=subprocess.PIPE, stderr=subprocess.PIPE, **more)
+    return done.returncode, done.stdout.decode(), LIBRARY.sub('', done.stderr.decode())
+
+
+def objects(text):
+    return [json.loads(line) for line in text.splitlines()]
+
+
+class InFolder(unittest.TestCase):
+    """A temporary folder with a space in its name."""
+
+    def setUp(self):
+        self.room = tempfile.TemporaryDirectory(prefix='a room ')
+        self.here = self.room.name
+
+    def tearDown(self):
+        self.room.cleanup()
+
+    def path(self, name):
+        return os.path.join(self.here, name)
+
+    def put(self, name, data):
+        os.makedirs(os.path.dirname(self.path(name)), exist_ok=True)
+        with open(self.path(name), 'wb') as f:
+            f.write(data)
+        return self.path(name)
+
+    def jar(self, name, entries):
+        with zipfile.ZipFile(self.path(name), 'w') as jar:
+            for entry, data in entries.items():
+                jar.writestr(entry, data)
+        return self.path(name)
+
+
+class Examples(unittest.TestCase):
+    def test_words(self):
+        for name in NAMES:
+            self.assertEqual(sheet('read', f'examples/{name}.class'), (0, example(name, '.txt').decode(), ''), name)
+
+    def test_lines_are_the_rusts(self):
+        for name in NAMES:
+            self.assertEqual(sheet('read', '--line', f'examples/{name}.class'), (0, example(name, '.line').decode(), ''), name)
+
+    def test_lines_alone_in_words(self):
+        """sheet_text.py has the sheet alone: the same words, without what the class file tells."""
+        for name in NAMES:
+            words = re.sub(r' \[(not in|shared|may be|no target)[^]]*\]|  JVM name .*', '', example(name, '.txt').decode())
+            words = re.sub(r'^(file|synthetic class) \S+', r'\1', words)
+            line = os.path.join(EXAMPLES, name + '.line')
+            given = subprocess.run([sys.executable, '-B', os.path.join(ROOT, 'tools', 'sheet_text.py'), line], stdout=subprocess.PIPE).stdout
+            self.assertEqual(given.decode(), words, name)
+
+    def test_records(self):
+        status, out, _ = sheet('read', '--records', 'examples/TillKt.class')
+        lines = out.splitlines()
+        self.assertEqual((status, len(lines)), (0, 21))
+        self.assertEqual(lines[1], '  function: name cents, flags 6 (public, final), signature none, descriptor none, receiver 1, parameters 1')
+        self.assertEqual(lines[4], '        type: role argument, nullable 0, name none, arguments 0')
+
+
+class Rebuilt:
+    """A sheet's bytes put together again from its JSON, by the table in docs/MANUAL.md."""
+
+    def __init__(self, told):
+        self.sheet, self.text = b'', b''
+        of = [told['constructors'], told['functions'], told['properties']]
+        self.put(1, 1, told['kind'])
+        self.ref(told['name'])
+        self.put(8, told['flags'])
+        self.put(2, *map(len, of))
+        for m in of[0] + of[1]:
+            self.method(m)
+        for p in of[2]:
+            self.property(p)
+
+    def put(self, width, *numbers):
+        self.sheet += b''.join(n.to_bytes(width, 'little') for n in numbers)
+
+    def ref(self, text):
+        if text is None:
+            self.sheet += b'\xff' * 4
+        else:
+            self.put(2, len(self.text), len(text.encode()))
+            self.text += text.encode()
+
+    def pair(self, method):
+        self.ref(method and method['name'])
+        self.ref(method and method['descriptor'])
+
+    def type(self, role, told):
+        if told is not None:
+            self.put(1, 6, role, told['nullable'])
+            self.ref(told['class'])
+            self.put(2, len(told['arguments']))
+            for inner in told['arguments']:
+                self.type(5, inner)
+
+    def method(self, m):
+        self.put(1, 3 if 'name' in m else 2)
+        if 'name' in m:
+            self.ref(m['name'])
+        self.put(8, m['flags'])
+        self.pair(m['signature'])
+        if 'name' in m:
+            self.put(1, m['extension'])
+        self.put(2, len(m['parameters']))
+        for p in m['parameters']:
+            self.put(1, 5)
+            self.ref(p['name'])
+            self.put(1, p['has_default'])
+            self.type(3, p['type'])
+            self.type(4, p['vararg'])
+        self.type(2, m.get('receiver'))
+        self.type(1, m.get('returns'))
+        self.put(1, 7)
+        self.ref(m['default'])
+
+    def property(self, p):
+        self.put(1, 4)
+        self.ref(p['name'])
+        self.put(8, p['flags'])
+        self.put(1, p['extension'], p['getter_is_default'], p['setter_is_default'])
+        for part in ('field', 'getter', 'setter'):
+            self.pair(p[part])
+        self.type(2, p['receiver'])
+        self.type(1, p['type'])
+
+
+class Json(InFolder):
+    def test_examples_keep_to_the_schema_and_hold_the_whole_sheet(self):
+        status, out, said = sheet('read', '--json', 'examples')
+        told = objects(out)
+        self.assertEqual(status, 0)
+        self.assertEqual([o['file'] for o in told], [f'examples/{name}.class' for name in NAMES])
+        for name, o in zip(NAMES, told):
+            self.assertEqual(schema.faults(o, SCHEMA, SCHEMA), [])
+            made = Rebuilt(o)
+            self.assertEqual(f'0 0 {made.sheet.hex()} {made.text.hex() or "-"}\n', example(name, '.line').decode(), name)
+            self.assertEqual(o['types'], made.sheet and self.types_of(o))
+
+    def types_of(self, told):
+        """How many types stand in the JSON."""
+        if isinstance(told, dict):
+            return ('nullable' in told) + sum(map(self.types_of, told.values()))
+        return sum(map(self.types_of, told)) if isinstance(told, list) else 0
+
+    def test_targets(self):
+        o, = objects(sheet('read', '--json', 'examples/LinkingKt.class')[1])
+        of = {json.dumps([m['name'], len(m['parameters']), m['parameters'] and m['parameters'][0]['name']]): m['target'] for m in o['functions']}
+        self.assertEqual(of['["refund", 1, "numbers"]'], {
+            'by': 'default', 'name': 'refund', 'descriptor': '(Ljava/util/List;)I', 'in_class': True, 'link': False, 'shared_with': [],
+            'may_be_of': [{'declaration': 'fun refundSale(articles: kotlin.collections.List<kotlin.String>)', 'part': 'method'}]})
+        self.assertEqual(of['["refundSale", 1, "articles"]']['in_class'], False)
+        self.assertEqual(of['["sum", 1, "cents"]']['shared_with'],
+                         [{'declaration': 'fun sum(lines: kotlin.collections.List<till.Line>)', 'part': 'method'}])
+        self.assertEqual(of['["closed", 0, []]']['by'], 'signature')
+        self.assertEqual([of[f'["sum", 1, "{name}"]']['link'] for name in ('cents', 'lines')], [True, False])
+
+    def test_check(self):
+        status, out, _ = sheet('check', '--json', 'examples')
+        told = objects(out)
+        self.assertEqual(status, 3)
+        self.assertEqual([o['class'] for o in told],
+                         ['till/Drawer$Companion', 'till/Drawer', 'till/LinkingKt', 'till/Priced', 'till/Stock', 'till/TillKt'])
+        self.assertEqual([schema.faults(o, SCHEMA, SCHEMA) for o in told], [[]] * 6)
+        self.assertEqual(told[-1]['findings'], [{
+            'declaration': 'fun kotlin.collections.Iterable<(type parameter)>.cents(of: kotlin.Function1<(type parameter), kotlin.Long>)',
+            'part': 'method', 'by': 'default', 'name': 'cents', 'descriptor': '(Ljava/lang/Iterable;Lkotlin/Function1;)J', 'in_class': False,
+            'shared_with': [], 'may_be_of': [], 'link': False}])
+
+    def test_facade_and_part(self):
+        self.put('F.class', made_class.class_file({'k': 4, 'mv': [1, 1, 15], 'd1': ['made/F__AKt', 'made/F__BKt']}, 'made/F'))
+        self.put('P.class', made_class.class_file(made_class.package(b'', [], k=5, xs='made/F'), 'made/F__AKt'))
+        facade, part = objects(sheet('read', '--json', self.here)[1])
+        self.assertEqual((facade['parts'], facade['facade'], facade['class']), (['made/F__AKt', 'made/F__BKt'], None, 'made/F'))
+        self.assertEqual((part['parts'], part['facade'], part['class']), ([], 'made/F', 'made/F__AKt'))
+        self.assertEqual(sheet('read', self.path('F.class'))[1], 'facade of a multi-file class made/F  flags 6  parts made/F__AKt, made/F__BKt\n')
+        self.assertEqual(sheet('read', self.path('P.class'))[1], 'part of a multi-file class made/F__AKt  flags 6  facade made/F\n')
+
+    def test_the_schema_refuses(self):
+        """What the schema is there for: a name more or fewer, a value of another kind."""
+        whole, = objects(sheet('read', '--json', 'examples/TillKt.class')[1])
+        wrong = [{**whole, 'more': 1}, {k: v for k, v in whole.items() if k != 'types'}, {**whole, 'flags': -1}, {**whole, 'flags': True},
+                 {**whole, 'state': 'written'}, {**whole, 'parts': [None]}, {**whole, 'functions': [{**whole['functions'][0], 'returns': 'Int'}]}]
+        self.assertEqual([bool(schema.faults(o, SCHEMA, SCHEMA)) for o in [whole, *wrong]], [False] + [True] * len(wrong))
+
+    def test_every_name_of_the_schema_is_told(self):
+        with open(os.path.join(ROOT, 'docs', 'JSON.md'), encoding='utf-8') as f:
+            told = set(re.findall(r'`(\w+)`', f.read()))
+        names = {name for part in SCHEMA['$defs'].values() for name in part.get('properties', {})}
+        names |= set(SCHEMA['$defs']['refused']['properties']['refusal']['properties'])
+        self.assertEqual(names - told, set())
+
+    def test_the_manual_shows_what_is_printed(self):
+        with open(os.path.join(ROOT, 'docs', 'JSON.md'), encoding='utf-8') as f:
+            shown = re.findall(r'^    \$ (./sheet .*)\n((?:    .*\n)+)', f.read(), re.M)
+        self.assertTrue(shown)
+        for command, text in shown:
+            _, out, _ = sheet(*command.split()[1:])
+            self.assertEqual(json.loads(text), objects(out)[0], command)
+
+
+def refused():
+    """A class for each refusal that a class file can cause: number, detail, elements of kotlin.Metadata."""
+    function = made_class.field(3, b'\x10\0')
+    long_text = 'a' * 30000
+    big_class = {'mv': [1, 1, 15], 'k': 2, 'd2': ['f' * 30000]}
+    return [
+        (1, 0, {'k': 2, 'd1': ['\0' * 16385] * 2}),
+        (2, 0, {'k': 2, 'd1': ['\0\0'], 'd2': ['x' * 16385] * 2}),
+        (2, 0, {'k': 2, 'd1': ['\0\0'], 'd2': [''] * 4097}),
+        (4, 0, {'k': 2, 'mv': [3, 0, 0], 'd1': ['\0\0']}),
+        (5, 0, {'k': 2}),
+        (6, 256, {'k': 2, 'd1': ['\0\u0100']}),
+        (7, 0, {'k': 2, 'd1': ['\0']}),
+        (8, 3, {'k': 2, 'd1': ['\0\0\x0b']}),
+        (9, 0, {'k': 2, 'd1': ['\0' + '\x80' * 11]}),
+        (10, 0, made_class.nested_types(2049)),
+        (11, 0, {**big_class, 'd1': made_class.payload(b'\0' + function * 3), 'd2': [long_text]}),
+    ]
+
+
+class Refusals(InFolder):
+    def test_each(self):
+        for number, detail, values in refused():
+            path = self.put('Bad.class', made_class.class_file(values))
+            status, out, said = sheet('read', path)
+            self.assertEqual((status, out), (1, ''))
+            self.assertRegex(said, rf'^sheet: .*Bad.class: refused, {number}: .* What to do: ')
+            self.assertEqual(sheet('read', '--line', path)[:2], (1, f'{number} {detail} - -\n'))
+            status, out, said = sheet('read', '--json', path)
+            o, = objects(out)
+            self.assertEqual((status, said, schema.faults(o, SCHEMA, SCHEMA)), (1, '', []))
+            self.assertEqual((o['class'], o['refusal']['number'], o['refusal']['detail']), ('made/Made', number, detail))
+            self.assertTrue(o['refusal']['name'] and o['refusal']['what'] and o['refusal']['advice'])
+            self.assertEqual(sheet('check', path)[0], 1)
+
+    def test_every_number_has_a_name_as_in_the_header(self):
+        with open(os.path.join(ROOT, 'include', 'sheet_reader.h'), encoding='utf-8') as f:
+            named = dict(re.findall(r'^    SHEET_(\w+) = (\d+),? +/\*', f.read().split('Refusals')[1].split('};')[0], re.M))
+        import sheets
+        with open(os.path.join(ROOT, 'include', 'sheet_reader.h'), encoding='utf-8') as f:
+            self.assertIn(f'#define SHEET_FORMAT {sheets.FORMAT}\n', f.read())
+        self.assertEqual({int(n): name.lower().replace('_', ' ') for name, n in named.items()}, sheets.REFUSAL_NAMES)
+        self.assertEqual(SCHEMA['$defs']['refused']['properties']['refusal']['properties']['name']['enum'], list(sheets.REFUSAL_NAMES.values()))
+
+    def test_types_2048_deep_and_annotations_nested(self):
+        path = self.put('Deep.class', made_class.class_file(made_class.nested_types(2048), before=lambda pool: [made_class.nested_annotation(pool, 20000)]))
+        status, out, _ = sheet('read', path)
+        self.assertEqual((status, out.count('(type parameter)')), (0, 2048))
+        status, out, _ = sheet('read', '--json', path)
+        self.assertEqual((status, out.count('"arguments"')), (0, 2048))
+        self.assertEqual(sheet('read', '--records', path)[0], 0)
+        self.assertEqual(sheet('check', path)[0], 0)
+
+
+class Paths(InFolder):
+    def test_files_folders_and_jars_at_once(self):
+        self.put('classes/sub/Sale.class', example('Sale', '.class'))
+        self.put('classes/Java.class', made_class.class_file(None, 'Java'))
+        self.put('classes/note.txt', b'no class')
+        jar = self.jar('a jar.jar', {'till/Line.class': example('Line', '.class'), 'x/Bad.class': made_class.class_file({'k': 2, 'd1': ['\0']}),
+                                     'x/Cut.class': example('Sale', '.class')[:400], 'till/Reason.class': example('Reason', '.class')})
+        status, out, said = sheet('read', self.path('classes'), jar, 'examples/Refund.class')
+        self.assertEqual(status, 1)
+        headings = [self.path('classes/sub/Sale.class'), jar + '!/till/Line.class', jar + '!/till/Reason.class', 'examples/Refund.class']
+        texts = [example(name, '.txt').decode() for name in ('Sale', 'Line', 'Reason', 'Refund')]
+        self.assertEqual(out, '\n'.join(f'{heading}:\n{text}' for heading, text in zip(headings, texts)))
+        lines = said.splitlines()
+        self.assertEqual(len(lines), 3)
+        self.assertIn('x/Bad.class: refused, 7', lines[0])
+        self.assertIn('x/Cut.class: not a class file that can be read: the file ends in the middle', lines[1])
+        self.assertRegex(lines[2], r'^sheet: 4 read, 1 refused \(1 by 7, truncated\), 1 without Kotlin metadata, 1 not a class \([\d.]+ s\)$')
+
+    def test_one_entry_of_a_jar(self):
+        jar = self.jar('a.jar', {'till/Sale.class': example('Sale', '.class'), 'till/Line.class': example('Line', '.class')})
+        self.assertEqual(sheet('read', jar + '!/till/Sale.class'), (0, example('Sale', '.txt').decode(), ''))
+        self.assertEqual(sheet('read', jar + '!/till/No.class')[0], 4)
+
+    def test_a_jar_in_a_folder(self):
+        self.jar('a.jar', {'till/Sale.class': example('Sale', '.class')})
+        self.assertEqual(sheet('read', self.here)[1], f'{self.path("a.jar")}!/till/Sale.class:\n' + example('Sale', '.txt').decode())
+
+    def test_a_file_that_cannot_be_read_does_not_end_the_run(self):
+        status, out, said = sheet('read', self.path('missing.class'), 'examples/Sale.class')
+        self.assertEqual(status, 4)
+        self.assertIn('till.Sale', out)
+        self.assertIn('missing.class: No such file', said)
+        self.put('bad.jar', b'PK\3\4 no jar')
+        status, _, said = sheet('read', self.here)
+        self.assertEqual(status, 4)
+        self.assertIn('bad.jar: not a jar that can be read', said)
+
+    def test_more_jars_than_may_be_open(self):
+        for at in range(40):
+            self.jar(f'{at:02}.jar', {'till/Line.class': example('Line', '.class')})
+        os.mkfifo(self.path('pipe.class'))
+        status, out, said = sheet('check', self.here, preexec_fn=lambda: resource.setrlimit(resource.RLIMIT_NOFILE, (30, 30)))
+        self.assertEqual((status, out), (0, ''))
+        self.assertIn('40 read, 0 refused', said)
+
+    def test_what_is_no_kotlin_class(self):
+        status, out, said = sheet('read', self.put('Java.class', made_class.class_file(None)))
+        self.assertEqual((status, out), (1, ''))
+        self.assertIn('no annotation kotlin.Metadata', said)
+        status, out, said = sheet('read', 'README.md')
+        self.assertEqual((status, out), (1, ''))
+        self.assertIn('README.md: not a class file that can be read: it does not begin', said)
+        self.assertEqual(sheet('read', self.here)[0], 0)
+        o, = objects(sheet('read', '--json', 'README.md')[1])
+        self.assertEqual((o['state'], schema.faults(o, SCHEMA, SCHEMA)), ('not a class', []))
+
+    def test_from_anywhere_by_a_symlink(self):
+        os.symlink(SHEET, self.path('my sheet'))
+        self.put('in/Sale.class', example('Sale', '.class'))
+        self.assertEqual(sheet('read', 'Sale.class', cwd=self.path('in'), command=self.path('my sheet'))[:2], (0, example('Sale', '.txt').decode()))
+
+    def test_names_of_any_bytes(self):
+        path = os.path.join(self.here.encode(), b'\xff\n.class')
+        with open(path, 'wb') as f:
+            f.write(example('Sale', '.class'))
+        done = subprocess.run([SHEET, 'read', '--json', path], stdout=subprocess.PIPE, stderr=subprocess.PIPE)
+        o, = objects(done.stdout.decode())
+        self.assertEqual((done.returncode, os.path.basename(o['file'])), (0, '\ufffd\n.class'))
+        done = subprocess.run([SHEET, 'read', self.here], stdout=subprocess.PIPE, stderr=subprocess.PIPE)
+        self.assertEqual(done.returncode, 0)
+        self.assertIn(b'/\xff\\u{a}.class:\n', done.stdout)
+
+    def test_a_progress_line_on_a_terminal_alone(self):
+        controller, terminal = pty.openpty()
+        subprocess.run([SHEET, 'read', 'examples'], cwd=ROOT, stdout=subprocess.DEVNULL, stderr=terminal)
+        os.close(terminal)
+        self.assertIn(f' of {len(NAMES)} classes, examples/'.encode(), os.read(controller, 65536))
+        os.close(controller)
+        self.assertNotIn('classes,', sheet('read', 'examples')[2])
+
+    def test_results_and_progress_on_one_terminal(self):
+        controller, terminal = pty.openpty()
+        subprocess.run([SHEET, 'read', '--line', 'examples/Line.class', 'examples/Reason.class'], cwd=ROOT, stdout=terminal, stderr=terminal)
+        os.close(terminal)
+        told = os.read(controller, 65536).decode().replace('\r\n', '\n')
+        os.close(controller)
+        told = re.sub('(\x1b\\[K)sheet: the reader is built WITHOUT PROOF.*\n', r'\1', told)  # said in front of the first result, if it is so
+        self.assertIn('\r\x1b[K' + example('Line', '.line').decode(), told)
+        self.assertIn('classes, examples/Line.class', told)
+
+
+class Statuses(InFolder):
+    def test_help(self):
+        for words in (['--help'], ['-h'], ['help']):
+            status, out, said = sheet(*words)
+            self.assertEqual((status, said), (0, ''))
+            for name in ('read', 'check', 'build'):
+                self.assertRegex(out, rf'(?m)^  {name} ')
+        for name in ('read', 'check', 'build'):
+            for words in ([name, '--help'], [name, '-h'], ['help', name]):
+                status, out, said = sheet(*words)
+                self.assertEqual((status, said, out.startswith(f'usage: sheet {name}')), (0, '', True))
+                self.assertIn('Exit status: 0', out)
+
+    def test_usage(self):
+        for words in ([], ['write'], ['--json'], ['read'], ['read', '--all', 'x'], ['read', '--json', '--line', 'x'], ['check', '--line', 'x'],
+                      ['build', 'x'], ['help', 'nothing']):
+            status, out, said = sheet(*words)
+            self.assertEqual((status, out), (2, ''), words)
+            self.assertRegex(said, '^sheet: .*--help')
+
+    def test_a_file_that_looks_like_an_option(self):
+        self.put('--json', example('Sale', '.class'))
+        self.assertEqual(sheet('read', '--', '--json', cwd=self.here)[:2], (0, example('Sale', '.txt').decode()))
+
+    def test_check(self):
+        self.assertEqual(sheet('check', 'examples/Line.class')[:2], (0, ''))
+        status, out, said = sheet('check', 'examples/TillKt.class', 'examples/Sale.class')
+        self.assertEqual((status, out), (3, 'examples/TillKt.class: fun kotlin.collections.Iterable<(type parameter)>.cents(of: kotlin.Function1<'
+                                         '(type parameter), kotlin.Long>)  default cents(Ljava/lang/Iterable;Lkotlin/Function1;)J [not in the class]\n'))
+        self.assertEqual(said.splitlines()[1:], [
+            'sheet: functions and constructors by default: 4, of which 1 not in the class, 0 shared, 0 perhaps of another',
+            'sheet: functions and constructors by signature: 2, of which 0 not in the class, 0 shared, 0 perhaps of another',
+            'sheet: functions and constructors without a target: 1',
+            'sheet: fields, getters and setters by signature: 6, of which 0 not in the class, 0 shared, 0 perhaps of another'])
+
+    def test_output_that_cannot_be_written(self):
+        for words in (['read', 'examples'], ['read', '--json', 'examples'], ['check', 'examples'], ['--help']):
+            with open('/dev/full', 'wb') as full:
+                done = subprocess.run([SHEET, *words], cwd=ROOT, stdout=full, stderr=subprocess.PIPE)
+            self.assertEqual(done.returncode, 4, words)
+            self.assertRegex(LIBRARY.sub('', done.stderr.decode()), r'(?m)^sheet: the output cannot be written: No space left')
+            self.assertNotIn(b'Exception', done.stderr)
+
+    def test_closed_output(self):
+        done = subprocess.run(['sh', '-c', '"$0" read examples >&-', SHEET], cwd=ROOT, stderr=subprocess.PIPE)
+        self.assertEqual(done.returncode, 4)
+        self.assertIn(b'the output cannot be written', done.stderr)
+        reading, writing = os.pipe()
+        os.close(reading)
+        done = subprocess.run([SHEET, 'read', 'examples'], cwd=ROOT, stdout=writing, stderr=subprocess.PIPE)
+        os.close(writing)
+        self.assertEqual(done.returncode, 4)
+        self.assertNotIn(b'Exception', done.stderr)
+
+    def test_closed_messages(self):
+        done = subprocess.run(['sh', '-c', '"$0" read README.md 2>&-', SHEET], cwd=ROOT, stdout=subprocess.PIPE)
+        self.assertEqual((done.returncode, done.stdout), (1, b''))
+
+    def test_any_locale(self):
+        path = self.put('Named.class', made_class.class_file(made_class.package(made_class.field(3, b'\x10\0'), ['caf\u00e9\u001b[1m'])))
+        for locale in ('C', 'POSIX', 'C.UTF-8'):
+            done = subprocess.run([SHEET, 'read', path], stdout=subprocess.PIPE, env={**os.environ, 'LC_ALL': locale, 'PYTHONCOERCECLOCALE': '0', 'PYTHONUTF8': '0'})
+            self.assertEqual(done.returncode, 0)
+            self.assertIn('fun caf\u00e9\\u{1b}[1m()'.encode(), done.stdout)
+
+
+class Words(unittest.TestCase):
+    def test_flags(self):
+        """The bits of each flag, as Kotlin's own reader of metadata has them."""
+        self.words('head', {
+            6: 'public final class', 0x66: 'public abstract interface', 0x86: 'public final enum class', 0xc6: 'public final enum entry',
+            0x106: 'public final annotation class', 0x146: 'public final object', 0x186: 'public final companion object',
+            0x206: 'public final inner class', 0x406: 'public final data class', 0x806: 'public final external class',
+            0x1006: 'public final expect class', 0x2006: 'public final inline class', 0x36: 'public sealed class', 0x10: 'internal open class',
+            0x1c6: 'public final class of kind 7'})
+        self.words('constructor', {6: 'public', 2: 'private', 4: 'protected', 0x16: 'public secondary', 8: 'private to this', 10: 'local', 14: 'visibility 7'})
+        self.words('function', {
+            6: 'public final', 0x46: 'public final fake override', 0x86: 'public final delegation', 0xc6: 'public final synthesized',
+            0x106: 'public final operator', 0x206: 'public final infix', 0x406: 'public final inline', 0x806: 'public final tailrec',
+            0x1006: 'public final external', 0x2006: 'public final suspend', 0x4006: 'public final expect', 7: 'public final',
+            0x2500 | 0x26: 'public abstract suspend inline operator'})
+        self.words('property', {
+            6: 'public final val', 0x106: 'public final var', 0x806: 'public final const val', 0x1106: 'public final lateinit var',
+            0x4006: 'public final external val', 0x8006: 'public final delegated val', 0x10006: 'public final expect val', 0x2606: 'public final val'})
+
+    def test_the_manual_has_the_same_bits(self):
+        with open(os.path.join(ROOT, 'docs', 'MANUAL.md'), encoding='utf-8') as f:
+            rows = re.findall(r'^\| (\d+) \| ([\w ]*?) ?\| ([\w ]*?) ?\| ([\w ]*?) ?\| ([\w ]*?) ?\|$', f.read(), re.M)
+        tables = [flag_words.CLASS_BITS, flag_words.CONSTRUCTOR_BITS, flag_words.FUNCTION_BITS, [*flag_words.PROPERTY_BITS, (8, 'var')]]
+        told = [[(int(row[0]), row[at]) for row in rows if row[at] and not row[at].startswith('has ')] for at in range(1, 5)]
+        told[1].append((4, 'secondary'))
+        self.assertEqual(told, [sorted(table) for table in tables])
+
+    def words(self, record, table):
+        for flags, words in table.items():
+            self.assertEqual(' '.join(flag_words.words(record, flags)), words, (record, flags))
+
+
+if __name__ == '__main__':
+    unittest.main()
