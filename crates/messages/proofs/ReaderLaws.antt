@@ -38,11 +38,11 @@ use Rattle.wire.proofs.WalkLaws.{whole, field-inside, cut-end, cut-field, cut-r
 module _ (s : List ℕ) (at at′ : ℕ) where
   -- a reader that stands in its slice stays in it, and goes on where it reads
   pub varint-stays : (r : Varint) → VarintRead s at r at′ → at ≤ length s → (at ≤ at′) × (at′ ≤ length s)
-  varint-stays (varint.Read value next) h i = let p = varint-inside 0 s at (h .1 i) refl i in (omega (arith, h .0), omega (arith, h .0))
+  varint-stays (varint.Read value next) h i = let p = varint-inside 0 s at (h .1 .inside i) refl i in (omega (arith, h .0), omega (arith, h .0))
   varint-stays (varint.Refused error) h i = (omega (arith, h .0), omega (arith, h .0))
 
   pub delimited-stays : (r : Delimited) → DelimitedRead s at r at′ → at ≤ length s → at′ ≤ length s
-  delimited-stays (delimited.Body start end) h i = let p = h .1 i .2 in omega (arith, h .0)
+  delimited-stays (delimited.Body start end) h i = let p = h .1 .inside i .2 in omega (arith, h .0)
   delimited-stays (delimited.Refused error) h i = omega (arith, h .0)
 
   pub next-on : (n : ℕ) (v : WireValue) (next : ℕ) → NextRead s at (nextField.Field n v next) at′ → (at < at′) × (at′ ≤ length s)
@@ -85,5 +85,5 @@ module _ (s : List ℕ) where
       → SplitTold s (readDelimited (_from_ 0 s)) o
   opened-told at rest d o z h e =
       let k : DelimitedRead s 0 d rest = subst (λ (n : ℕ). DelimitedRead s n d rest) z h in
-      let t : DelimitedTold 0 s (readDelimited (_from_ 0 s)) d = subst (λ (p : Part). DelimitedTold 0 s (readDelimited p) d) (whole 0 s) (k .1 zero-le) in
+      let t : DelimitedTold 0 s (readDelimited (_from_ 0 s)) d = subst (λ (p : Part). DelimitedTold 0 s (readDelimited p) d) (whole 0 s) (k .1 .inside zero-le) in
       subst (SplitTold s (readDelimited (_from_ 0 s))) (sym e) (opened-by (readDelimited (_from_ 0 s)) d rest (k .0) t)

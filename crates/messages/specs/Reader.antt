@@ -7,8 +7,8 @@ use Prim.Native.Nat.{ℕ, _≤_, _<_}
 use lib.Dec.{leb}
 use lib.ListN.{length}
 use Rattle.foundation.specs.Results.{Res, ok, _>>=_, Part, Got, got}
-use Rattle.wire.specs.Wire.{readVarint, readDelimited, field, readField, Message}
-use Rattle.wire.specs.Told.{refusal, restOf, varintTold, bodyOf, DelimitedTold, valueOf, Inside}
+use Rattle.wire.specs.Wire.{field, readField, Message}
+use Rattle.wire.specs.Told.{refusal, restOf, VarintAt, bodyOf, DelimitedAt, valueOf, Inside}
 use Rattle.wire.specs.declared.WireError.{WireError}
 use Rattle.wire.specs.declared.WireValue.{WireValue}
 use Rattle.wire.specs.declared.Varint.{Varint}
@@ -39,10 +39,10 @@ afterNext at (nextField.Refused error) = at
 
 -- A reader that stood at `at` gave r and stands at at′.
 abbrev pub VarintRead : List ℕ → ℕ → Varint → ℕ → Type 0
-VarintRead s at r at′ = (at′ ≡ afterVarint at r) × (at ≤ length s → readVarint (restOf 0 s at) ≡ varintTold 0 s r)
+VarintRead s at r at′ = (at′ ≡ afterVarint at r) × VarintAt 0 s at r
 
 abbrev pub DelimitedRead : List ℕ → ℕ → Delimited → ℕ → Type 0
-DelimitedRead s at r at′ = (at′ ≡ afterDelimited at r) × (at ≤ length s → DelimitedTold 0 s (readDelimited (restOf 0 s at)) r)
+DelimitedRead s at r at′ = (at′ ≡ afterDelimited at r) × DelimitedAt 0 s at r
 
 -- the field at a place, or that none is left
 abbrev pub NextTold : ℕ → List ℕ → ℕ → NextField → Type 0

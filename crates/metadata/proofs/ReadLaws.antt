@@ -4,7 +4,7 @@ use mathlib.Core.Path.{_≡_, refl, ap, sym, subst, _∙_}
 use mathlib.Core.Bool.{Bool, true, false, _&&_, _||_}
 use mathlib.Core.List.{List, [], _∷_, _++_}
 use mathlib.Core.Option.{Option, none, some}
-use Prim.Native.Nat.{ℕ, _+_, _-_, _^_, _≤_, _<_, min}
+use Prim.Native.Nat.{ℕ, _+_, _-_, _*_, _^_, _≤_, _<_, min}
 use native.Mathlib.Omega.{arith}
 use borrow.Author.Tests.{ltb-false, leb-true, lt-ltb, le-ltb, eq-eqb}
 use lib.Dec.{eqb, leb, ltb}
@@ -17,6 +17,7 @@ use Rattle.foundation.specs.Results.{Res, Cause, d1TooLong, d2TooLong, stringEn
 use Rattle.foundation.proofs.ChoiceLaws.{if-ind, and-left, and-right}
 use Rattle.foundation.specs.Texts.{Text}
 use Rattle.encoding.specs.Encoding.{unitLimit}
+use Rattle.lookup.specs.Strings.{codesFrom}
 use Rattle.names.specs.Name.{nameText, absentName}
 use Rattle.names.specs.Names.{endsFit}
 use Rattle.names.specs.declared.name.Name.{Name}
@@ -203,3 +204,7 @@ module _ (kind : ℕ) (x : Res (Declarations × ℕ)) (room : Type 0) (y : Passe
 pub answer-is : (a : definition.Answer) (r : Outcome) (b : Answer) (S T : List ℕ) → a ≡ told r S T → b .number ≡ r .number → b .detail ≡ r .detail
     → b .sheet ≡ r .sheet → b .text ≡ r .text → b .types ≡ r .types → a ≡ toldBy b S T
 answer-is a r b S T e n d s t y = e ∙ rw (n, d, s, t, y)
+
+-- The notes of a frame are long enough for so many units of d1.
+pub notes-enough : (units words room : ℕ) {n : ℕ} → n ≡ words → codesFrom words ≡ room → 3 * units ≤ 2 * room → 3 * units ≤ 2 * codesFrom n
+notes-enough units words room e f h = subst (λ (k : ℕ). 3 * units ≤ 2 * codesFrom k) (sym e) (subst (λ (k : ℕ). 3 * units ≤ 2 * k) (sym f) h)

@@ -46,7 +46,7 @@ pub record Promised (i : Input) (a : Answer) : Type 0 where
   pub typesEntered : a .types + left ≡ allowance
   -- The refs on the sheet cut the whole text in order, each into well-formed UTF-8.
   pub textCut : CutInOrder WellFormed (textBytes a) 0 (a .textLength) (refsOf (sheetBytes a))
-  -- Neither is longer than an area that is always enough: 411,644 bytes for the sheet, 65,534 for the text.
+  -- Sheet and text are no longer than areas that are always enough: 411,644 bytes and 65,534.
   pub sheetShort : a .sheetLength ≤ longestSheet
   pub textShort : a .textLength ≤ textLimit
 

@@ -6,7 +6,7 @@ use Prim.Native.Nat.{ℕ, _+_, _-_, _*_, _^_, _≤_, _<_}
 use lib.ListN.{length, take, drop}
 use Rattle.foundation.specs.Results.{Res, ok, refused, _>>=_, Cause, varintCutShort, pastItsMessage, fieldTooLarge, wireType, oversizedVarint, Part, _from_, Got, got, mapGot}
 use Rattle.foundation.specs.Digits.{number}
-use Rattle.wire.specs.Wire.{Value, varint, fixed, body, Field, field, readVarint, Message, cut}
+use Rattle.wire.specs.Wire.{Value, varint, fixed, body, Field, field, readVarint, readDelimited, readField, Message, cut}
 use Rattle.wire.specs.Messages.{values}
 use Rattle.wire.specs.declared.WireError.{WireError}
 use Rattle.wire.specs.declared.WireError.the-variants.{VarintCutShort, OversizedVarint, PastItsMessage, FieldTooLarge, WireType}
@@ -51,6 +51,12 @@ abbrev pub varintTold : ℕ → List ℕ → Varint → Res (Got ℕ)
 varintTold base s (read.Read value next) = got value (restOf base s next)
 varintTold base s (read.Refused error) = refusal error
 
+-- The answer to a varint at a place: in the slice and at its end as the definition reads there. Past the end, where the definition has no byte to
+-- read either, it is refused as cut short, at the slice's end.
+pub record VarintAt (base : ℕ) (s : List ℕ) (at : ℕ) (r : Varint) : Type 0 where
+  pub inside : at ≤ length s → readVarint (restOf base s at) ≡ varintTold base s r
+  pub past : length s < at → r ≡ read.Refused (VarintCutShort (base + length s))
+
 -- the rest of a varint's groups, joined to what those before it gave, where the next one counts `scale`
 abbrev pub joinedTo : ℕ → ℕ → Res (Got (List ℕ)) → Res (Got ℕ)
 joinedTo value scale = mapGot (λ gs. value + scale * number 128 gs)
@@ -63,6 +69,11 @@ abbrev pub DelimitedTold : ℕ → List ℕ → Res (Got Part) → Delimited →
 DelimitedTold base s r (delimited.Body start end) =
     (r ≡ got (bodyOf base s start end) (restOf base s end)) × (start ≤ end) × (end ≤ length s) × (0 < start)
 DelimitedTold base s r (delimited.Refused error) = r ≡ refusal error
+
+-- the same of a length-delimited value
+pub record DelimitedAt (base : ℕ) (s : List ℕ) (at : ℕ) (r : Delimited) : Type 0 where
+  pub inside : at ≤ length s → DelimitedTold base s (readDelimited (restOf base s at)) r
+  pub past : length s < at → r ≡ delimited.Refused (VarintCutShort (base + length s))
 
 abbrev pub valueOf : ℕ → List ℕ → WireValue → Value
 valueOf base s (value.Varint n) = varint n
@@ -92,6 +103,11 @@ ValueTold base s r (valueStep.Refused error) = r ≡ refusal error
 abbrev pub FieldTold : ℕ → List ℕ → Res (Got Field) → FieldStep → Type 0
 FieldTold base s r (fieldStep.Field n v next) = (r ≡ got (field n (valueOf base s v)) (restOf base s next)) × Inside s v
 FieldTold base s r (fieldStep.Refused error) = r ≡ refusal error
+
+-- and of a field
+pub record FieldAt (base : ℕ) (s : List ℕ) (at : ℕ) (r : FieldStep) : Type 0 where
+  pub inside : at ≤ length s → FieldTold base s (readField (restOf base s at)) r
+  pub past : length s < at → r ≡ fieldStep.Refused (VarintCutShort (base + length s))
 
 -- What is read of a varint of one or two bytes at a place; one of no bytes says nothing.
 pub record ShortTold (s : List ℕ) (at : ℕ) (r : ShortVarint) : Type 0 where

@@ -6,8 +6,8 @@ ghost use Prim.Native.Nat.{ℕ, _+_, _^_, _≤_, _<_};
 ghost use lib.ListN.{length, take, drop};
 ghost use Rattle.foundation.specs.Results.{Res, Part, Got, got, mapGot};
 ghost use Rattle.foundation.specs.Digits.{number};
-ghost use Rattle.wire.specs.Wire.{groupsFrom, readVarint, readFixed, readDelimited, readValue, readField, varint, body};
-ghost use Rattle.wire.specs.Told.{restOf, numberOf, pieceOf, varintTold, joinedTo, DelimitedTold, ValueTold, FieldTold, ShortTold, ShortField, SkipTold};
+ghost use Rattle.wire.specs.Wire.{groupsFrom, readVarint, readFixed, readValue, readField, varint, body};
+ghost use Rattle.wire.specs.Told.{restOf, numberOf, pieceOf, varintTold, VarintAt, joinedTo, DelimitedTold, DelimitedAt, ValueTold, FieldTold, FieldAt, ShortTold, ShortField, SkipTold};
 
 // Why a part is refused, with the offset among the decoded bytes that is told.
 pub enum WireError {
@@ -87,9 +87,9 @@ fn long_varint_at(s: &[u8], base: u32, at: usize) -> Varint
     tenth_at(&*s, base, place, i, value)
 }
 
-// The varint at a place. Most have one byte. Of a place past the slice's end nothing is said.
+// The varint at a place. Most have one byte. Past the slice's end it is refused as cut short.
 pub fn varint_at(s: &[u8], base: u32, at: usize) -> Varint
-    ensures { λ r. ⌜ (at ≤ length (now (s .entry)) → readVarint (restOf base (now (s .entry)) at) ≡ varintTold base (now (s .entry)) r) ⌝ }
+    ensures { λ r. ⌜ VarintAt base (now (s .entry)) at r ⌝ }
 {
     if s.len() <= at {
         return Varint::Refused {
@@ -208,9 +208,9 @@ impl Varint {
     }
 }
 
-// A length as a varint and that many bytes; said of the same places.
+// A length as a varint and that many bytes; past the slice's end refused as its varint is.
 pub fn delimited_at(s: &[u8], base: u32, at: usize) -> Delimited
-    ensures { λ r. ⌜ (at ≤ length (now (s .entry)) → DelimitedTold base (now (s .entry)) (readDelimited (restOf base (now (s .entry)) at)) r) ⌝ }
+    ensures { λ r. ⌜ DelimitedAt base (now (s .entry)) at r ⌝ }
 {
     if s.len() <= at {
         return Delimited::Refused {
@@ -378,7 +378,7 @@ pub fn short_varint(s: &[u8], at: usize) -> ShortVarint
 
 // The field at a place, whatever bytes its tag has.
 fn long_field_at(s: &[u8], base: u32, at: usize) -> FieldStep
-    ensures { λ r. ⌜ (at ≤ length (now (s .entry)) → FieldTold base (now (s .entry)) (readField (restOf base (now (s .entry)) at)) r) ⌝ }
+    ensures { λ r. ⌜ FieldAt base (now (s .entry)) at r ⌝ }
 {
     if s.len() <= at {
         return FieldStep::Refused {
@@ -430,9 +430,9 @@ fn short_field_at(
     }
 }
 
-// The field at a place; said of the same places.
+// The field at a place; past the slice's end refused as its tag is.
 pub fn field_at(s: &[u8], base: u32, at: usize) -> FieldStep
-    ensures { λ r. ⌜ (at ≤ length (now (s .entry)) → FieldTold base (now (s .entry)) (readField (restOf base (now (s .entry)) at)) r) ⌝ }
+    ensures { λ r. ⌜ FieldAt base (now (s .entry)) at r ⌝ }
 {
     let tag = short_varint(&*s, at);
     if tag.size == 0 {

@@ -53,7 +53,7 @@ returns : tie.Need-returns Inv-loop μ-loop
 returns c =
     let a = c .before .before .before .before .before .before .before .before .args in
     let l = c .before .before .before .before .before .loop in
-    l .inv (checked.Refused (c .error .result)) (cut-refused (a .base) (a .s .now) (l .i) (c .before .before .before .field-at .ensures (omega arith)) (c .before .before .before .before .loop-test .taken) (c .before .enum-told .given .1) (c .error .ensures _ (c .before .enum-told .given .1)))
+    l .inv (checked.Refused (c .error .result)) (cut-refused (a .base) (a .s .now) (l .i) (c .before .before .before .field-at .ensures .inside (omega arith)) (c .before .before .before .before .loop-test .taken) (c .before .enum-told .given .1) (c .error .ensures _ (c .before .enum-told .given .1)))
 
 -- src/lib.rt:51:9
 skip-fields-requires-2 : tie.Need-skip-fields-requires-2 Inv-loop μ-loop
@@ -63,7 +63,7 @@ skip-fields-requires-2 c κs = search needs
 loop-less : tie.Need-loop-less Inv-loop μ-loop
 loop-less c =
     let a = c .before .before .before .before .before .before .before .before .before .args in
-    let h = field-inside (a .base) (a .s .now) (c .before .before .before .before .before .before .loop .i) (c .before .before .before .before .field-at .ensures (omega arith)) (omega arith) (c .before .before .step .given .1) in
+    let h = field-inside (a .base) (a .s .now) (c .before .before .before .before .before .before .loop .i) (c .before .before .before .before .field-at .ensures .inside (omega arith)) (omega arith) (c .before .before .step .given .1) in
     let f = c .skip-fields2 .ensures .later in
     omega arith
 
@@ -72,7 +72,7 @@ loop-again : tie.Need-loop-again Inv-loop μ-loop
 loop-again c =
     let a = c .before .before .before .before .before .before .before .before .before .args in
     let l = c .before .before .before .before .before .before .loop in
-    λ r h. l .inv r (checked-field (a .base) (a .s .now) (l .i) (c .before .before .before .before .field-at .ensures (omega arith)) (c .before .before .before .before .before .loop-test .taken) _ (c .before .before .step .given .1) r (skip-checked (a .base) (c .skip-fields2 .ensures) r h))
+    λ r h. l .inv r (checked-field (a .base) (a .s .now) (l .i) (c .before .before .before .before .field-at .ensures .inside (omega arith)) (c .before .before .before .before .before .loop-test .taken) _ (c .before .before .step .given .1) r (skip-checked (a .base) (c .skip-fields2 .ensures) r h))
 
 -- src/lib.rt:35:1
 returns-2 : tie.Need-returns-2 Inv-loop μ-loop

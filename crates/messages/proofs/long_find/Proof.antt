@@ -41,14 +41,14 @@ returns : tie.Need-returns Inv-loop μ-loop
 returns c =
     let a = c .before .before .before .before .before .before .args in
     let l = c .before .before .before .before .loop in
-    find-never (a .number) (a .base) (a .s .now) (a .at) (l .i) (l .inv) (c .before .before .field-at .ensures (omega arith)) (c .before .before .before .loop-test .taken) (c .enum-told .given .1)
+    find-never (a .number) (a .base) (a .s .now) (a .at) (l .i) (l .inv) (c .before .before .field-at .ensures .inside (omega arith)) (c .before .before .before .loop-test .taken) (c .enum-told .given .1)
 
 -- src/lib.rt:122:13
 returns-2 : tie.Need-returns-2 Inv-loop μ-loop
 returns-2 c =
     let a = c .before .before .before .before .before .before .before .before .args in
     let l = c .before .before .before .before .before .before .loop in
-    find-found (a .number) (a .base) (a .s .now) (a .at) (l .i) (l .inv) (c .before .before .before .before .field-at .ensures (omega arith)) (c .before .before .before .before .before .loop-test .taken) (c .before .before .step .given .1) (c .if1 .taken)
+    find-found (a .number) (a .base) (a .s .now) (a .at) (l .i) (l .inv) (c .before .before .before .before .field-at .ensures .inside (omega arith)) (c .before .before .before .before .before .loop-test .taken) (c .before .before .step .given .1) (c .if1 .taken)
 
 -- src/lib.rt:124:9
 skip-fields-requires : tie.Need-skip-fields-requires Inv-loop μ-loop
@@ -58,7 +58,7 @@ skip-fields-requires c κs = search needs
 loop-less : tie.Need-loop-less Inv-loop μ-loop
 loop-less c =
     let a = c .before .before .before .before .before .before .before .before .before .args in
-    let h = field-inside (a .base) (a .s .now) (c .before .before .before .before .before .before .before .loop .i) (c .before .before .before .before .before .field-at .ensures (omega arith)) (omega arith) (c .before .before .before .step .given .1) in
+    let h = field-inside (a .base) (a .s .now) (c .before .before .before .before .before .before .before .loop .i) (c .before .before .before .before .before .field-at .ensures .inside (omega arith)) (omega arith) (c .before .before .before .step .given .1) in
     let f = c .skip-fields .ensures .later in
     omega arith
 
@@ -67,7 +67,7 @@ loop-again : tie.Need-loop-again Inv-loop μ-loop
 loop-again c =
     let a = c .before .before .before .before .before .before .before .before .before .args in
     let l = c .before .before .before .before .before .before .before .loop in
-    occur-skipped (a .base) (c .skip-fields .ensures) (a .at) (find-passed (a .number) (a .base) (a .s .now) (a .at) (l .i) (l .inv) (c .before .before .before .before .before .field-at .ensures (omega arith)) (c .before .before .before .before .before .before .loop-test .taken) _ (c .before .before .before .step .given .1) (c .before .if1 .left))
+    occur-skipped (a .base) (c .skip-fields .ensures) (a .at) (find-passed (a .number) (a .base) (a .s .now) (a .at) (l .i) (l .inv) (c .before .before .before .before .before .field-at .ensures .inside (omega arith)) (c .before .before .before .before .before .before .loop-test .taken) _ (c .before .before .before .step .given .1) (c .before .if1 .left))
 
 -- src/lib.rt:107:1
 returns-3 : tie.Need-returns-3 Inv-loop μ-loop

@@ -42,7 +42,7 @@ returns : tie.Need-returns Inv-loop μ-loop
 returns c =
     let a = c .before .before .before .before .before .before .args in
     let l = c .before .before .before .before .loop in
-    bodies-never (a .number) (a .base) (a .s .now) (a .at) (l .i) (l .inv .1) (c .before .before .field-at .ensures (omega arith)) (c .before .before .before .loop-test .taken) (c .enum-told .given .1)
+    bodies-never (a .number) (a .base) (a .s .now) (a .at) (l .i) (l .inv .1) (c .before .before .field-at .ensures .inside (omega arith)) (c .before .before .before .loop-test .taken) (c .enum-told .given .1)
 
 -- src/lib.rt:317:13
 body-of-requires : tie.Need-body-of-requires Inv-loop μ-loop
@@ -60,7 +60,7 @@ returns-2 : tie.Need-returns-2 Inv-loop μ-loop
 returns-2 c =
     let a = c .before .before .before .before .before .before .before .before .before .before .args in
     let l = c .before .before .before .before .before .before .before .before .loop in
-    bodies-here (a .number) (a .base) (a .s .now) (a .at) (l .i) (l .inv .1) (c .before .before .before .before .before .before .field-at .ensures (omega arith)) (c .before .before .before .before .before .before .before .loop-test .taken) _ (c .before .before .before .before .step .given .1) (c .before .before .body-of .ensures) (l .inv .0) (c .enum-told3 .given .1)
+    bodies-here (a .number) (a .base) (a .s .now) (a .at) (l .i) (l .inv .1) (c .before .before .before .before .before .before .field-at .ensures .inside (omega arith)) (c .before .before .before .before .before .before .before .loop-test .taken) _ (c .before .before .before .before .step .given .1) (c .before .before .body-of .ensures) (l .inv .0) (c .enum-told3 .given .1)
 
 -- src/lib.rt:321:9
 skip-fields-requires : tie.Need-skip-fields-requires Inv-loop μ-loop
@@ -70,7 +70,7 @@ skip-fields-requires c κs = search needs
 loop-less : tie.Need-loop-less Inv-loop μ-loop
 loop-less c =
     let a = c .before .before .before .before .before .before .before .before .before .before .before .args in
-    let h = field-inside (a .base) (a .s .now) (c .before .before .before .before .before .before .before .before .before .loop .i) (c .before .before .before .before .before .before .before .field-at .ensures (omega arith)) (omega arith) (c .before .before .before .before .before .step .given .1) in
+    let h = field-inside (a .base) (a .s .now) (c .before .before .before .before .before .before .before .before .before .loop .i) (c .before .before .before .before .before .before .before .field-at .ensures .inside (omega arith)) (omega arith) (c .before .before .before .before .before .step .given .1) in
     let f = c .skip-fields .ensures .later in
     omega arith
 
@@ -79,9 +79,9 @@ loop-again : tie.Need-loop-again Inv-loop μ-loop
 loop-again c =
     let a = c .before .before .before .before .before .before .before .before .before .before .before .args in
     let l = c .before .before .before .before .before .before .before .before .before .loop in
-    let h = field-inside (a .base) (a .s .now) (l .i) (c .before .before .before .before .before .before .before .field-at .ensures (omega arith)) (omega arith) (c .before .before .before .before .before .step .given .1) in
+    let h = field-inside (a .base) (a .s .now) (l .i) (c .before .before .before .before .before .before .before .field-at .ensures .inside (omega arith)) (omega arith) (c .before .before .before .before .before .step .given .1) in
     let f = c .skip-fields .ensures .later in
-    (omega arith, bodies-skipped (a .base) (c .skip-fields .ensures) (a .at) (bodies-on (a .number) (a .base) (a .s .now) (a .at) (l .i) (l .inv .1) (c .before .before .before .before .before .before .before .field-at .ensures (omega arith)) (c .before .before .before .before .before .before .before .before .loop-test .taken) _ (c .before .before .before .before .before .step .given .1) (c .before .before .before .body-of .ensures) (c .before .enum-told2 .given .1)))
+    (omega arith, bodies-skipped (a .base) (c .skip-fields .ensures) (a .at) (bodies-on (a .number) (a .base) (a .s .now) (a .at) (l .i) (l .inv .1) (c .before .before .before .before .before .before .before .field-at .ensures .inside (omega arith)) (c .before .before .before .before .before .before .before .before .loop-test .taken) _ (c .before .before .before .before .before .step .given .1) (c .before .before .before .body-of .ensures) (c .before .enum-told2 .given .1)))
 
 -- src/lib.rt:303:1
 returns-3 : tie.Need-returns-3 Inv-loop μ-loop

@@ -1,9 +1,10 @@
+-- `wire::delimited_at` meets its contract.
+-- Assumes nothing.
+use mathlib.Core.Path.{refl}
 use native.Mathlib.Omega.{arith}
 use Rattle.wire.specs.Told.{restOf}
 use Rattle.wire.proofs.VarintLaws.{varint-past}
 use Rattle.wire.proofs.FieldLaws.{varint-refused, varint-inside, delimited-refused, delimited-past, delimited-there}
--- `wire::delimited_at` meets its contract.
--- Assumes nothing.
 use borrow.Author.Needs.{needs}
 use Rattle.wire.proofs.delimited_at.Statement.{statement}
 use Rattle.wire.proofs.delimited_at.Tie as tie
@@ -14,7 +15,7 @@ add-t12 c = search needs
 returns : tie.Need-returns
 returns c =
     let a = c .before .before .args in
-    λ h. delimited-refused (restOf (a .base) (a .s .now) (a .at)) (varint-past (a .base) (a .s .now) (a .at) (c .if1 .taken) h)
+    record { inside = λ h. delimited-refused (restOf (a .base) (a .s .now) (a .at)) (varint-past (a .base) (a .s .now) (a .at) (c .if1 .taken) h); past = λ h. refl }
 
 varint-at-requires : tie.Need-varint-at-requires
 varint-at-requires c κs = search needs
@@ -31,12 +32,12 @@ error-requires c κs = search needs
 returns-2 : tie.Need-returns-2
 returns-2 c =
     let a = c .before .before .before .before .before .before .args in
-    λ h. delimited-refused _ (varint-refused (a .base) (a .s .now) (a .at) (c .before .before .before .varint-at .ensures h) (c .before .enum-told .given .1) (c .error .ensures _ (c .before .enum-told .given .1)))
+    record { inside = λ h. delimited-refused _ (varint-refused (a .base) (a .s .now) (a .at) (c .before .before .before .varint-at .ensures .inside h) (c .before .enum-told .given .1) (c .error .ensures _ (c .before .enum-told .given .1))); past = λ h. absurd (omega arith) }
 
 sub-left : tie.Need-sub-left
 sub-left c =
     let a = c .before .before .before .before .before .before .args in
-    let h = varint-inside (a .base) (a .s .now) (a .at) (c .before .before .before .varint-at .ensures (omega arith)) (c .before .size .given .1) (omega arith) in
+    let h = varint-inside (a .base) (a .s .now) (a .at) (c .before .before .before .varint-at .ensures .inside (omega arith)) (c .before .size .given .1) (omega arith) in
     omega arith
 
 add-t19 : tie.Need-add-t19
@@ -45,7 +46,7 @@ add-t19 c = search needs
 returns-3 : tie.Need-returns-3
 returns-3 c =
     let a = c .before .before .before .before .before .before .before .args in
-    λ h. delimited-past (a .base) (a .s .now) (a .at) (c .before .before .before .before .varint-at .ensures h) (c .before .before .size .given .1) (c .if2 .taken)
+    record { inside = λ h. delimited-past (a .base) (a .s .now) (a .at) (c .before .before .before .before .varint-at .ensures .inside h) (c .before .before .size .given .1) (c .if2 .taken); past = λ h. absurd (omega arith) }
 
 add-t8 : tie.Need-add-t8
 add-t8 c = search needs
@@ -53,7 +54,9 @@ add-t8 c = search needs
 returns-4 : tie.Need-returns-4
 returns-4 c =
     let a = c .before .before .before .before .before .before .before .args in
-    λ h. let i = varint-inside (a .base) (a .s .now) (a .at) (c .before .before .before .before .varint-at .ensures h) (c .before .before .size .given .1) h in (delimited-there (a .base) (a .s .now) (a .at) (c .before .before .before .before .varint-at .ensures h) (c .before .before .size .given .1) (c .if2 .left), omega arith, omega arith, omega arith)
+    let told = c .before .before .before .before .varint-at .ensures .inside (omega arith) in
+    let i = varint-inside (a .base) (a .s .now) (a .at) told (c .before .before .size .given .1) (omega arith) in
+    record { inside = λ h. (delimited-there (a .base) (a .s .now) (a .at) told (c .before .before .size .given .1) (c .if2 .left), omega arith, omega arith, omega arith); past = λ h. absurd (omega arith) }
 
 pub delimited-at-spec : {M : Type 1} → statement M
 delimited-at-spec =

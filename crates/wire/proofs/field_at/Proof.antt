@@ -36,7 +36,7 @@ tagged-at-requires c κs = search needs
 
 -- src/lib.rt:402:9
 returns-2 : tie.Need-returns-2
-returns-2 c = λ h. c .tagged-at .ensures (c .before .before .before .before .before .before .before .short-varint .ensures .is (omega arith) (c .before .before .before .before .before .before .before .before .before .args .base))
+returns-2 c = record { inside = λ h. c .tagged-at .ensures (c .before .before .before .before .before .before .before .short-varint .ensures .is (omega arith) (c .before .before .before .before .before .before .before .before .before .args .base)); past = λ h. absurd (omega (arith, c .before .before .before .before .before .before .before .short-varint .ensures .fits)) }
 
 -- src/lib.rt:404:63
 add-short-field-at : tie.Need-add-short-field-at
@@ -48,7 +48,7 @@ short-field-at-requires c κs = short-field (c .before .before .before .before .
 
 -- src/lib.rt:392:1
 returns-3 : tie.Need-returns-3
-returns-3 c = λ h. c .short-field-at .ensures
+returns-3 c = record { inside = λ h. c .short-field-at .ensures; past = λ h. absurd (omega (arith, c .before .before .before .before .before .before .before .before .short-varint .ensures .fits)) }
 
 pub field-at-spec : {M : Type 1} → statement M
 field-at-spec =

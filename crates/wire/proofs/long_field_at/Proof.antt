@@ -1,3 +1,4 @@
+use mathlib.Core.Path.{refl}
 use native.Mathlib.Omega.{arith}
 use Rattle.wire.specs.Told.{restOf}
 use Rattle.wire.proofs.VarintLaws.{varint-past}
@@ -17,7 +18,7 @@ add-t11 c = search needs
 
 -- src/lib.rt:350:9
 returns : tie.Need-returns
-returns c = λ h. field-refused (restOf (c .before .before .args .base) (c .before .before .args .s .now) (c .before .before .args .at)) (varint-past (c .before .before .args .base) (c .before .before .args .s .now) (c .before .before .args .at) (c .if1 .taken) h)
+returns c = record { inside = λ h. field-refused (restOf (c .before .before .args .base) (c .before .before .args .s .now) (c .before .before .args .at)) (varint-past (c .before .before .args .base) (c .before .before .args .s .now) (c .before .before .args .at) (c .if1 .taken) h); past = λ h. refl }
 
 -- src/lib.rt:356:9
 long-varint-at-requires : tie.Need-long-varint-at-requires
@@ -37,7 +38,7 @@ error-requires c κs = search needs
 
 -- src/lib.rt:358:9
 returns-2 : tie.Need-returns-2
-returns-2 c = λ h. field-refused _ (varint-refused (c .before .before .before .before .before .before .args .base) (c .before .before .before .before .before .before .args .s .now) (c .before .before .before .before .before .before .args .at) (c .before .before .before .long-varint-at .ensures) (c .before .enum-told .given .1) (c .error .ensures _ (c .before .enum-told .given .1)))
+returns-2 c = record { inside = λ h. field-refused _ (varint-refused (c .before .before .before .before .before .before .args .base) (c .before .before .before .before .before .before .args .s .now) (c .before .before .before .before .before .before .args .at) (c .before .before .before .long-varint-at .ensures) (c .before .enum-told .given .1) (c .error .ensures _ (c .before .enum-told .given .1))); past = λ h. absurd (omega arith) }
 
 -- src/lib.rt:360:5
 tagged-at-requires : tie.Need-tagged-at-requires
@@ -45,7 +46,7 @@ tagged-at-requires c κs = let h = varint-inside (c .before .before .before .bef
 
 -- src/lib.rt:346:1
 returns-3 : tie.Need-returns-3
-returns-3 c = λ h. c .tagged-at .ensures (varint-is (c .before .before .before .before .before .before .before .args .base) (c .before .before .before .before .before .before .before .args .s .now) (c .before .before .before .before .before .before .before .args .at) (c .before .before .before .before .long-varint-at .ensures) (c .before .before .tag .given .1))
+returns-3 c = record { inside = λ h. c .tagged-at .ensures (varint-is (c .before .before .before .before .before .before .before .args .base) (c .before .before .before .before .before .before .before .args .s .now) (c .before .before .before .before .before .before .before .args .at) (c .before .before .before .before .long-varint-at .ensures) (c .before .before .tag .given .1)); past = λ h. absurd (omega arith) }
 
 pub long-field-at-spec : {M : Type 1} → statement M
 long-field-at-spec =

@@ -27,7 +27,7 @@ fixed-at-requires-2 c κs = search needs
 returns : tie.Need-returns
 returns c =
     let a = c .before .before .before .before .args in
-    value-told (a .base) (a .s .now) (c .varint-value .result) (value-varint _ (restOf (a .base) (a .s .now) (a .at)) (c .before .before .match .keys1)) (c .varint-value .ensures (a .base) (a .s .now) _ (c .before .varint-at .ensures (c .before .before .before .before .pre)))
+    value-told (a .base) (a .s .now) (c .varint-value .result) (value-varint _ (restOf (a .base) (a .s .now) (a .at)) (c .before .before .match .keys1)) (c .varint-value .ensures (a .base) (a .s .now) _ (c .before .varint-at .ensures .inside (c .before .before .before .before .pre)))
 
 returns-2 : tie.Need-returns-2
 returns-2 c =
@@ -37,7 +37,7 @@ returns-2 c =
 returns-3 : tie.Need-returns-3
 returns-3 c =
     let a = c .before .before .before .before .args in
-    value-told (a .base) (a .s .now) (c .body-value .result) (value-body _ (restOf (a .base) (a .s .now) (a .at)) (c .before .before .match .keys3)) (c .body-value .ensures (a .base) (a .s .now) _ (c .before .delimited-at .ensures (c .before .before .before .before .pre)))
+    value-told (a .base) (a .s .now) (c .body-value .result) (value-body _ (restOf (a .base) (a .s .now) (a .at)) (c .before .before .match .keys3)) (c .body-value .ensures (a .base) (a .s .now) _ (c .before .delimited-at .ensures .inside (c .before .before .before .before .pre)))
 
 returns-4 : tie.Need-returns-4
 returns-4 c =

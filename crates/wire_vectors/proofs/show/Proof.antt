@@ -65,7 +65,7 @@ print-value-requires c κs = search needs
 loop-less : tie.Need-loop-less Inv-loop μ-loop
 loop-less c =
     let a = c .before .before .before .before .before .before .before .before .before .before .before .before .before .before .before .before .args in
-    let h = field-inside (a .base) (a .s .now) (c .before .before .before .before .before .before .before .before .before .before .loop .at) (c .before .before .before .before .before .before .before .before .field-at .ensures (omega arith)) (omega arith) (c .before .before .before .before .step .given .1) in
+    let h = field-inside (a .base) (a .s .now) (c .before .before .before .before .before .before .before .before .before .before .loop .at) (c .before .before .before .before .before .before .before .before .field-at .ensures .inside (omega arith)) (omega arith) (c .before .before .before .before .step .given .1) in
     omega (arith, c .before .before .before .before .before .before .before .before .before .loop-test .taken)
 
 loop-again : tie.Need-loop-again Inv-loop μ-loop

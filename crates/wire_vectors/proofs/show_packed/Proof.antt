@@ -59,7 +59,7 @@ print-number-requires c κs = search needs
 loop-less : tie.Need-loop-less Inv-loop μ-loop
 loop-less c =
     let a = c .before .before .before .before .before .before .before .before .before .before .before .before .before .before .before .args in
-    let h = varint-inside (a .base) (a .s .now) (c .before .before .before .before .before .before .before .before .before .loop .at) (c .before .before .before .before .before .before .before .varint-at .ensures (omega arith)) (c .before .before .before .step .given .1) (omega arith) in
+    let h = varint-inside (a .base) (a .s .now) (c .before .before .before .before .before .before .before .before .before .loop .at) (c .before .before .before .before .before .before .before .varint-at .ensures .inside (omega arith)) (c .before .before .before .step .given .1) (omega arith) in
     omega (arith, c .before .before .before .before .before .before .before .before .loop-test .taken)
 
 loop-again : tie.Need-loop-again Inv-loop μ-loop

@@ -24,13 +24,13 @@ enum-known-step-2 c = search needs
 returns-2 : tie.Need-returns-2
 returns-2 c =
     let a = c .before .before .before .before .before .before .args in
-    let f = field-is (a .base) (a .s .now) (a .at) (c .before .before .before .field-at .ensures (omega arith)) (c .before .step .given .1) in
+    let f = field-is (a .base) (a .s .now) (a .at) (c .before .before .before .field-at .ensures .inside (omega arith)) (c .before .step .given .1) in
     (c .before .before .before .before .if1 .left, f .0, f .1)
 
 returns-3 : tie.Need-returns-3
 returns-3 c =
     let a = c .before .before .before .before .before .before .args in
-    (c .before .before .before .before .if1 .left, subst (FieldTold (a .base) (a .s .now) (readField (restOf (a .base) (a .s .now) (a .at)))) (c .before .step2 .given .1) (c .before .before .before .field-at .ensures (omega arith)))
+    (c .before .before .before .before .if1 .left, subst (FieldTold (a .base) (a .s .now) (readField (restOf (a .base) (a .s .now) (a .at)))) (c .before .step2 .given .1) (c .before .before .before .field-at .ensures .inside (omega arith)))
 
 pub next-at-spec : {M : Type 1} → statement M
 next-at-spec =

@@ -33,24 +33,24 @@ returns : tie.Need-returns Inv-loop μ-loop
 returns c =
     let a = c .before .before .before .before .before .before .args in
     let l = c .before .before .before .before .loop in
-    λ m w. pushing-never (a .number) (a .base) (a .s .now) (l .at) (l .two) (l .inv) (c .before .before .field-at .ensures (omega arith)) (c .before .before .before .loop-test .taken) (c .enum-told .given .1) m w
+    λ m w. pushing-never (a .number) (a .base) (a .s .now) (l .at) (l .two) (l .inv) (c .before .before .field-at .ensures .inside (omega arith)) (c .before .before .before .loop-test .taken) (c .enum-told .given .1) m w
 
 loop-less : tie.Need-loop-less Inv-loop μ-loop
 loop-less c =
     let a = c .before .before .before .before .before .before .before .before .args in
-    let h = field-inside (a .base) (a .s .now) (c .before .before .before .before .before .before .loop .at) (c .before .before .before .before .field-at .ensures (omega arith)) (omega arith) (c .before .before .step .given .1) in
+    let h = field-inside (a .base) (a .s .now) (c .before .before .before .before .before .before .loop .at) (c .before .before .before .before .field-at .ensures .inside (omega arith)) (omega arith) (c .before .before .step .given .1) in
     omega arith
 
 loop-again : tie.Need-loop-again Inv-loop μ-loop
 loop-again c =
     let a = c .before .before .before .before .before .before .before .before .args in
     let l = c .before .before .before .before .before .before .loop in
-    pushing-passed (a .number) (a .base) (a .s .now) (l .at) (l .two) (l .inv) (c .before .before .before .before .field-at .ensures (omega arith)) (c .before .before .before .before .before .loop-test .taken) _ (c .before .before .step .given .1) (c .if1 .taken)
+    pushing-passed (a .number) (a .base) (a .s .now) (l .at) (l .two) (l .inv) (c .before .before .before .before .field-at .ensures .inside (omega arith)) (c .before .before .before .before .before .loop-test .taken) _ (c .before .before .step .given .1) (c .if1 .taken)
 
 push-value-requires : tie.Need-push-value-requires Inv-loop μ-loop
 push-value-requires c κs =
     let a = c .before .before .before .before .before .before .before .before .args in
-    field-is (a .base) (a .s .now) (c .before .before .before .before .before .before .loop .at) (c .before .before .before .before .field-at .ensures (omega arith)) (c .before .before .step .given .1) .1
+    field-is (a .base) (a .s .now) (c .before .before .before .before .before .before .loop .at) (c .before .before .before .before .field-at .ensures .inside (omega arith)) (c .before .before .step .given .1) .1
 
 enum-known-pushed : tie.Need-enum-known-pushed Inv-loop μ-loop
 enum-known-pushed c = search needs
@@ -62,19 +62,19 @@ returns-2 : tie.Need-returns-2 Inv-loop μ-loop
 returns-2 c =
     let a = c .before .before .before .before .before .before .before .before .before .before .before .args in
     let l = c .before .before .before .before .before .before .before .before .before .loop in
-    pushing-refused (a .number) (a .base) (a .s .now) (l .at) (l .two) (l .inv) (c .before .before .before .before .before .before .before .field-at .ensures (omega arith)) (c .before .before .before .before .before .before .before .before .loop-test .taken) _ (c .before .before .before .before .before .step .given .1) (c .before .before .before .if1 .left) (c .before .before .push-value .ensures) (c .enum-told2 .given .1)
+    pushing-refused (a .number) (a .base) (a .s .now) (l .at) (l .two) (l .inv) (c .before .before .before .before .before .before .before .field-at .ensures .inside (omega arith)) (c .before .before .before .before .before .before .before .before .loop-test .taken) _ (c .before .before .before .before .before .step .given .1) (c .before .before .before .if1 .left) (c .before .before .push-value .ensures) (c .enum-told2 .given .1)
 
 loop-less-2 : tie.Need-loop-less-2 Inv-loop μ-loop
 loop-less-2 c =
     let a = c .before .before .before .before .before .before .before .before .before .before .before .before .args in
-    let h = field-inside (a .base) (a .s .now) (c .before .before .before .before .before .before .before .before .before .before .loop .at) (c .before .before .before .before .before .before .before .before .field-at .ensures (omega arith)) (omega arith) (c .before .before .before .before .before .before .step .given .1) in
+    let h = field-inside (a .base) (a .s .now) (c .before .before .before .before .before .before .before .before .before .before .loop .at) (c .before .before .before .before .before .before .before .before .field-at .ensures .inside (omega arith)) (omega arith) (c .before .before .before .before .before .before .step .given .1) in
     omega arith
 
 loop-again-2 : tie.Need-loop-again-2 Inv-loop μ-loop
 loop-again-2 c =
     let a = c .before .before .before .before .before .before .before .before .before .before .before .before .args in
     let l = c .before .before .before .before .before .before .before .before .before .before .loop in
-    pushing-next (a .number) (a .base) (a .s .now) (l .at) (l .two) (l .inv) (c .before .before .before .before .before .before .before .before .field-at .ensures (omega arith)) (c .before .before .before .before .before .before .before .before .before .loop-test .taken) _ (c .before .before .before .before .before .before .step .given .1) (c .before .before .before .before .if1 .left) (c .before .before .before .push-value .ensures) (c .before .pushed .given .1)
+    pushing-next (a .number) (a .base) (a .s .now) (l .at) (l .two) (l .inv) (c .before .before .before .before .before .before .before .before .field-at .ensures .inside (omega arith)) (c .before .before .before .before .before .before .before .before .before .loop-test .taken) _ (c .before .before .before .before .before .before .step .given .1) (c .before .before .before .before .if1 .left) (c .before .before .before .push-value .ensures) (c .before .pushed .given .1)
 
 returns-3 : tie.Need-returns-3 Inv-loop μ-loop
 returns-3 c =

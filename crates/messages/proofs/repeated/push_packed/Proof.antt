@@ -39,7 +39,7 @@ returns : tie.Need-returns Inv-loop μ-loop
 returns c =
     let a = c .before .before .before .before .before .before .before .args in
     let l = c .before .before .before .before .before .loop in
-    l .inv ∙ run-refused (a .base) (a .s .now) (l .i) _ (c .before .before .before .varint-at .ensures (omega arith)) (c .before .before .before .before .loop-test .taken) (c .before .enum-told .given .1) (c .error .ensures _ (c .before .enum-told .given .1))
+    l .inv ∙ run-refused (a .base) (a .s .now) (l .i) _ (c .before .before .before .varint-at .ensures .inside (omega arith)) (c .before .before .before .before .loop-test .taken) (c .before .enum-told .given .1) (c .error .ensures _ (c .before .enum-told .given .1))
 
 push-requires : tie.Need-push-requires Inv-loop μ-loop
 push-requires c κs = search needs
@@ -47,14 +47,14 @@ push-requires c κs = search needs
 loop-less : tie.Need-loop-less Inv-loop μ-loop
 loop-less c =
     let a = c .before .before .before .before .before .before .before .before .args in
-    let h = varint-inside (a .base) (a .s .now) (c .before .before .before .before .before .before .loop .i) (c .before .before .before .before .varint-at .ensures (omega arith)) (c .before .before .step .given .1) (omega arith) in
+    let h = varint-inside (a .base) (a .s .now) (c .before .before .before .before .before .before .loop .i) (c .before .before .before .before .varint-at .ensures .inside (omega arith)) (c .before .before .step .given .1) (omega arith) in
     omega arith
 
 loop-again : tie.Need-loop-again Inv-loop μ-loop
 loop-again c =
     let a = c .before .before .before .before .before .before .before .before .args in
     let l = c .before .before .before .before .before .before .loop in
-    l .inv ∙ run-next (a .base) (a .s .now) (l .i) _ (c .before .before .before .before .varint-at .ensures (omega arith)) (c .before .before .before .before .before .loop-test .taken) _ (c .before .before .step .given .1) ∙ ap (λ (t : Two). pushedTo t (packed (restOf (a .base) (a .s .now) (c .before .before .step .given .0 .1 .0)))) (sym (c .push .ensures))
+    l .inv ∙ run-next (a .base) (a .s .now) (l .i) _ (c .before .before .before .before .varint-at .ensures .inside (omega arith)) (c .before .before .before .before .before .loop-test .taken) _ (c .before .before .step .given .1) ∙ ap (λ (t : Two). pushedTo t (packed (restOf (a .base) (a .s .now) (c .before .before .step .given .0 .1 .0)))) (sym (c .push .ensures))
 
 returns-2 : tie.Need-returns-2 Inv-loop μ-loop
 returns-2 c =

@@ -35,7 +35,7 @@ enum-told c = search needs
 
 -- src/records.rt:96:13
 returns : tie.Need-returns Inv-loop μ-loop
-returns c = all-never (c .before .before .before .before .before .before .args .base) (c .before .before .before .before .before .before .args .s .now) (c .before .before .before .before .loop .at) (c .before .before .before .before .loop .firsts) (c .before .before .before .before .loop .inv) (c .before .before .field-at .ensures (omega arith)) (c .before .before .before .loop-test .taken) (c .enum-told .given .1)
+returns c = all-never (c .before .before .before .before .before .before .args .base) (c .before .before .before .before .before .before .args .s .now) (c .before .before .before .before .loop .at) (c .before .before .before .before .loop .firsts) (c .before .before .before .before .loop .inv) (c .before .before .field-at .ensures .inside (omega arith)) (c .before .before .before .loop-test .taken) (c .enum-told .given .1)
 
 -- src/records.rt:98:9
 with-field-requires : tie.Need-with-field-requires Inv-loop μ-loop
@@ -43,11 +43,11 @@ with-field-requires c κs = search needs
 
 -- src/records.rt:88:5
 loop-less : tie.Need-loop-less Inv-loop μ-loop
-loop-less c = let h = field-inside (c .before .before .before .before .before .before .before .before .args .base) (c .before .before .before .before .before .before .before .before .args .s .now) (c .before .before .before .before .before .before .loop .at) (c .before .before .before .before .field-at .ensures (omega arith)) (omega arith) (c .before .before .step .given .1) in omega arith
+loop-less c = let h = field-inside (c .before .before .before .before .before .before .before .before .args .base) (c .before .before .before .before .before .before .before .before .args .s .now) (c .before .before .before .before .before .before .loop .at) (c .before .before .before .before .field-at .ensures .inside (omega arith)) (omega arith) (c .before .before .step .given .1) in omega arith
 
 -- src/records.rt:88:5
 loop-again : tie.Need-loop-again Inv-loop μ-loop
-loop-again c = all-next (c .before .before .before .before .before .before .before .before .args .base) (c .before .before .before .before .before .before .before .before .args .s .now) (c .before .before .before .before .before .before .loop .at) (c .before .before .before .before .before .before .loop .firsts) (c .before .before .before .before .before .before .loop .inv) (c .before .before .before .before .field-at .ensures (omega arith)) (c .before .before .before .before .before .loop-test .taken) _ (c .before .before .step .given .1) (c .with-field .ensures)
+loop-again c = all-next (c .before .before .before .before .before .before .before .before .args .base) (c .before .before .before .before .before .before .before .before .args .s .now) (c .before .before .before .before .before .before .loop .at) (c .before .before .before .before .before .before .loop .firsts) (c .before .before .before .before .before .before .loop .inv) (c .before .before .before .before .field-at .ensures .inside (omega arith)) (c .before .before .before .before .before .loop-test .taken) _ (c .before .before .step .given .1) (c .with-field .ensures)
 
 -- src/records.rt:76:1
 returns-2 : tie.Need-returns-2 Inv-loop μ-loop

@@ -1,14 +1,12 @@
 -- `WireReader::delimited` meets its contract: it is a reading by `delimited_at` and `after_delimited` (Stepped.antt).
 -- Assumes nothing.
 use mathlib.Core.List.{List}
-use Prim.Native.Nat.{ℕ, _≤_}
-use lib.ListN.{length}
+use Prim.Native.Nat.{ℕ}
 use contract.Running.{givenOf, tables, tablesOf}
 use denote.Enum.Laws as EL
 use denote.Triple.Spec.{tripleOf}
 use denote.Triple.Table.{entered, cited}
-use Rattle.wire.specs.Wire.{readDelimited}
-use Rattle.wire.specs.Told.{restOf, DelimitedTold}
+use Rattle.wire.specs.Told.{DelimitedAt}
 use Rattle.messages.specs.Reader.{afterDelimited}
 use Rattle.wire.specs.declared.Delimited.{Delimited}
 use Rattle.wire.proofs.Delimited as S
@@ -24,7 +22,7 @@ use Rattle.messages.proofs.reader.WireReader.delimited.Statement.{state
 use Rattle.messages.proofs.reader.WireReader.delimited.Code as code
 
 abbrev Told : List ℕ → ℕ → ℕ → Delimited → Type 0
-Told s base at r = at ≤ length s → DelimitedTold base s (readDelimited (restOf base s at)) r
+Told s base at r = DelimitedAt base s at r
 
 pub delimited-spec : {M : Type 1} → statement M
 unfolding code.routine tablesOf

@@ -1,15 +1,12 @@
 -- `WireReader::varint` meets its contract: it is a reading by `varint_at` and `after_varint` (Stepped.antt).
 -- Assumes nothing.
-use mathlib.Core.Path.{_≡_}
 use mathlib.Core.List.{List}
-use Prim.Native.Nat.{ℕ, _≤_}
-use lib.ListN.{length}
+use Prim.Native.Nat.{ℕ}
 use contract.Running.{givenOf, tables, tablesOf}
 use denote.Enum.Laws as EL
 use denote.Triple.Spec.{tripleOf}
 use denote.Triple.Table.{entered, cited}
-use Rattle.wire.specs.Wire.{readVarint}
-use Rattle.wire.specs.Told.{restOf, varintTold}
+use Rattle.wire.specs.Told.{VarintAt}
 use Rattle.messages.specs.Reader.{afterVarint}
 use Rattle.wire.specs.declared.Varint.{Varint}
 use Rattle.wire.proofs.Varint as S
@@ -25,7 +22,7 @@ use Rattle.messages.proofs.reader.WireReader.varint.Statement.{statemen
 use Rattle.messages.proofs.reader.WireReader.varint.Code as code
 
 abbrev Told : List ℕ → ℕ → ℕ → Varint → Type 0
-Told s base at r = at ≤ length s → readVarint (restOf base s at) ≡ varintTold base s r
+Told s base at r = VarintAt base s at r
 
 pub varint-spec : {M : Type 1} → statement M
 unfolding code.routine tablesOf
