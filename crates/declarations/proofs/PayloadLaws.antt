@@ -9,8 +9,8 @@ use native.Mathlib.Nat.{zero-add}
 use native.Mathlib.Omega.{arith}
 use borrow.Rule.Slice.PartMut.{putMid, midOf, postOf, post-is, take-put, same-len-mid}
 use lib.Dec.{eqb}
-use lib.ListN.{length, take, drop, length-take, length-drop}
-use lib.Seq.{length-take-le, drop-append-seam, drop-length}
+use lib.ListN.{length, take, drop, getD, length-take, length-drop}
+use lib.Seq.{length-take-le, drop-append-seam, drop-length, getD-take, getD-drop, take-take, take-append-seam}
 use Rattle.foundation.specs.Results as Results
 use Rattle.foundation.specs.Results.{Res, ok, refused, _from_, got}
 use Rattle.foundation.specs.Texts.{Text}
@@ -27,13 +27,16 @@ use Rattle.messages.specs.declared.Checked.{Checked}
 use Rattle.messages.specs.declared.Checked.the-variants as checked
 use Rattle.messages.proofs.BodyLaws.{part-is}
 use Rattle.names.specs.Records.{Record}
-use Rattle.names.specs.Names.{Names}
+use Rattle.names.specs.Names.{Names, endsFit}
 use Rattle.names.specs.Index.{IndexOf, IndexTold}
 use Rattle.names.specs.declared.records.RecordIndex.{RecordIndex}
 use Rattle.names.specs.declared.records.RecordIndex.the-variants as records
 use Rattle.lookup.specs.Lookups.{NotesOf}
+use Rattle.lookup.specs.Strings.{codesFrom, sizesFrom, Keeps, SizesOf}
 use Rattle.lookup.proofs.LookupLaws.{index-longer}
 use Rattle.lookup.proofs.ResolveLaws.{notes-kept}
+use Rattle.lookup.proofs.StringLaws.{codes-inside, codes-before, keeps-less}
+use Rattle.foundation.proofs.PresenceLaws.{elem-below}
 use Rattle.schema.specs.Reading.{TypeTable, scope, allowance}
 use Rattle.schema.specs.Types.{typeTableIn}
 use Rattle.schema.specs.Members.{afterTable, bodyIn}
@@ -41,7 +44,9 @@ use Rattle.schema.specs.TableTold.{TypeIndexTold}
 use Rattle.schema.specs.declared.table.TypeIndex.{TypeIndex}
 use Rattle.schema.specs.declared.table.TypeIndex.the-variants as types
 use Rattle.declarations.specs.Payload.{bodyOf, payload}
-use Rattle.declarations.specs.PayloadTold.{bodyFrom, BodyAt, BodyOpened, NotedOpened, OpenedTold}
+use Rattle.declarations.specs.PayloadTold.{bodyFrom, BodyAt, BodyOpened, NotedOpened, OpenedAt, OpenedTold, LentTold}
+use Rattle.schema.specs.Told.{EntriesOf}
+use Rattle.schema.specs.declared.Tables.{Tables}
 use Rattle.declarations.specs.declared.payload.Opened.{Opened}
 use Rattle.declarations.specs.declared.payload.Opened.the-variants as opened
 use Rattle.declarations.proofs.RoomLaws.{bodies-few, inner-few, records-many}
@@ -114,14 +119,14 @@ put-back l part n h =
 
 -- The notes of the body's type table stand after those of the records, which they leave as they are.
 pub noted-then : (bytes : List ℕ) (rest count : ℕ) (before worked : List ℕ)
-    → ((rs : List Record) → length bytes < 2 ^ 32 → IndexOf bytes before count rs → NotesOf bytes worked count rs) → 3 * count ≤ length worked
+    → ((rs : List Record) → length bytes < 65536 → IndexOf bytes before count rs → NotesOf bytes worked count rs) → 3 * count ≤ length worked
     → (part : List ℕ) → length part ≡ length (midOf (3 * count) (length worked - 3 * count) worked) → (r : Opened) → BodyOpened bytes rest count part r
     → NotedOpened bytes rest count before (putMid (3 * count) (length worked - 3 * count) worked part) r
 noted-then bytes rest count before worked u h part same r t =
     let n = 3 * count in record {
       names = λ rs l i.
           notes-kept bytes worked (putMid n (length worked - n) worked part) count rs (sym (take-put n (length worked - n) worked part h))
-          (same-len-mid n (length worked - n) worked part same) (u rs l i);
+          (let z = same-len-mid n (length worked - n) worked part same in omega arith) (u rs l i);
       body = subst (λ (x : List ℕ). BodyOpened bytes rest count x r) (sym (put-back worked part n h)) t;
     }
 
@@ -183,7 +188,7 @@ module _ (bytes : List ℕ) (start end rest : ℕ) (o : start ≤ end) (i : end 
       count-few = omega (arith, few, indexed e .2 .sums .many, records-many (table .0) (indexed e .1))
 
       pub opened-then : Delimited → (after : List ℕ) → length after ≡ length before → (y : Opened) → NotedOpened bytes rest count before after y
-          → length bytes < 2 ^ 32 → OpenedTold bytes after y
+          → length bytes < 65536 → OpenedTold bytes after y
       opened-then d after l (opened.Body at tables) w s =
           let p = w .body .0 in
           let q = w .body .1 in
@@ -217,3 +222,78 @@ payload-parts bytes x t g =
 
 pub payload-too-long : (bytes notes : List ℕ) → 4294967295 < length bytes → OpenedTold bytes notes opened.NoRoom
 payload-too-long bytes notes h room = omega (arith, room .short)
+
+-- What is lent besides stands after the notes of both tables.
+elem-kept : (a b : List ℕ) (k : ℕ) → take (length a) b ≡ a → k < length a → getD b k 0 ≡ getD a k 0
+elem-kept a b k e h = sym (getD-take (length a) b k 0 h) ∙ ap (λ (l : List ℕ). getD l k 0) e
+
+entries-longer : (bytes a b : List ℕ) (n count : ℕ) (types : List Message) → take (length a) b ≡ a → EntriesOf bytes (drop n a) count types → EntriesOf bytes (drop n b) count types
+entries-longer bytes a b n count types e t = record {
+  many = t .many;
+  long = let l = ap length e in omega (arith, t .long, length-drop n a, length-drop n b, length-take (length a) b);
+  each = λ i m q.
+      let h = elem-below types i q in
+      let l = length-drop n a in
+      let s : getD (drop n b) i 0 ≡ getD (drop n a) i 0 = getD-drop n b i 0 ∙ elem-kept a b (n + i) e (omega (arith, t .many, t .long)) ∙ sym (getD-drop n a i 0) in
+      rw s (t .each i m q);
+}
+
+opened-longer : (bytes a b : List ℕ) (at : ℕ) (tables : Tables) → take (length a) b ≡ a → OpenedAt bytes a at tables → OpenedAt bytes b at tables
+opened-longer bytes a b at tables e o = record {
+  inside = o .inside;
+  is = record {
+    body = o .is .body;
+    cuts = o .is .cuts;
+    table = o .is .table;
+    reads = o .is .reads;
+    noted = entries-longer bytes a b (3 * tables .records) (tables .types) (o .is .table .types) e (o .is .noted);
+    nullable = o .is .nullable;
+  };
+  records = o .records;
+  names =
+      let n = 3 * tables .records in
+      let h = o .names .sums .long in
+      let l = ap length e in
+      notes-kept bytes a b (tables .records) (o .records) (ap (take n) (sym e) ∙ take-take n (length a) b h) (omega (arith, length-take (length a) b)) (o .names);
+  opens = o .opens;
+}
+
+-- The tables' part opened, then codes and sizes noted after it.
+module _ (bytes d2 ends notes : List ℕ) (limit : ℕ) (c : limit ≡ codesFrom (length notes)) (part : List ℕ)
+    (l : length part ≡ length (midOf 0 limit notes)) (r : Opened) (t : OpenedTold bytes part r) where
+  opened-length : length part ≡ limit
+  opened-length = let i = codes-inside (length notes) c in l ∙ rw length-take (omega arith)
+
+  pub lent-body : {at : ℕ} {tables : Tables} → r ≡ opened.Body at tables → (coded sized : List ℕ)
+      → Keeps (codesFrom (length (putMid 0 limit notes part))) (putMid 0 limit notes part) coded
+      → Keeps (sizesFrom (length coded)) coded sized → (endsFit 0 ends (length d2) ≡ true → SizesOf d2 ends sized)
+      → LentTold bytes d2 ends sized (opened.Body at tables)
+  lent-body {at} {tables} e coded sized k m s = record {
+    opened = opened-longer bytes part sized at tables kept (subst (OpenedTold bytes part) e t);
+    sizes = s;
+  }
+    where
+      whole : length (putMid 0 limit notes part) ≡ length notes
+      whole = same-len-mid 0 limit notes part l
+
+      codes : Keeps limit (putMid 0 limit notes part) coded
+      codes = subst (λ (n : ℕ). Keeps n (putMid 0 limit notes part) coded) (ap codesFrom whole ∙ sym c) k
+
+      sizes-after : limit ≤ sizesFrom (length coded)
+      sizes-after = subst (λ (n : ℕ). n ≤ sizesFrom (length coded)) (ap codesFrom (k .long ∙ whole) ∙ sym c) (codes-before (length coded))
+
+      kept : take (length part) sized ≡ part
+      kept =
+          ap (λ (n : ℕ). take n sized) opened-length
+          ∙ keeps-less sizes-after m .first
+          ∙ codes .first
+          ∙ ap (λ (n : ℕ). take n (part ++ postOf 0 limit notes)) (sym opened-length)
+          ∙ take-append-seam part (postOf 0 limit notes)
+
+  pub lent-refused : {error : WireError} (after : List ℕ) → r ≡ opened.Refused error → LentTold bytes d2 ends after (opened.Refused error)
+  lent-refused after e = subst (OpenedTold bytes part) e t
+
+  pub lent-no-room : r ≡ opened.NoRoom → LentTold bytes d2 ends (putMid 0 limit notes part) opened.NoRoom
+  lent-no-room e room =
+      let z : codesFrom (length (putMid 0 limit notes part)) ≡ limit = ap codesFrom (same-len-mid 0 limit notes part l) ∙ sym c in
+      subst (OpenedTold bytes part) e t (record { short = room .short; long = subst (λ (n : ℕ). 3 * length bytes ≤ 2 * n) (z ∙ sym opened-length) (room .long) })

@@ -13,9 +13,11 @@ use Rattle.wire.specs.Wire.{Message, cut}
 use Rattle.wire.specs.Messages.{as32}
 use Rattle.wire.specs.Told as wire
 use Rattle.names.specs.Records.{Record}
-use Rattle.names.specs.Names.{Names}
+use mathlib.Core.Bool.{true}
+use Rattle.names.specs.Names.{Names, endsFit}
 use Rattle.names.specs.Index.{IndexOf}
 use Rattle.lookup.specs.Lookups.{NotesOf}
+use Rattle.lookup.specs.Strings.{codesFrom, SizesOf}
 use Rattle.declaration_rows.specs.Declarations.{Declarations}
 use Rattle.schema.specs.Reading.{TypeTable, allowance}
 use Rattle.schema.specs.Types.{typeTableIn}
@@ -51,7 +53,7 @@ BodyOpened bytes at records entries opened.NoRoom = BodyRoom bytes at entries �
 
 -- The same after the records, which are worked out before.
 pub record NotedOpened (bytes : List ℕ) (at records : ℕ) (before after : List ℕ) (r : Opened) : Type 0 where
-  pub names : (rs : List Record) → length bytes < 2 ^ 32 → IndexOf bytes before records rs → NotesOf bytes after records rs
+  pub names : (rs : List Record) → length bytes < 65536 → IndexOf bytes before records rs → NotesOf bytes after records rs
   pub body : BodyOpened bytes at records (drop (3 * records) after) r
 
 -- The decoded bytes are opened: what is noted of the name table's records is lent besides.
@@ -62,12 +64,27 @@ pub record OpenedAt (bytes notes : List ℕ) (at : ℕ) (tables : Tables) : Type
   pub names : NotesOf bytes notes (tables .records) records
   pub opens : (kind : ℕ) (d2 : ℕ → Res (Option Text)) → payload kind d2 bytes ≡ bodyFrom kind (record { records = records; d2 = d2 }) bytes at
 
--- Room for the notes of both tables: a record takes two bytes at least and three words, an entry two bytes and one word.
+-- Room for the notes of both tables, in which a place has 16 bits: a record takes two bytes at least and three words, an entry two bytes and one word.
 pub record NotesRoom (bytes notes : List ℕ) : Type 0 where
-  pub short : length bytes < 2 ^ 32
+  pub short : length bytes < 65536
   pub long : 3 * length bytes ≤ 2 * length notes
 
 abbrev pub OpenedTold : List ℕ → List ℕ → Opened → Type 0
 OpenedTold bytes notes (opened.Body at tables) = OpenedAt bytes notes at tables
 OpenedTold bytes notes (opened.Refused error) = (kind : ℕ) (d2 : ℕ → Res (Option Text)) → payload kind d2 bytes ≡ wire.refusal error
 OpenedTold bytes notes opened.NoRoom = NotesRoom bytes notes → ⊥
+
+-- All that a reader is lent of the decoded bytes: their tables, and after these the sizes of d2's long strings.
+pub record LentAt (bytes d2 ends notes : List ℕ) (at : ℕ) (tables : Tables) : Type 0 where
+  pub opened : OpenedAt bytes notes at tables
+  pub sizes : endsFit 0 ends (length d2) ≡ true → SizesOf d2 ends notes
+
+-- room for it
+pub record LentRoom (bytes notes : List ℕ) : Type 0 where
+  pub short : length bytes < 65536
+  pub long : 3 * length bytes ≤ 2 * codesFrom (length notes)
+
+abbrev pub LentTold : List ℕ → List ℕ → List ℕ → List ℕ → Opened → Type 0
+LentTold bytes d2 ends notes (opened.Body at tables) = LentAt bytes d2 ends notes at tables
+LentTold bytes d2 ends notes (opened.Refused error) = (kind : ℕ) (strings : ℕ → Res (Option Text)) → payload kind strings bytes ≡ wire.refusal error
+LentTold bytes d2 ends notes opened.NoRoom = LentRoom bytes notes → ⊥

@@ -1,14 +1,17 @@
 // The decoded bytes opened: a length-delimited name table, its records noted, then the body and its type table. The definition:
 // specs/Payload.antt, `payload`; what the answers tell: specs/PayloadTold.antt.
 ghost use mathlib.Core.Path.{_≡_};
-ghost use Prim.Native.Nat.{_*_, _^_, _≤_, _<_};
+ghost use Prim.Native.Nat.{_*_, _≤_, _<_};
 ghost use lib.ListN.{length};
 ghost use Rattle.foundation.specs.Results.{_from_, got};
 ghost use Rattle.wire.specs.Wire.{readDelimited};
 ghost use Rattle.wire.specs.Told.{bodyOf, restOf};
-ghost use Rattle.declarations.specs.PayloadTold.{BodyOpened, NotedOpened, OpenedTold};
+ghost use Rattle.declarations.specs.PayloadTold.{BodyOpened, NotedOpened, OpenedTold, LentTold};
 use fields::CLASS_TYPE_TABLE;
+use lookup::codes::codes_from;
+use lookup::codes::note_codes;
 use lookup::resolve::resolve;
+use lookup::strings::note_strings;
 use messages::Checked;
 use messages::check_from;
 use names::records::RECORD_WORDS;
@@ -62,7 +65,7 @@ fn open_noted(bytes: &[u8], rest: usize, count: usize, notes: &mut [u64]) -> Ope
 
 // The name table from a place to another is cut and its records noted; then the body from `rest` on.
 fn open_table(bytes: &[u8], start: usize, end: usize, rest: usize, notes: &mut [u64]) -> Opened
-    requires { ⌜ (start ≤ end) × (end ≤ rest) × (rest ≤ length (now bytes)) × (length (now bytes) < 2 ^ 32) ⌝ }
+    requires { ⌜ (start ≤ end) × (end ≤ rest) × (rest ≤ length (now bytes)) × (length (now bytes) < 65536) ⌝ }
     ensures { λ r. ⌜ (readDelimited (_from_ 0 (now (bytes .entry))) ≡ got (bodyOf 0 (now (bytes .entry)) start end) (restOf 0 (now (bytes .entry)) rest) → OpenedTold (now (bytes .entry)) (now (notes .exit)) r) ⌝ }
 {
     let checked = check_from(&bytes[..end], 0, start);
@@ -83,7 +86,7 @@ fn open_table(bytes: &[u8], start: usize, end: usize, rest: usize, notes: &mut [
 pub fn open_payload(bytes: &[u8], notes: &mut [u64]) -> Opened
     ensures { λ r. ⌜ OpenedTold (now (bytes .entry)) (now (notes .exit)) r ⌝ }
 {
-    if 4294967295 < bytes.len() {
+    if 65535 < bytes.len() {
         return Opened::NoRoom;
     }
     let table = messages::reader::split_payload(bytes);
@@ -92,5 +95,23 @@ pub fn open_payload(bytes: &[u8], notes: &mut [u64]) -> Opened
             open_table(bytes, start, end, rest, notes)
         }
         messages::reader::Split::Refused { error } => Opened::Refused { error },
+    }
+}
+
+// The same, and after both tables' notes a code for each of the first indices and the sizes of d2's long strings.
+pub fn open_lent(bytes: &[u8], d2: &[u16], ends: &[u32], notes: &mut [u64]) -> Opened
+    requires { ⌜ length (now d2) ≤ 32768 ⌝ }
+    ensures { λ r. ⌜ LentTold (now (bytes .entry)) (now (d2 .entry)) (now (ends .entry)) (now (notes .exit)) r ⌝ }
+{
+    let limit = codes_from(notes.len());
+    let opened = open_payload(bytes, &mut notes[..limit]);
+    match opened {
+        Opened::Body { at, tables } => {
+            note_codes(notes, tables.records);
+            note_strings(d2, ends, notes);
+            Opened::Body { at, tables }
+        }
+        Opened::Refused { error } => Opened::Refused { error },
+        Opened::NoRoom => Opened::NoRoom,
     }
 }

@@ -2,7 +2,7 @@
 -- Assumes nothing.
 use mathlib.Core.Path.{_≡_, refl, ap, sym, subst, _∙_}
 use mathlib.Core.Bool.{Bool, true, false, _||_}
-use mathlib.Core.List.{List, [], _∷_, _++_}
+use mathlib.Core.List.{List, [], _∷_, _++_, map}
 use mathlib.Core.Option.{Option, none, some}
 use Prim.Native.Nat.{ℕ, suc, _+_, _-_, _≤_, _<_}
 use native.Mathlib.Nat.{zero-add}
@@ -21,17 +21,18 @@ use Rattle.foundation.proofs.PresenceLaws.{none-is, some-is}
 use Rattle.fields.specs.Fields.{Type·nullable, Type·class-name}
 use Rattle.wire.specs.Wire.{Message, cut}
 use Rattle.wire.specs.Messages.{index, flag}
-use Rattle.characters.specs.Characters.{isScalar, partFrom, fromUtf16, utf8Of, utf8}
+use Rattle.characters.specs.Characters.{isScalar, width, partFrom, fromUtf16, utf8Of, utf8}
 use Rattle.characters.specs.WellFormed.{Characters, Units}
 use Rattle.characters.proofs.TestLaws.{scalar-below}
 use Rattle.names.specs.Names.{qualifiedName}
-use Rattle.names.specs.Name.{sourceText, nameText}
+use Rattle.names.specs.Name.{sourceText, fitted, isMeasured, sized, nameText}
 use Rattle.names.specs.Stream as stream
-use Rattle.names.specs.Stream.{changeOf, changed, changedBytes, sourceBytes, nameBytes}
+use Rattle.names.specs.Stream.{changeOf, changed, sizedBytes, sourceBytes, nameBytes}
 use Rattle.names.specs.declared.name.Name.{Name}
 use Rattle.names.specs.declared.name.Change.{Change}
 use Rattle.names.proofs.NameLaws.{source-units, name-parts, front-none}
 use Rattle.names.proofs.PresentLaws.{name-most}
+use Rattle.names.proofs.FittedLaws.{fitted-ind, zeros-first}
 use Rattle.names.proofs.ScalarLaws.{Strings, qualified-characters, d2-characters, substituted-keeps}
 use Rattle.declaration_rows.specs.Declarations.{Ty}
 use Rattle.schema.specs.Reading.{pure, lift, Scope, classNameIn}
@@ -73,17 +74,27 @@ first-byte c bs =
     if-ind P (ltb c 0x800) (λ t e. absurd (omega arith)) λ t.
     if-ind P (ltb c 0x10000) (λ t e. absurd (omega arith)) λ t e. absurd (omega arith)
 
+first-of : (c : ℕ) (u : Text) → getD (utf8 (c ∷ u)) 0 0 ≡ 0x6b → c ≡ 0x6b
+unfolding utf8
+first-of c u = first-byte c (utf8 u)
+
+-- a text by its noted size begins as it does, or with a zero
+sized-first : (size c : ℕ) (t : Text) → getD (utf8 (sized size (c ∷ t))) 0 0 ≡ 0x6b → c ≡ 0x6b
+sized-first size c t =
+    let P : Text → Type 0 = λ u. getD (utf8 u) 0 0 ≡ 0x6b → c ≡ 0x6b in
+    if-ind P (isMeasured size) (λ m. fitted-ind P size c t (first-of c (fitted (size - width c) t)) λ e. absurd (zeros-first size e)) λ m. first-of c t
+
 pub not-listed : (payload d2 : List ℕ) (name : Name) → name .source ≡ 3 → (name .operation ≡ 2 → ⊥) → {h : Change} → h ≡ changeOf name true
     → {code : ℕ} {rest : Text} → fromUtf16 (partFrom (name .start) (name .end) d2) ≡ code ∷ rest → {c : ℕ} → c ≡ changed h code → (c ≡ 0x6b → ⊥)
     → Means (nameBytes payload d2 name true) Other
 unfolding utf8
 not-listed payload d2 name s o {h} e {code} {rest} f {c} q g =
-    let bytes : nameBytes payload d2 name true ≡ utf8Of (changed h code) ++ changedBytes h rest =
+    let bytes : nameBytes payload d2 name true ≡ sizedBytes (name .size) h (code ∷ rest) =
     name-parts payload d2 name true e (omega arith) (omega arith)
-    ∙ ap (λ (t : Text). utf8 t ++ sourceBytes h (sourceText payload d2 name)) (front-none (name .operation) true o)
-    ∙ ap (sourceBytes h) (source-units payload d2 name s ∙ ap some f) in
+    ∙ ap (λ (t : Text). utf8 t ++ sourceBytes (name .size) h (sourceText payload d2 name)) (front-none (name .operation) true o)
+    ∙ ap (sourceBytes (name .size) h) (source-units payload d2 name s ∙ ap some f) in
     let other : getD (nameBytes payload d2 name true) 0 0 ≡ 0x6b → ⊥ =
-    λ k. g (q ∙ first-byte (changed h code) (changedBytes h rest) (ap (λ (l : List ℕ). getD l 0 0) (sym bytes) ∙ k)) in
+    λ k. g (q ∙ sized-first (name .size) (changed h code) (map (changed h) rest) (ap (λ (l : List ℕ). getD l 0 0) (sym bytes) ∙ k)) in
     means-past (nameBytes payload d2 name true) 36 (no-kotlin other) (omega arith)
 
 -- What a name means, by its bytes in an area that holds every listed name.

@@ -1,7 +1,7 @@
 -- The record that serves an index, found among running sums; the strings of d2 by their ends.
 -- Assumes nothing.
 use mathlib.Core.Path.{_≡_, refl, ap, sym, _∙_, subst}
-use mathlib.Core.Bool.{true}
+use mathlib.Core.Bool.{true, false}
 use mathlib.Core.List.{List, [], _∷_}
 use mathlib.Core.Option.{Option, none, some}
 use Prim.Native.Nat.{ℕ, zero, suc, _+_, _-_, _*_, _/_, _≤_, _<_}
@@ -16,6 +16,7 @@ use Rattle.characters.specs.Characters.{partFrom}
 use Rattle.names.specs.Records.{Record}
 use Rattle.names.specs.Names.{recordAt, stringsFrom, endsFit}
 use Rattle.names.specs.Index.{sumsFrom, rangesOf, firstOf, Sums}
+use Rattle.lookup.specs.Lookups.{ServesTold}
 
 length-ranges : (rs : List Record) → length (rangesOf rs) ≡ length rs
 length-ranges [] = refl
@@ -59,6 +60,21 @@ first-at notes (suc k) h = let e : 3 * k + 2 ≡ 3 * suc k - 1 = omega arith in 
 pub first-least : (notes : List ℕ) (n : ℕ) → firstOf notes 0 ≤ n
 unfolding firstOf
 first-least notes n = omega arith
+
+-- Whether a record serves an index, as the code tests it.
+pub serves-not : {A : Type 0} → false ≡ true → A
+serves-not e = let z : _≡_ {A = ℕ} 0 1 = cc in absurd (omega arith)
+
+module _ (notes : List ℕ) (count k index : ℕ) (h : k < count) where
+  pub serves-first : k ≡ 0 → index < getD notes (3 * k + 2) 0 → ServesTold notes count k index
+  unfolding firstOf
+  serves-first e l = (h, subst (λ (n : ℕ). firstOf notes n ≤ index) (sym e) (omega arith), l)
+
+  pub serves-later : (k ≡ 0 → ⊥) → index < getD notes (3 * k + 2) 0 → leb (getD notes (3 * k - 1) 0) index ≡ true → ServesTold notes count k index
+  unfolding firstOf
+  serves-later n l e =
+      let f = first-at notes k (omega arith) in
+      (h, subst (λ (x : ℕ). x ≤ index) (sym f) (leb-true (getD notes (3 * k - 1) 0) index e), l)
 
 module _ (notes : List ℕ) (count index : ℕ) (records : List Record) (sums : Sums notes count records) where
   pub no-sums : length notes / 3 < count → recordAt index records ≡ none

@@ -5,3 +5,4 @@ pub mod UnwrapLaws
 pub mod IndexLaws
 pub mod WordLaws
 pub mod ResolveLaws
+pub mod StringLaws

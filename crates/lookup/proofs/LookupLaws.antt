@@ -1,6 +1,7 @@
 -- A string by its index: by the record that serves it, or of d2.
 -- Assumes nothing.
 use mathlib.Core.Path.{_≡_, refl, ap, sym, _∙_, subst}
+use mathlib.Core.Bool.{Bool, true, false}
 use mathlib.Core.List.{List, [], _∷_}
 use mathlib.Core.Option.{Option, some}
 use Prim.Native.Nat.{ℕ, zero, suc, _+_, _-_, _*_, _/_, _%_, _≤_, _<_}
@@ -10,14 +11,15 @@ use lib.Seq.{take-take}
 use Rattle.foundation.specs.Results.{Res, ok, _from_}
 use Rattle.foundation.specs.Texts.{Text}
 use Rattle.wire.specs.Wire.{cut}
-use Rattle.characters.specs.Characters.{fromUtf16, partFrom}
+use Rattle.characters.specs.Characters.{utf8, fromUtf16, partFrom}
 use Rattle.foundation.proofs.ChoiceLaws.{drop-take}
 use Rattle.names.specs.Records as definition
 use Rattle.names.specs.Records.{decides, operated, textOf}
-use Rattle.names.specs.Names.{Names, recordAt, stringsFrom, d2String, string}
-use Rattle.names.specs.Name.{sourceText, nameText, plain, absentName}
+use Rattle.names.specs.Names.{Names, recordAt, stringsFrom, d2String, string, qualifiedName}
+use Rattle.names.specs.Name.{sourceText, sized, nameText, absentName}
 use Rattle.names.specs.Index.{startOf, endOf, RecordAt, IndexOf}
-use Rattle.lookup.specs.Lookups.{foundIn, FoundBelow, FindTold, NamedIs, NoteTold, NotesOf, WordsAt, DecidedIs, DecidedTold}
+use Rattle.lookup.specs.Lookups.{foundIn, FoundBelow, FindTold, lookedUp, NamedIs, ClassIs, NoteTold, NotesOf, WordsAt, DecidedIs, DecidedTold}
+use Rattle.lookup.specs.Note.{noted, notedClass, notedAs}
 use Rattle.lookup.specs.Steps.{extentOf}
 use Rattle.names.specs.declared.name.Name.{Name}
 use Rattle.names.specs.declared.records.Record.{Record}
@@ -27,6 +29,8 @@ use Rattle.lookup.specs.declared.Decided.{Decided}
 use Rattle.lookup.specs.declared.Decided.the-variants as decided
 use Rattle.lookup.specs.declared.steps.Extent.{Extent}
 use Rattle.lookup.specs.declared.steps.Extent.the-variants as extent
+use Rattle.names.proofs.FittedLaws.{sized-is}
+use Rattle.lookup.specs.Strings.{SizeOf}
 use Rattle.lookup.proofs.PartLaws.{same-substituted}
 
 elem-some : {A : Type 0} (l : List A) (k : ℕ) → k < length l → (a : A) × (getElem? l k ≡ some a)
@@ -40,9 +44,14 @@ module _ (payload units ends : List ℕ) (index : ℕ) {r : Extent} (e : getElem
   unfolding d2String nameText sourceText
   d2-absent g q = rw (q, e, g)
 
-  pub d2-named : {start end : ℕ} → r ≡ extent.Part start end → d2String (stringsFrom 0 ends units) index ≡ ok (nameText payload units (plain 3 start end))
+  pub d2-named : {start end : ℕ} → r ≡ extent.Part start end → (size : ℕ) → SizeOf units ends index size
+      → d2String (stringsFrom 0 ends units) index
+      ≡ ok (nameText payload units (record { source = 3; start = start; end = end; from = 0; to = 0; operation = 0; qualified = false; size = size }))
   unfolding d2String nameText sourceText operated
-  d2-named {start} {end} g = rw (e, g) (ap (λ (t : Text). ok (some t)) (sym (same-substituted (fromUtf16 (partFrom start end units)))))
+  d2-named {start} {end} g size z =
+      let t = fromUtf16 (partFrom start end units) in
+      let h : (size ≡ 0 → ⊥) → size ≡ length (utf8 t) = λ n. z n (partFrom start end units) (e ∙ ap (extentOf units) g) in
+      rw (e, g) (ap (λ (t : Text). ok (some t)) (sym (sized-is size t h) ∙ ap (sized size) (sym (same-substituted t))))
 
 -- The look-up.
 module _ (bytes notes : List ℕ) (count : ℕ) (records : List definition.Record) (i : NotesOf bytes notes count records) (d2 : ℕ → Res (Option Text))
@@ -70,26 +79,35 @@ module _ (bytes notes : List ℕ) (count : ℕ) (records : List definition.Recor
     stands : NoteTold bytes the (getD notes (3 * k) 0) (getD notes (3 * k + 1) 0)
     stands = i .each k the (one .1)
 
-    named : (units : List ℕ) (r : Decided) → NamedIs bytes units the r → DecidedIs bytes units names index r
+    named : (units : List ℕ) (r : Decided) → NamedIs bytes units the r → DecidedIs bytes units false names index r
     unfolding string
     named units (decided.Yes name) h = rw (at, h .0) (ap ok (h .1))
     named units decided.No h = rw (at, h)
 
-    pub string-noted : (units : List ℕ) {r : Decided} → WordsAt notes k r → DecidedIs bytes units names index r
-    string-noted units {r} w =
+    class-named : (units : List ℕ) (r : Decided) → ClassIs bytes units the r → DecidedIs bytes units true names index r
+    unfolding string qualifiedName
+    class-named units (decided.Yes name) h = rw (at, h .0) (ap ok (h .1))
+    class-named units decided.No h = rw (at, h)
+
+    pub by-noted : (units : List ℕ) (class : Bool) {r : Decided} → WordsAt notes k class r → DecidedIs bytes units class names index r
+    by-noted units class {r} w =
         let m = i .sums .many in
         let b = below in
-        let e = w .0 (omega (arith, i .sums .long)) in
-        named units r (subst (NamedIs bytes units the) (sym e) (stands .is units))
+        let e = w (omega (arith, i .sums .long)) in
+        subst (DecidedIs bytes units class names index) (sym e) (go class)
+      where
+        go : (c : Bool) → DecidedIs bytes units c names index (notedAs c (getD notes (3 * k) 0) (getD notes (3 * k + 1) 0))
+        go true = class-named units (notedClass (getD notes (3 * k) 0) (getD notes (3 * k + 1) 0)) (stands .class units)
+        go false = named units (noted (getD notes (3 * k) 0) (getD notes (3 * k + 1) 0)) (stands .is units)
 
 -- By whether a record decides.
-module _ (bytes notes : List ℕ) (count index : ℕ) (r : Decided) (t : DecidedTold bytes notes count index r)
+module _ (bytes notes : List ℕ) (count index : ℕ) (class : Bool) (r : Decided) (t : DecidedTold notes count index class r)
     (units : List ℕ) (records : List definition.Record) (d2 : ℕ → Res (Option Text)) (i : NotesOf bytes notes count records) where
   pub decided-no : r ≡ decided.No → string (record { records = records; d2 = d2 }) index ≡ d2 index
-  decided-no g = subst (DecidedIs bytes units (record { records = records; d2 = d2 }) index) g (t .is units records d2 i)
+  decided-no g = subst (DecidedIs bytes units class (record { records = records; d2 = d2 }) index) g (t bytes units records d2 i)
 
-  pub decided-yes : {name : Name} → r ≡ decided.Yes name → string (record { records = records; d2 = d2 }) index ≡ ok (nameText bytes units name)
-  decided-yes g = subst (DecidedIs bytes units (record { records = records; d2 = d2 }) index) g (t .is units records d2 i)
+  pub decided-yes : {name : Name} → r ≡ decided.Yes name → lookedUp class (record { records = records; d2 = d2 }) index ≡ ok (nameText bytes units name)
+  decided-yes g = subst (DecidedIs bytes units class (record { records = records; d2 = d2 }) index) g (t bytes units records d2 i)
 
 -- The index of the bytes up to some place is one of them all.
 pub part-longer : (bytes : List ℕ) (n start end : ℕ) → start ≤ end → end ≤ length (take n bytes) → partFrom start end (take n bytes) ≡ partFrom start end bytes

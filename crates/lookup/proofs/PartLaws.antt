@@ -205,7 +205,7 @@ not-both (Both a b) h = absurd (miss (0 ∷ 1 ∷ []) 2 tt h)
 
 module _ (payload d2 : List ℕ) (source start end op : ℕ) where
   abbrev stepsOf : ℕ → ℕ → ℕ → Name
-  stepsOf from to k = record { source = source; start = start; end = end; from = from; to = to; operation = k; qualified = false }
+  stepsOf from to k = record { source = source; start = start; end = end; from = from; to = to; operation = k; qualified = false; size = 0 }
 
   named-is : (from to : ℕ) {k : ℕ} → k ≡ known op
       → nameText payload d2 (stepsOf from to k) ≡ mapOption (λ t. operated op (substituted from to t)) (sourceText payload d2 (plain source start end))

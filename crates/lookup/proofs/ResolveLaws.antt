@@ -14,17 +14,22 @@ use lib.Seq.{getD-take, getD-set-same, getD-set-other}
 use Rattle.foundation.specs.Choices.{if_then_else_, mapOption}
 use Rattle.foundation.specs.Texts.{Text}
 use Rattle.foundation.proofs.PresenceLaws.{elem-below}
-use Rattle.characters.specs.Characters.{fromUtf8, fromUtf16, partFrom}
+use Rattle.characters.specs.Characters.{utf8, fromUtf8, partFrom}
 use Rattle.characters.proofs.UnitLaws.{units-ended}
-use Rattle.names.proofs.NameLaws.{part-rest}
-use Rattle.names.specs.Records.{Record, decides, textOf}
-use Rattle.names.specs.Name.{predefinedList, sourceText, nameText}
+use Rattle.characters.proofs.TestLaws.{below}
+use Rattle.names.proofs.NameLaws.{part-rest, source-bytes, source-absent, absent-bytes}
+use Rattle.names.proofs.FittedLaws.{sized-is}
+use Rattle.names.specs.Records.{Record, substituted, operated}
+use Rattle.names.specs.Name.{predefinedList, sourceText, sized, steppedBy, nameText}
+use Rattle.names.specs.Stream.{baseOf, nameBytes}
 use Rattle.names.specs.Index.{startOf, endOf, RecordAt, firstOf, Sums, IndexOf}
 use Rattle.names.specs.declared.name.Name.{Name}
 use Rattle.lookup.specs.Steps.{BytesName}
-use Rattle.lookup.specs.Note.{noted, NameFits, DecidedFits}
-use Rattle.lookup.specs.Lookups.{PlaceTold, DecidedBytes, NamedIs, NamedTold, NoteTold, NotesOf}
-use Rattle.lookup.specs.Resolved.{least, limitOf, clippedName, clippedOf, OneTold}
+use Rattle.lookup.specs.Note.{classSize, classOf, NameFits, WordsTold}
+use Rattle.lookup.specs.Qualified.{qualifiedPart, classText, partSize, ClassTold}
+use Rattle.lookup.specs.Lookups.{PlaceTold, NamedIs, ClassIs, NamedTold, NoteTold, NotesOf}
+use Rattle.lookup.specs.Resolved.{least, limitOf, clippedName, SizeTold, withSize, WordsFor, OneTold}
+use Rattle.lookup.proofs.WordLaws.{noted-no, class-no}
 use Rattle.lookup.specs.declared.note.Words.{Words}
 use Rattle.lookup.specs.declared.Decided.{Decided}
 use Rattle.lookup.specs.declared.Decided.the-variants as decided
@@ -72,19 +77,61 @@ pub limit-size : (source size : ℕ) → (source ≡ 2 → ⊥) → size ≡ lim
 limit-size source size h = rw (ne-eqb source 2 h)
 
 pub clipped-is : (size : ℕ) (n : Name) {limit end start : ℕ} → limit ≡ limitOf (n .source) size → end ≡ least (n .end) limit → start ≡ least (n .start) end
-    → _≡_ {A = Name} (record { source = n .source; start = start; end = end; from = n .from; to = n .to; operation = n .operation; qualified = n .qualified }) (clippedName size n)
+    → _≡_ {A = Name} (record { source = n .source; start = start; end = end; from = n .from; to = n .to; operation = n .operation; qualified = n .qualified; size = 0 }) (clippedName size n)
 clipped-is size n p q r = rw (r, q, p)
 
-pub clipped-some : (size : ℕ) {d : Decided} {n m : Name} → d ≡ decided.Yes n → m ≡ clippedName size n → decided.Yes m ≡ clippedOf size d
-clipped-some size e f = rw (e, f)
+-- The source of a name doesn't depend on its size.
+source-kept : (bytes d2 : List ℕ) (n : Name) (size : ℕ) → sourceText bytes d2 (withSize n size) ≡ sourceText bytes d2 n
+unfolding sourceText
+source-kept bytes d2 n size = refl
 
-pub clipped-none : (size : ℕ) {d : Decided} → d ≡ decided.No → decided.No ≡ clippedOf size d
-clipped-none size e = rw e
+unstepped-size : (bytes : List ℕ) (n : Name) → n .operation ≡ 0 → n .qualified ≡ false → n .size ≡ 0 → (t : Text) → sourceText bytes [] n ≡ some t
+    → 0 + length (nameBytes bytes [] n false) ≡ length (utf8 (substituted (n .from) (n .to) t))
+unfolding nameBytes nameText operated
+unstepped-size bytes n o q z t e = rw (e, o, q, z) (omega arith)
+
+-- A name says the same with its size.
+two : (size whole part : ℕ) (t : Bool) → ((size ≡ 0 → ⊥) → size ≡ whole) → whole ≡ part + (if t then 0 else 2)
+    → ((if t then size else size - 2) ≡ 0 → ⊥) → (if t then size else size - 2) ≡ part
+two size whole part true h e n = let z = h n in omega arith
+two size whole part false h e n = let z = h (λ y. n (omega arith)) in omega arith
+
+module _ (bytes : List ℕ) (n : Name) (b : n .source ≤ 2) where
+  source-of : (d2 : List ℕ) → 0 < n .source → sourceText bytes d2 n ≡ some (fromUtf8 (partFrom (n .start) (n .end) (baseOf (n .source) bytes predefinedList)))
+  source-of d2 g = source-bytes bytes d2 n g (omega arith) λ z. omega arith
+
+  size-same : n .size ≡ 0 → (size : ℕ) → ((size ≡ 0 → ⊥) → size ≡ partSize bytes n (n .start) (n .end)) → (d2 : List ℕ)
+      → nameText bytes d2 (withSize n size) ≡ nameText bytes d2 n
+  unfolding nameText
+  size-same z size s d2 = below 1 (n .source) absent there
+    where
+      same : sourceText bytes d2 (withSize n size) ≡ sourceText bytes d2 n
+      same = source-kept bytes d2 n size
+
+      absent : n .source < 1 → mapOption (steppedBy (withSize n size)) (sourceText bytes d2 (withSize n size)) ≡ mapOption (steppedBy n) (sourceText bytes d2 n)
+      absent l = rw (same, source-absent bytes d2 n (omega arith))
+
+      there : 1 ≤ n .source → mapOption (steppedBy (withSize n size)) (sourceText bytes d2 (withSize n size)) ≡ mapOption (steppedBy n) (sourceText bytes d2 n)
+      there l = rw (same, source-of d2 l, z, sized-is size (substituted (n .from) (n .to) (fromUtf8 (partFrom (n .start) (n .end) (baseOf (n .source) bytes predefinedList)))) s)
+
+-- How many bytes a name takes that has no step but the replacement.
+module _ (bytes : List ℕ) (n : Name) (b : n .source ≤ 2) where
+  abbrev pub unstepped : Name
+  unstepped = record { source = n .source; start = n .start; end = n .end; from = n .from; to = n .to; operation = 0; qualified = false; size = 0 }
+
+  pub size-is : (size : ℕ) → size ≡ 0 + length (nameBytes bytes [] unstepped false) → (size ≡ 0 → ⊥) → size ≡ partSize bytes n (n .start) (n .end)
+  size-is size e f = below 1 (n .source) (λ l. absurd (f (absent l))) λ l. there l
+    where
+      absent : n .source < 1 → size ≡ 0
+      absent l = let z = ap length (absent-bytes bytes [] unstepped false (omega arith)) in omega arith
+
+      there : 1 ≤ n .source → size ≡ partSize bytes n (n .start) (n .end)
+      there l = e ∙ unstepped-size bytes unstepped refl refl refl _ (source-of bytes unstepped b [] l)
 
 -- The clipped name is the same name, and fits two words.
 module _ (bytes : List ℕ) where
   source-same : (d2 : List ℕ) (source start end from to operation : ℕ) (qualified : Bool) → source ≤ 2
-      → (let n : Name = record { source = source; start = start; end = end; from = from; to = to; operation = operation; qualified = qualified } in
+      → (let n : Name = record { source = source; start = start; end = end; from = from; to = to; operation = operation; qualified = qualified; size = 0 } in
       sourceText bytes d2 (clippedName (length bytes) n) ≡ sourceText bytes d2 n)
   unfolding sourceText
   source-same d2 zero start end from to operation qualified h = refl
@@ -96,48 +143,109 @@ module _ (bytes : List ℕ) where
 
   clip-same : (d2 : List ℕ) (n : Name) → BytesName n → nameText bytes d2 (clippedName (length bytes) n) ≡ nameText bytes d2 n
   unfolding nameText
-  clip-same d2 n b = rw (source-same d2 (n .source) (n .start) (n .end) (n .from) (n .to) (n .operation) (n .qualified) (b .0))
+  clip-same d2 n b = rw (b .5, source-same d2 (n .source) (n .start) (n .end) (n .from) (n .to) (n .operation) (n .qualified) (b .0))
 
-  limit-short : (source : ℕ) → length bytes < 4294967296 → limitOf source (length bytes) < 4294967296
+  limit-short : (source : ℕ) → length bytes < 65536 → limitOf source (length bytes) < 65536
   limit-short source h = go (eqb source 2)
     where
-      go : (t : Bool) → (if t then 878 else length bytes) < 4294967296
+      go : (t : Bool) → (if t then 878 else length bytes) < 65536
       go true = omega arith
       go false = h
 
-  clip-fits : length bytes < 4294967296 → (n : Name) → BytesName n → NameFits (clippedName (length bytes) n)
-  clip-fits h n b =
-      let l = limit-short (n .source) h in
-      let e = least-below (n .end) (limitOf (n .source) (length bytes)) in
-      let s = least-below (n .start) (least (n .end) (limitOf (n .source) (length bytes))) in
-      record {
-        source = b .0;
-        start = below s (below e l);
-        end = below e l;
-        from = b .3;
-        to = b .4;
-        operation = b .2;
-        qualified = b .1;
-      }
-    where
-      below : {a b c : ℕ} → a ≤ b → b < c → a < c
-      below p q = omega arith
+  clip-bytes : (n : Name) → BytesName n → BytesName (clippedName (length bytes) n)
+  clip-bytes n b = (b .0, b .1, b .2, b .3, b .4, refl)
 
-  fits-clipped : length bytes < 4294967296 → (d : Decided) → DecidedBytes d → DecidedFits (clippedOf (length bytes) d)
-  fits-clipped h (decided.Yes n) b = clip-fits h n b
-  fits-clipped h decided.No b = tt
+  pub clip-made : (n : Name) → BytesName n → {c : Name} → c ≡ clippedName (length bytes) n → BytesName c
+  clip-made n b e = rw e (clip-bytes n b)
 
-  named-clipped : (units : List ℕ) (r : Record) (d : Decided) → DecidedBytes d → NamedIs bytes units r d → NamedIs bytes units r (clippedOf (length bytes) d)
-  named-clipped units r (decided.Yes n) b h = (h .0, h .1 ∙ sym (clip-same units n b))
-  named-clipped units r decided.No b h = h
+  -- the places of a clipped name
+  module _ (h : length bytes < 65536) (n : Name) where
+    abbrev clipped : Name
+    clipped = clippedName (length bytes) n
+
+    pub clipped-ordered : clipped .start ≤ clipped .end
+    clipped-ordered = least-below (n .start) (least (n .end) (limitOf (n .source) (length bytes)))
+
+    pub clipped-short : clipped .end < 65536
+    clipped-short =
+        let l = limit-short (n .source) h in
+        let e = least-below (n .end) (limitOf (n .source) (length bytes)) in
+        below e l
+      where
+        below : {a b c : ℕ} → a ≤ b → b < c → a < c
+        below p q = omega arith
+
+  -- What is noted of a record: nothing of one that doesn't decide.
+  pub words-none : {d : Decided} → d ≡ decided.No → WordsFor bytes d (record { place = 0; steps = 0 })
+  words-none e r f = record {
+    is = λ units. subst (NamedIs bytes units r) noted-no (subst (NamedIs bytes units r) e (f units));
+    class = λ units. subst (ClassIs bytes units r) class-no (subst (NamedIs bytes units r) e (f units));
+  }
+
+  -- else its name, clipped, with its size, and the part that is left of it as a class name
+  module _ (h : length bytes < 65536) {d : Decided} {n c q : Name} (e : d ≡ decided.Yes n) (b : BytesName n) (f : c ≡ clippedName (length bytes) n)
+      (k : ClassTold bytes c q) {size : ℕ} (s : SizeTold bytes c size) where
+    made : BytesName c
+    made = rw f (clip-bytes n b)
+
+    ordered : c .start ≤ c .end
+    ordered = rw f (clipped-ordered h n)
+
+    short : c .end < 65536
+    short = rw f (clipped-short h n)
+
+    pub name-fits : {z : Name} → z ≡ withSize c size → NameFits z
+    name-fits g =
+        let o = ordered in
+        let l = short in
+        rw g (record {
+          source = made .0;
+          start = omega arith;
+          end = l;
+          from = made .3;
+          to = made .4;
+          operation = made .2;
+          qualified = made .1;
+          size = s .fits;
+        })
+
+    pub class-fits : (q .start < 65536) × (q .end < 65536)
+    class-fits =
+        let i = k .inside ordered in
+        let l = short in
+        (omega (arith, i .0), omega (arith, i .1))
+
+    text-size : (d2 : List ℕ) → nameText bytes d2 (withSize c size) ≡ nameText bytes d2 c
+    text-size d2 = size-same bytes c (made .0) (made .5) size (s .is) d2
+
+    class-size : (d2 : List ℕ) → nameText bytes d2 (classOf (withSize c size) (q .start) (q .end)) ≡ nameText bytes d2 q
+    class-size d2 =
+        size-same bytes (qualifiedPart c (q .start) (q .end)) (made .0) refl (classSize size (c .start) (q .start)) least-two d2
+        ∙ ap (nameText bytes d2) (sym (k .part))
+      where
+        least-two : (classSize size (c .start) (q .start) ≡ 0 → ⊥) → classSize size (c .start) (q .start) ≡ partSize bytes c (q .start) (q .end)
+        least-two z = two size (partSize bytes c (c .start) (c .end)) (partSize bytes c (q .start) (q .end)) (eqb (q .start) (c .start)) (s .is) (k .size) z
+
+    pub words-some : {z : Name} → z ≡ withSize c size → {w : Words} → WordsTold z (q .start) (q .end) w → WordsFor bytes d w
+    words-some {z} g {w} t r x =
+        let y : (units : List ℕ) → NamedIs bytes units r (decided.Yes n) = λ units. subst (NamedIs bytes units r) e (x units) in
+        let same : (units : List ℕ) → nameText bytes units n ≡ nameText bytes units c = λ units. sym (ap (nameText bytes units) f ∙ clip-same units n b) in
+        record {
+          is = λ units.
+              subst (NamedIs bytes units r) (sym (t .0))
+              (rw g (y units .0, y units .1 ∙ same units ∙ sym (text-size units)));
+          class = λ units.
+              subst (ClassIs bytes units r) (sym (t .1))
+              (rw g (y units .0, ap classText (y units .1 ∙ same units) ∙ sym (class-size units ∙ k .is units)));
+        }
 
   -- One record.
   module _ (before : List ℕ) (k : ℕ) where
     pub one-lost : PlaceTold bytes before k extent.Nothing → OneTold bytes before before k
-    one-lost p = record { others = λ j f g. refl; told = λ l h r a. absurd (p l (a .ordered) (a .inside)) }
+    one-lost p = record { others = λ j f g. refl; told = λ l r a. absurd (p l (a .ordered) (a .inside)) }
 
     module _ {start end : ℕ} (p : PlaceTold bytes before k (extent.Part start end)) (d : Decided) (t : NamedTold bytes start end d)
-        {c : Decided} (e : c ≡ clippedOf (length bytes) d) (w : Words) (f : DecidedFits c → noted (w .place) (w .steps) ≡ c) where
+        (w : Words) (f : WordsFor bytes d w) where
       abbrev after : List ℕ
       after = set (set before (3 * k) (w .place)) (3 * k + 1) (w .steps)
 
@@ -155,18 +263,12 @@ module _ (bytes : List ℕ) where
         others = λ j g h.
             getD-set-other (set before (3 * k) (w .place)) (3 * k + 1) j (w .steps) 0 h
             ∙ getD-set-other before (3 * k) j (w .place) 0 g;
-        told = λ l h r a.
+        told = λ l r a.
             let b : RecordAt bytes start end r = rw (p .0, p .1) a in
-            let fits = fits-clipped h d (t .made) in
-            let is : noted (getD after (3 * k) 0) (getD after (3 * k + 1) 0) ≡ clippedOf (length bytes) d = rw (place-new, steps-new) (f (rw e fits) ∙ e) in
-            record {
-              is = λ units.
-                  let n = named-clipped units r d (t .made) (rw (b .is) (t .is (b .message) (b .cuts) units)) in
-                  subst (NamedIs bytes units r) (sym is) n;
-            };
+            rw (place-new, steps-new) (f r λ units. rw (b .is) (t .is (b .message) (b .cuts) units));
       }
 
-still-lower : (k i : ℕ) → (k ≡ i → ⊥) → k < i + 1 → k < i
+pub still-lower : (k i : ℕ) → (k ≡ i → ⊥) → k < i + 1 → k < i
 still-lower k i n h = go (ltb k i) refl
   where
     go : (b : Bool) → ltb k i ≡ b → k < i
@@ -177,7 +279,7 @@ still-lower k i n h = go (ltb k i) refl
 pub record Resolving (bytes before notes : List ℕ) (i : ℕ) : Type 0 where
   pub sums : (k : ℕ) → firstOf notes k ≡ firstOf before k
   pub later : (k : ℕ) → i ≤ k → getD notes (3 * k) 0 ≡ getD before (3 * k) 0
-  pub told : (k : ℕ) → k < i → 3 * k + 2 < length before → length bytes < 4294967296 → (r : Record)
+  pub told : (k : ℕ) → k < i → 3 * k + 2 < length before → (r : Record)
       → RecordAt bytes (startOf (getD before (3 * k) 0)) (endOf (getD before (3 * k) 0)) r
       → NoteTold bytes r (getD notes (3 * k) 0) (getD notes (3 * k + 1) 0)
 
@@ -189,32 +291,32 @@ unfolding firstOf
 resolving-next bytes before notes after i z s o = record {
   sums = first;
   later = λ k h. o .others (3 * k) (λ e. omega arith) (λ e. omega arith) ∙ s .later k (omega arith);
-  told = λ k h l m r a. step k (eqb k i) refl h l m r a;
+  told = λ k h l r a. step k (eqb k i) refl h l r a;
 }
   where
     first : (k : ℕ) → firstOf after k ≡ firstOf before k
     first zero = refl
     first (suc k) = o .others (3 * k + 2) (λ e. omega arith) (λ e. omega arith) ∙ s .sums (suc k)
 
-    step : (k : ℕ) (b : Bool) → eqb k i ≡ b → k < i + 1 → 3 * k + 2 < length before → length bytes < 4294967296 → (r : Record)
+    step : (k : ℕ) (b : Bool) → eqb k i ≡ b → k < i + 1 → 3 * k + 2 < length before → (r : Record)
         → RecordAt bytes (startOf (getD before (3 * k) 0)) (endOf (getD before (3 * k) 0)) r
         → NoteTold bytes r (getD after (3 * k) 0) (getD after (3 * k + 1) 0)
-    step k true e h l m r a =
+    step k true e h l r a =
         let q : i ≡ k = sym (eqb-true k i e) in
         subst (λ (j : ℕ). NoteTold bytes r (getD after (3 * j) 0) (getD after (3 * j + 1) 0)) q
-        (o .told (omega arith) m r (rw (s .later i (le-refl i), q) a))
-    step k false e h l m r a =
+        (o .told (omega arith) r (rw (s .later i (le-refl i), q) a))
+    step k false e h l r a =
         let n = eqb-false k i e in
         rw (o .others (3 * k) (λ z. n (omega arith)) (λ z. omega arith), o .others (3 * k + 1) (λ z. omega arith) (λ z. n (omega arith)))
-        (s .told k (still-lower k i n h) l m r a)
+        (s .told k (still-lower k i n h) l r a)
 
 pub resolving-end : (bytes before notes : List ℕ) (count i : ℕ) → length notes ≡ length before → Resolving bytes before notes i → count ≤ i
-    → (records : List Record) → length bytes < 4294967296 → IndexOf bytes before count records → NotesOf bytes notes count records
-resolving-end bytes before notes count i z s h records m x = record {
+    → (records : List Record) → IndexOf bytes before count records → NotesOf bytes notes count records
+resolving-end bytes before notes count i z s h records x = record {
   sums = record { many = x .sums .many; long = omega (arith, x .sums .long); are = λ k l. s .sums k ∙ x .sums .are k l };
   each = λ k r e.
       let b = elem-below records k e in
-      s .told k (omega (arith, x .sums .many)) (omega (arith, x .sums .many, x .sums .long)) m r (x .each k r e);
+      s .told k (omega (arith, x .sums .many)) (omega (arith, x .sums .many, x .sums .long)) r (x .each k r e);
 }
 
 -- The notes of the records, where only what stands after them is changed.
@@ -227,12 +329,12 @@ module _ (a b : List ℕ) (n : ℕ) (e : take n a ≡ take n b) where
   first-kept count h zero l = refl
   first-kept count h (suc k) l = same-at (3 * k + 2) (omega arith)
 
-pub notes-kept : (bytes a b : List ℕ) (count : ℕ) (records : List Record) → take (3 * count) a ≡ take (3 * count) b → length b ≡ length a
+pub notes-kept : (bytes a b : List ℕ) (count : ℕ) (records : List Record) → take (3 * count) a ≡ take (3 * count) b → 3 * count ≤ length b
     → NotesOf bytes a count records → NotesOf bytes b count records
 notes-kept bytes a b count records e l i = record {
   sums = record {
     many = i .sums .many;
-    long = rw l (i .sums .long);
+    long = l;
     are = λ k h. first-kept a b (3 * count) e count (omega arith) k h ∙ i .sums .are k h;
   };
   each = λ k r q.

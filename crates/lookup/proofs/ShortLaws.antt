@@ -51,12 +51,12 @@ module _ (bytes : List ℕ) (start end : ℕ) (read : Record) (r : RecordTold st
 module _ {index : ℕ} {l : PredefinedPart} (e : listedText l ≡ predefinedText index) where
   pub listed-absent : l ≡ listed.Nothing → {n : Name} → n ≡ absentName → PredefinedTold index n
   unfolding nameText sourceText
-  listed-absent g q = subst (PredefinedTold index) (sym q) record { bytes = (omega arith, refl, omega arith, omega arith, omega arith); is = λ payload units. ap listedText (sym g) ∙ e }
+  listed-absent g q = subst (PredefinedTold index) (sym q) record { bytes = (omega arith, refl, omega arith, omega arith, omega arith, refl); is = λ payload units. ap listedText (sym g) ∙ e }
 
   pub listed-named : {a b : ℕ} → l ≡ listed.Part a b → PredefinedTold index (plain 2 a b)
   unfolding nameText sourceText operated
   listed-named {a} {b} g = record {
-    bytes = (omega arith, refl, omega arith, omega arith, omega arith);
+    bytes = (omega arith, refl, omega arith, omega arith, omega arith, refl);
     is = λ payload units. ap some (same-substituted _) ∙ ap listedText (sym g) ∙ e;
   }
 

@@ -14,7 +14,7 @@ use lib.Seq.{take-suc, getD-drop}
 use Rattle.foundation.specs.Choices.{if_then_else_, ifSome, mapOption}
 use Rattle.foundation.specs.Results.{Res, ok, _>>=_}
 use Rattle.foundation.specs.Texts.{Text}
-use Rattle.characters.specs.Characters.{fromUtf8After, fromUtf8, fromUtf16, isHigh, isLow, lone, pair, partFrom}
+use Rattle.characters.specs.Characters.{width, utf8Of, utf8, fromUtf8After, fromUtf8, fromUtf16, isHigh, isLow, lone, pair, partFrom}
 use Rattle.characters.specs.Told.{utf8At}
 use Rattle.characters.specs.Plain.{instead}
 use Rattle.characters.specs.declared.Character.{Character}
@@ -23,21 +23,25 @@ use Rattle.characters.proofs.TestLaws.{below}
 use Rattle.foundation.proofs.EveryLaws.{map-twice}
 use Rattle.characters.proofs.CharacterLaws.{utf8-none, utf8-end, utf8-inside, utf8-next}
 use Rattle.characters.proofs.SplitLaws.{Boundary, boundary-start, boundary-next, boundary-text}
+use Rattle.characters.proofs.LengthLaws.{bytes-cons, bytes-append}
 use Rattle.characters.proofs.SeamLaws.{units-seam}
 use Rattle.characters.proofs.UnitLaws.{units-ended, units-cons}
 use Rattle.characters.proofs.PartLaws.{part-part, part-short, rest-is}
 use Rattle.names.specs.Records.{substituted, dotted, operated}
 use Rattle.names.specs.Names.{Names, string, qualifiedName, withoutLast, unwrapped, stringsFrom, d2String}
-use Rattle.names.specs.Name.{predefinedList, sourceText, nameText, plain, absentName}
+use Rattle.names.specs.Name.{predefinedList, sourceText, sized, nameText, plain, absentName}
 use Rattle.names.specs.Stream.{baseOf}
 use Rattle.lookup.specs.Steps.{extentOf, BytesName}
-use Rattle.lookup.specs.Qualified.{LastTold, UnwrapTold, qualifiedPart, classText, ClippedTold, WrappedTold}
+use Rattle.lookup.specs.Qualified.{LastTold, sizeWith, UnwrapTold, qualifiedPart, classText, partSize, ClassTold, ClippedTold, WrappedTold, unitsName}
+use Rattle.lookup.specs.Note.{classSize}
+use Rattle.lookup.specs.Strings.{SizeOf}
 use Rattle.names.specs.declared.name.Name.{Name}
 use Rattle.lookup.specs.declared.qualified.Last.{Last}
 use Rattle.lookup.specs.declared.qualified.Last.the-variants as last
 use Rattle.lookup.specs.declared.steps.Extent.{Extent}
 use Rattle.lookup.specs.declared.steps.Extent.the-variants as extent
 use Rattle.names.proofs.NameLaws.{part-rest, source-bytes}
+use Rattle.names.proofs.FittedLaws.{sized-is}
 use Rattle.lookup.proofs.PartLaws.{same-substituted}
 
 -- A text by its last character.
@@ -187,6 +191,11 @@ substituted-append : (from to : ℕ) (t u : Text) → substituted from to (t ++ 
 substituted-append from to [] u = refl
 substituted-append from to (c ∷ t) u = ap (λ (v : Text). instead from to c ∷ v) (substituted-append from to t u)
 
+-- L and ; take a byte each.
+between-size : (m : Text) → length (utf8 (0x4c ∷ (m ++ (0x3b ∷ [])))) ≡ length (utf8 m) + 2
+unfolding utf8 utf8Of width
+between-size m = omega (arith, bytes-cons 0x4c (m ++ (0x3b ∷ [])), bytes-append m (0x3b ∷ []))
+
 module _ (s : List ℕ) (from to : ℕ) where
   pub unwrap-empty : utf8At 0 (drop 0 s) ≡ End → UnwrapTold s from to extent.Nothing
   unwrap-empty e = ap (λ (t : Text). unwrapped (substituted from to t)) (utf8-end s 0 e) ∙ ap (substituted from to) (sym (utf8-end s 0 e))
@@ -238,6 +247,15 @@ module _ (s : List ℕ) (from to : ℕ) where
             ∙ unwrap-last (instead from to code) (substituted from to middle) (instead from to l) (λ z. h (q ∙ z))
             ∙ sym changed)
 
+        closed-size : c ≡ 0x4c → d ≡ 0x3b → sizeWith from to s ≡ sizeWith from to (take place (drop next s)) + 2
+        closed-size h k =
+            let x : instead from to code ≡ 0x4c = sym p ∙ h in
+            let y : instead from to l ≡ 0x3b = sym q ∙ k in
+            let m = substituted from to middle in
+            ap (λ (u : Text). length (utf8 (substituted from to u))) whole
+            ∙ ap (λ (u : Text). length (utf8 u)) (changed ∙ ap (λ (f : ℕ). f ∷ (m ++ (instead from to l ∷ []))) x ∙ ap (λ (f : ℕ). 0x4c ∷ (m ++ (f ∷ []))) y)
+            ∙ between-size m
+
         pub unwrap-closed : c ≡ 0x4c → d ≡ 0x3b → UnwrapTold s from to (extent.Part next (next + place))
         unwrap-closed h k =
             let z : next + place - next ≡ place = omega arith in (
@@ -247,6 +265,8 @@ module _ (s : List ℕ) (from to : ℕ) where
                   ∙ ap (λ (n : ℕ). substituted from to (fromUtf8 (take n (drop next s)))) (sym z),
               omega arith,
               place-inside,
+              omega (arith, utf8-inside s 0 e .0),
+              closed-size h k ∙ ap (λ (n : ℕ). sizeWith from to (take n (drop next s)) + 2) (sym z),
             )
 
 -- The class name of a name made of bytes.
@@ -254,7 +274,7 @@ module _ (payload : List ℕ) (n : Name) (b : BytesName n) where
   -- the same part: the text stays under L and ;
   text-of : (d2 : List ℕ) → nameText payload d2 n ≡ mapOption (λ t. operated (n .operation) (substituted (n .from) (n .to) t)) (sourceText payload d2 n)
   unfolding nameText
-  text-of d2 = rw (b .1)
+  text-of d2 = rw (b .1, b .5)
 
   class-of : (d2 : List ℕ) (a e : ℕ)
       → nameText payload d2 (qualifiedPart n a e)
@@ -281,14 +301,26 @@ module _ (payload : List ℕ) (n : Name) (b : BytesName n) where
       ∙ ap (λ (x : Option Text). classText (mapOption (λ t. operated (n .operation) (substituted (n .from) (n .to) t)) x)) (sym q)
       ∙ ap classText (sym (text-of d2))
 
-  pub class-prefixed : n .operation ≡ 2 → {r : Name} → r ≡ qualifiedPart n (n .start) (n .end) → (d2 : List ℕ) → nameText payload d2 r ≡ classText (nameText payload d2 n)
-  class-prefixed h e d2 = rw e (class-law d2 (n .start) (n .end) (sourceText payload d2 n) (sourceText payload d2 n) refl (sym (same-source d2)) (go (sourceText payload d2 n)))
+  -- made of the same part
+  told-same : {r : Name} → r ≡ qualifiedPart n (n .start) (n .end) → ((d2 : List ℕ) → nameText payload d2 r ≡ classText (nameText payload d2 n)) → ClassTold payload n r
+  told-same e f = record {
+    part = rw e;
+    is = f;
+    inside = λ h. rw e (h, le-refl (n .end));
+    size = rw (e, eq-eqb (n .start) (n .start) refl) (omega arith);
+  }
+
+  prefixed-is : n .operation ≡ 2 → {r : Name} → r ≡ qualifiedPart n (n .start) (n .end) → (d2 : List ℕ) → nameText payload d2 r ≡ classText (nameText payload d2 n)
+  prefixed-is h e d2 = rw e (class-law d2 (n .start) (n .end) (sourceText payload d2 n) (sourceText payload d2 n) refl (sym (same-source d2)) (go (sourceText payload d2 n)))
     where
       go : (o : Option Text)
           → mapOption (λ t. dotted (operated (n .operation) (substituted (n .from) (n .to) t))) o
           ≡ mapOption (λ t. dotted (unwrapped (operated (n .operation) (substituted (n .from) (n .to) t)))) o
       go none = refl
       go (some t) = ap (λ (u : Text). some (dotted u)) (sym (unwrap-prefixed (n .operation) h (substituted (n .from) (n .to) t)))
+
+  pub class-prefixed : n .operation ≡ 2 → {r : Name} → r ≡ qualifiedPart n (n .start) (n .end) → ClassTold payload n r
+  class-prefixed h e = told-same e (prefixed-is h e)
 
   -- with no text in front: nothing for a name that is absent, else by the text of its bytes
   abbrev textAt : ℕ → ℕ → Text
@@ -308,24 +340,32 @@ module _ (payload : List ℕ) (n : Name) (b : BytesName n) where
     unfolding sourceText
     class-absent d2 z = class-law d2 a e none none (rw z) (rw z) refl
 
-    pub class-made : {r : Name} → r ≡ qualifiedPart n a e → (d2 : List ℕ) → nameText payload d2 r ≡ classText (nameText payload d2 n)
+    class-made : {r : Name} → r ≡ qualifiedPart n a e → (d2 : List ℕ) → nameText payload d2 r ≡ classText (nameText payload d2 n)
     class-made q d2 = rw q (below 1 (n .source) (λ l. class-absent d2 (omega arith)) λ l. class-there d2 (omega arith))
 
   module _ (h : n .operation ≡ 2 → ⊥) (s : List ℕ) (e : s ≡ partFrom (n .start) (n .end) (baseOf (n .source) payload predefinedList)) where
-    pub class-stays : UnwrapTold s (n .from) (n .to) extent.Nothing → {r : Name} → r ≡ qualifiedPart n (n .start) (n .end)
-        → (d2 : List ℕ) → nameText payload d2 r ≡ classText (nameText payload d2 n)
-    class-stays t = class-made h (n .start) (n .end) (subst (λ (bs : List ℕ). UnwrapTold bs (n .from) (n .to) extent.Nothing) e t)
+    pub class-stays : UnwrapTold s (n .from) (n .to) extent.Nothing → {r : Name} → r ≡ qualifiedPart n (n .start) (n .end) → ClassTold payload n r
+    class-stays t q =
+        told-same q (class-made h (n .start) (n .end) (subst (λ (bs : List ℕ). UnwrapTold bs (n .from) (n .to) extent.Nothing) e t) q)
 
     module _ {i j : ℕ} (t : UnwrapTold s (n .from) (n .to) (extent.Part i j)) where
       pub class-ends : (i ≤ j) × (j ≤ n .end - n .start)
       class-ends = (t .1, omega (arith, t .2, ap length e, part-short (baseOf (n .source) payload predefinedList) (n .start) (n .end)))
 
-      pub class-cut : {r : Name} → r ≡ qualifiedPart n (n .start + i) (n .start + j) → (d2 : List ℕ) → nameText payload d2 r ≡ classText (nameText payload d2 n)
-      class-cut =
+      pub class-cut : {r : Name} → r ≡ qualifiedPart n (n .start + i) (n .start + j) → ClassTold payload n r
+      class-cut q =
           let l = baseOf (n .source) payload predefinedList in
           let u = subst (λ (bs : List ℕ). UnwrapTold bs (n .from) (n .to) (extent.Part i j)) e t in
-          class-made h (n .start + i) (n .start + j)
-          (u .0 ∙ ap (λ (bs : List ℕ). substituted (n .from) (n .to) (fromUtf8 bs)) (part-part l (n .start) (n .end) i j (u .1) (u .2)))
+          let p = part-part l (n .start) (n .end) i j (u .1) (u .2) in
+          let c = class-ends in
+          record {
+            part = rw q;
+            is = class-made h (n .start + i) (n .start + j) (u .0 ∙ ap (λ (bs : List ℕ). substituted (n .from) (n .to) (fromUtf8 bs)) p) q;
+            inside = λ o. rw q (omega (arith, c .0, c .1), omega (arith, c .1));
+            size =
+                rw (q, ne-eqb (n .start + i) (n .start) (λ z. omega (arith, u .3)))
+                (u .4 ∙ ap (λ (bs : List ℕ). sizeWith (n .from) (n .to) bs + 2) p);
+          }
 
 -- Units.
 lone-not : (u k : ℕ) → (u ≡ k → ⊥) → (0xfffd ≡ k → ⊥) → lone u ≡ k → ⊥
@@ -409,14 +449,18 @@ module _ (l : List ℕ) (start end : ℕ) where
       opened : fromUtf16 (partFrom start end l) ≡ 0x4c ∷ fromUtf16 (inner ++ (getD l (end - 1) 0 ∷ []))
       opened = ap fromUtf16 (parts ∙ ap (λ (u : ℕ). u ∷ (inner ++ (getD l (end - 1) 0 ∷ []))) h) ∙ from-first-unit (inner ++ (getD l (end - 1) 0 ∷ []))
 
-      closed : getD l (end - 1) 0 ≡ 0x3b → unwrapped (fromUtf16 (partFrom start end l)) ≡ fromUtf16 inner
+      closed-text : getD l (end - 1) 0 ≡ 0x3b → fromUtf16 (partFrom start end l) ≡ 0x4c ∷ (fromUtf16 inner ++ (0x3b ∷ []))
       unfolding fromUtf16
-      closed k =
-          ap unwrapped
-          (opened
+      closed-text k =
+          opened
           ∙ ap (λ (u : ℕ). 0x4c ∷ fromUtf16 (inner ++ (u ∷ []))) k
-          ∙ ap (λ (t : Text). 0x4c ∷ t) (units-seam inner 0x3b [] refl))
-          ∙ unwrap-both 0x4c (fromUtf16 inner) 0x3b refl refl
+          ∙ ap (λ (t : Text). 0x4c ∷ t) (units-seam inner 0x3b [] refl)
+
+      closed : getD l (end - 1) 0 ≡ 0x3b → unwrapped (fromUtf16 (partFrom start end l)) ≡ fromUtf16 inner
+      closed k = ap unwrapped (closed-text k) ∙ unwrap-both 0x4c (fromUtf16 inner) 0x3b refl refl
+
+      closed-units : getD l (end - 1) 0 ≡ 0x3b → length (utf8 (fromUtf16 (partFrom start end l))) ≡ length (utf8 (fromUtf16 inner)) + 2
+      closed-units k = ap (λ (t : Text). length (utf8 t)) (closed-text k) ∙ between-size (fromUtf16 inner)
 
       unclosed : (getD l (end - 1) 0 ≡ 0x3b → ⊥) → unwrapped (fromUtf16 (partFrom start end l)) ≡ fromUtf16 (partFrom start end l)
       unclosed k =
@@ -426,7 +470,7 @@ module _ (l : List ℕ) (start end : ℕ) where
 
       pub wrapped-is : WrappedTold l start end (eqb (getD l (end - 1) 0) 0x3b)
       wrapped-is = record {
-        yes = λ e. (omega arith, closed (eqb-true (getD l (end - 1) 0) 0x3b e));
+        yes = λ e. let k = eqb-true (getD l (end - 1) 0) 0x3b e in (omega arith, closed k, closed-units k);
         no = λ e. unclosed (eqb-false (getD l (end - 1) 0) 0x3b e);
       }
 
@@ -440,20 +484,35 @@ module _ (payload units ends : List ℕ) (index : ℕ) {r : Extent} (e : getElem
   unfolding d2String nameText sourceText
   class-none g q = rw (q, e, g)
 
-  pub class-units : {start limit : ℕ} → r ≡ extent.Part start limit → {end : ℕ} → ClippedTold units limit end → (a b : ℕ)
-      → unwrapped (fromUtf16 (partFrom start end units)) ≡ fromUtf16 (partFrom a b units)
-      → (d2String (stringsFrom 0 ends units) index >>= λ t. ok (classText t)) ≡ ok (nameText payload units (qualifiedPart (plain 3 start end) a b))
-  unfolding d2String nameText sourceText operated
-  class-units {start} {limit} g {end} c a b f =
-      rw (e, g, c .same start)
-      (ap (λ (t : Text). ok (some (dotted t))) (f ∙ sym (same-substituted (fromUtf16 (partFrom a b units)))))
+  module _ {start limit : ℕ} (g : r ≡ extent.Part start limit) {end : ℕ} (c : ClippedTold units limit end) where
+    -- the size that is noted of the string
+    sized-part : {size : ℕ} → SizeOf units ends index size → (size ≡ 0 → ⊥) → size ≡ length (utf8 (fromUtf16 (partFrom start end units)))
+    sized-part z n = z n (partFrom start limit units) (e ∙ ap (extentOf units) g) ∙ ap (λ (us : List ℕ). length (utf8 (fromUtf16 us))) (c .same start)
+
+    class-units : (a b size : ℕ) → unwrapped (fromUtf16 (partFrom start end units)) ≡ fromUtf16 (partFrom a b units)
+        → ((size ≡ 0 → ⊥) → size ≡ length (utf8 (fromUtf16 (partFrom a b units))))
+        → (d2String (stringsFrom 0 ends units) index >>= λ t. ok (classText t)) ≡ ok (nameText payload units (unitsName a b size))
+    unfolding d2String nameText sourceText operated
+    class-units a b size f z =
+        rw (e, g, c .same start)
+        (ap (λ (t : Text). ok (some (dotted t)))
+        (f ∙ sym (sized-is size (fromUtf16 (partFrom a b units)) z) ∙ ap (sized size) (sym (same-substituted (fromUtf16 (partFrom a b units))))))
+
+    pub class-whole : {n : Name} (size : ℕ) → SizeOf units ends index size → WrappedTold units start end false → n ≡ unitsName start end size
+        → (d2String (stringsFrom 0 ends units) index >>= λ t. ok (classText t)) ≡ ok (nameText payload units n)
+    class-whole size z w q = class-units start end size (w .no refl) (sized-part z) ∙ ap (λ (m : Name). ok (nameText payload units m)) (sym q)
+
+    pub class-inner : {n : Name} (size less : ℕ) → SizeOf units ends index size → WrappedTold units start end true → less ≡ classSize size start (start + 1)
+        → n ≡ unitsName (start + 1) (end - 1) less
+        → (d2String (stringsFrom 0 ends units) index >>= λ t. ok (classText t)) ≡ ok (nameText payload units n)
+    class-inner size less z w h q =
+        let y = w .yes refl in
+        let l : less ≡ size - 2 = h ∙ rw (ne-eqb (start + 1) start (λ x. omega arith)) in
+        class-units (start + 1) (end - 1) less (y .1) (λ n. let k = sized-part z (λ x. n (omega arith)) in omega (arith, y .2))
+        ∙ ap (λ (m : Name). ok (nameText payload units m)) (sym q)
 
 -- A class name by its index.
 module _ (n : Names) (index : ℕ) where
-  pub qualified-by : {x y : Option Text} → string n index ≡ ok x → y ≡ classText x → qualifiedName n index ≡ ok y
-  unfolding qualifiedName
-  qualified-by e f = rw (e, f)
-
   pub qualified-falls : {y : Res (Option Text)} → string n index ≡ n .d2 index → (n .d2 index >>= λ t. ok (classText t)) ≡ y → qualifiedName n index ≡ y
   unfolding qualifiedName
   qualified-falls e f = rw e f

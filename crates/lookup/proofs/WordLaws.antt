@@ -1,6 +1,6 @@
 -- What two words hold is what was put into them.
 -- Assumes nothing.
-use mathlib.Core.Path.{_≡_, refl, ap, sym, _∙_, subst}
+use mathlib.Core.Path.{_≡_, refl, ap, sym, _∙_}
 use mathlib.Core.Bool.{Bool, true, false}
 use Prim.Native.Nat.{ℕ, _+_, _-_, _*_, _/_, _%_, _≤_, _<_}
 use native.Mathlib.Omega.{arith}
@@ -8,8 +8,7 @@ use native.Mathlib.Nat.{mod-eq-of-lt}
 use borrow.Author.Tests.{eq-eqb, ne-eqb}
 use lib.Dec.{eqb}
 use Rattle.foundation.specs.Choices.{if_then_else_}
-use Rattle.lookup.specs.Lookups.{DecidedBytes}
-use Rattle.lookup.specs.Note.{notedName, noted, NameFits, DecidedFits, WordsTold}
+use Rattle.lookup.specs.Note.{notedName, noted, classSize, classOf, notedClass, notedAs, NameFits, WordsTold}
 use Rattle.names.specs.declared.name.Name.{Name}
 use Rattle.lookup.specs.declared.note.Words.{Words}
 use Rattle.lookup.specs.declared.Decided.{Decided}
@@ -19,10 +18,14 @@ pub noted-no : decided.No ≡ noted 0 0
 unfolding noted
 noted-no = refl
 
-same-name : {s s′ a a′ b b′ f f′ t t′ o o′ : ℕ} {q q′ : Bool} → s ≡ s′ → a ≡ a′ → b ≡ b′ → f ≡ f′ → t ≡ t′ → o ≡ o′ → q ≡ q′
-    → _≡_ {A = Name} (record { source = s; start = a; end = b; from = f; to = t; operation = o; qualified = q })
-    (record { source = s′; start = a′; end = b′; from = f′; to = t′; operation = o′; qualified = q′ })
-same-name e1 e2 e3 e4 e5 e6 e7 = rw (e1, e2, e3, e4, e5, e6, e7)
+pub class-no : decided.No ≡ notedClass 0 0
+unfolding notedClass
+class-no = refl
+
+same-name : {s s′ a a′ b b′ f f′ t t′ o o′ z z′ : ℕ} {q q′ : Bool} → s ≡ s′ → a ≡ a′ → b ≡ b′ → f ≡ f′ → t ≡ t′ → o ≡ o′ → q ≡ q′ → z ≡ z′
+    → _≡_ {A = Name} (record { source = s; start = a; end = b; from = f; to = t; operation = o; qualified = q; size = z })
+    (record { source = s′; start = a′; end = b′; from = f′; to = t′; operation = o′; qualified = q′; size = z′ })
+same-name e1 e2 e3 e4 e5 e6 e7 e8 = rw (e1, e2, e3, e4, e5, e6, e7, e8)
 
 low : (d n k : ℕ) → d < 4 → k ≡ d + 4 * n → (k % 4 ≡ d) × (k / 4 ≡ n)
 low d n k h e = (omega arith, omega arith)
@@ -30,59 +33,114 @@ low d n k h e = (omega arith, omega arith)
 character : (d n k : ℕ) → d < 2097152 → k ≡ d + 2097152 * n → (k % 2097152 ≡ d) × (k / 2097152 ≡ n)
 character d n k h e = (omega arith, omega arith)
 
-place-is : (d n k : ℕ) → d < 4294967296 → n < 4294967296 → k ≡ d % 4294967296 + 4294967296 * (n % 4294967296)
-    → (k % 4294967296 ≡ d) × (k / 4294967296 % 4294967296 ≡ n)
-place-is d n k h g e = (omega arith, omega arith)
+half : (d n k : ℕ) → d < 65536 → k ≡ d + 65536 * n → (k % 65536 ≡ d) × (k / 65536 ≡ n)
+half d n k h e = (omega arith, omega arith)
 
-nested : (s o f t : ℕ) → 1 + s + 4 * o + 16 * f + 33554432 * t ≡ 1 + s + 4 * (o + 4 * (f + 2097152 * t))
-nested s o f t = omega arith
+-- The first word.
+module _ (start end a b place : ℕ) (hs : start < 65536) (he : end < 65536) (ha : a < 65536) (hb : b < 65536)
+    (e : place ≡ start + 65536 * end + 4294967296 * (a + 65536 * b)) where
+  place-nested : place ≡ start + 65536 * (end + 65536 * (a + 65536 * b))
+  place-nested = omega arith
 
-pub noted-name : (n : Name) (place steps : ℕ) → NameFits n
-    → place ≡ n .start % 4294967296 + 4294967296 * (n .end % 4294967296)
-    → steps ≡ 1 + n .source + 4 * n .operation + 16 * n .from + 33554432 * n .to
-    → noted place steps ≡ decided.Yes n
-unfolding noted
-noted-name n place steps h p s =
-    let hs = h .source in
-    let p0 = place-is (n .start) (n .end) place (h .start) (h .end) p in
-    let l0 = low (1 + n .source) (n .operation + 4 * (n .from + 2097152 * n .to)) steps (omega arith) (s ∙ nested (n .source) (n .operation) (n .from) (n .to)) in
-    let l1 = low (n .operation) (n .from + 2097152 * n .to) (steps / 4) (h .operation) (l0 .1) in
-    let l2 = character (n .from) (n .to) (steps / 4 / 4) (h .from) (l1 .1) in
-    let z : steps % 4 - 1 ≡ n .source = ap (λ (x : ℕ). x - 1) (l0 .0) ∙ less (n .source) in
-    let t : steps / 4 / 4 / 2097152 % 2097152 ≡ n .to = ap (λ (x : ℕ). x % 2097152) (l2 .1) ∙ mod-eq-of-lt (h .to) in
-    rw (ne-eqb (steps % 4) 0 (λ e. more (n .source) (sym (l0 .0) ∙ e)))
-    (ap decided.Yes (same-name z (p0 .0) (p0 .1) (l2 .0) t (l1 .0) (sym (h .qualified))))
-  where
-    less : (s : ℕ) → 1 + s - 1 ≡ s
-    less s = omega arith
+  p0 : (place % 65536 ≡ start) × (place / 65536 ≡ end + 65536 * (a + 65536 * b))
+  p0 = half start (end + 65536 * (a + 65536 * b)) place hs place-nested
 
-    more : (s : ℕ) → 1 + s ≡ 0 → ⊥
-    more s e = omega arith
+  p1 : (place / 65536 % 65536 ≡ end) × (place / 65536 / 65536 ≡ a + 65536 * b)
+  p1 = half end (a + 65536 * b) (place / 65536) he (p0 .1)
 
-pub noted-none : (place steps : ℕ) → steps % 4 ≡ 0 → decided.No ≡ noted place steps
-unfolding noted
-noted-none place steps h = rw (eq-eqb (steps % 4) 0 h)
+  p2 : (place / 65536 / 65536 % 65536 ≡ a) × (place / 65536 / 65536 / 65536 ≡ b)
+  p2 = half a b (place / 65536 / 65536) ha (p1 .1)
 
-pub noted-some : (place steps : ℕ) → (steps % 4 ≡ 0 → ⊥) → decided.Yes (notedName place steps) ≡ noted place steps
-unfolding noted
-noted-some place steps h = rw (ne-eqb (steps % 4) 0 h)
+  pub starts : place % 65536 ≡ start
+  starts = p0 .0
 
-pub noted-bytes : (place steps : ℕ) → DecidedBytes (noted place steps)
-unfolding noted
-noted-bytes place steps = go (eqb (steps % 4) 0)
-  where
-    go : (b : Bool) → DecidedBytes (if b then decided.No else decided.Yes (notedName place steps))
-    go true = tt
-    go false = (small steps, refl, four (steps / 4), character-low (steps / 4 / 4), character-low (steps / 4 / 4 / 2097152))
-      where
-        small : (s : ℕ) → s % 4 - 1 ≤ 2
-        small s = omega arith
+  pub ends : place / 65536 % 65536 ≡ end
+  ends = p1 .0
 
-        four : (s : ℕ) → s % 4 < 4
-        four s = omega arith
+  pub class-starts : place / 65536 / 65536 % 65536 ≡ a
+  class-starts = p2 .0
 
-        character-low : (s : ℕ) → s % 2097152 < 2097152
-        character-low s = omega arith
+  pub class-ends : place / 65536 / 65536 / 65536 % 65536 ≡ b
+  class-ends = ap (λ (x : ℕ). x % 65536) (p2 .1) ∙ mod-eq-of-lt hb
 
-pub words-some : {d : Decided} {n : Name} (w : Words) → d ≡ decided.Yes n → WordsTold n w → DecidedFits d → noted (w .place) (w .steps) ≡ d
-words-some w e t = rw e t
+nested : (s o f t z : ℕ) → 1 + s + 4 * o + 16 * (f + 2097152 * (t + 2097152 * z)) ≡ 1 + s + 4 * (o + 4 * (f + 2097152 * (t + 2097152 * z)))
+nested s o f t z = omega arith
+
+module _ (n : Name) (a b place steps : ℕ) (h : NameFits n) (ha : a < 65536) (hb : b < 65536)
+    (p : place ≡ n .start + 65536 * n .end + 4294967296 * (a + 65536 * b))
+    (s : steps ≡ 1 + n .source + 4 * n .operation + 16 * (n .from + 2097152 * (n .to + 2097152 * n .size))) where
+  l0 : (steps % 4 ≡ 1 + n .source) × (steps / 4 ≡ n .operation + 4 * (n .from + 2097152 * (n .to + 2097152 * n .size)))
+  l0 =
+      let hs = h .source in
+      low (1 + n .source) (n .operation + 4 * (n .from + 2097152 * (n .to + 2097152 * n .size))) steps (omega arith)
+      (s ∙ nested (n .source) (n .operation) (n .from) (n .to) (n .size))
+
+  name-is : notedName place steps ≡ n
+  name-is =
+      let l1 = low (n .operation) (n .from + 2097152 * (n .to + 2097152 * n .size)) (steps / 4) (h .operation) (l0 .1) in
+      let l2 = character (n .from) (n .to + 2097152 * n .size) (steps / 4 / 4) (h .from) (l1 .1) in
+      let l3 = character (n .to) (n .size) (steps / 4 / 4 / 2097152) (h .to) (l2 .1) in
+      let z : steps % 4 - 1 ≡ n .source = ap (λ (x : ℕ). x - 1) (l0 .0) ∙ less (n .source) in
+      same-name z (starts (n .start) (n .end) a b place (h .start) (h .end) ha hb p) (ends (n .start) (n .end) a b place (h .start) (h .end) ha hb p)
+      (l2 .0) (l3 .0) (l1 .0) (sym (h .qualified)) (l3 .1)
+    where
+      less : (s : ℕ) → 1 + s - 1 ≡ s
+      less s = omega arith
+
+  there : eqb (steps % 4) 0 ≡ false
+  there = ne-eqb (steps % 4) 0 (λ e. more (n .source) (sym (l0 .0) ∙ e))
+    where
+      more : (s : ℕ) → 1 + s ≡ 0 → ⊥
+      more s e = omega arith
+
+  pub words-told : (noted place steps ≡ decided.Yes n) × (notedClass place steps ≡ decided.Yes (classOf n a b))
+  unfolding noted notedClass
+  words-told =
+      let f = class-starts (n .start) (n .end) a b place (h .start) (h .end) ha hb p in
+      let g = class-ends (n .start) (n .end) a b place (h .start) (h .end) ha hb p in
+      (rw there (ap decided.Yes name-is), rw (there, f, g) (ap (λ (m : Name). decided.Yes (classOf m a b)) name-is))
+
+-- Words taken apart.
+module _ (place steps : ℕ) where
+  pub noted-none : steps % 4 ≡ 0 → decided.No ≡ noted place steps
+  unfolding noted
+  noted-none h = rw (eq-eqb (steps % 4) 0 h)
+
+  pub noted-some : (steps % 4 ≡ 0 → ⊥) → decided.Yes (notedName place steps) ≡ noted place steps
+  unfolding noted
+  noted-some h = rw (ne-eqb (steps % 4) 0 h)
+
+  pub class-none : steps % 4 ≡ 0 → decided.No ≡ notedClass place steps
+  unfolding notedClass
+  class-none h = rw (eq-eqb (steps % 4) 0 h)
+
+  pub class-some : (steps % 4 ≡ 0 → ⊥) → {size : ℕ}
+      → size ≡ classSize (steps / 4 / 4 / 2097152 / 2097152) (place % 65536) (place / 65536 / 65536 % 65536)
+      → decided.Yes
+      (record {
+        source = steps % 4 - 1;
+        start = place / 65536 / 65536 % 65536;
+        end = place / 65536 / 65536 / 65536 % 65536;
+        from = steps / 4 / 4 % 2097152;
+        to = steps / 4 / 4 / 2097152 % 2097152;
+        operation = steps / 4 % 4;
+        qualified = true;
+        size = size;
+      })
+      ≡ notedClass place steps
+  unfolding notedClass
+  class-some h e = rw (ne-eqb (steps % 4) 0 h, e)
+
+  pub as-class : {c : Bool} {d : Decided} → c ≡ true → d ≡ notedClass place steps → d ≡ notedAs c place steps
+  as-class e f = rw e f
+
+  pub as-name : {c : Bool} {d : Decided} → c ≡ false → d ≡ noted place steps → d ≡ notedAs c place steps
+  as-name e f = rw e f
+
+-- The size of a class name.
+module _ (size start first : ℕ) where
+  pub class-same : first ≡ start → size ≡ classSize size start first
+  class-same e = rw (eq-eqb first start e)
+
+  pub class-less : (first ≡ start → ⊥) → {r : ℕ} → r ≡ size - 2 → r ≡ classSize size start first
+  class-less h e = rw (ne-eqb first start h) e

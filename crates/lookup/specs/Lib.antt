@@ -3,3 +3,4 @@ pub mod Steps
 pub mod Lookups
 pub mod Qualified
 pub mod Resolved
+pub mod Strings

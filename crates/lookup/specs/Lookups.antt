@@ -1,22 +1,24 @@
 -- What look-ups in the index of the name table's records tell.
 -- Assumes nothing.
 use mathlib.Core.Path.{_≡_}
-use mathlib.Core.Bool.{true, false}
+use mathlib.Core.Bool.{Bool, true, false}
 use mathlib.Core.List.{List}
 use mathlib.Core.Option.{Option, none, some}
-use Prim.Native.Nat.{ℕ, _+_, _*_, _/_, _%_, _^_, _≤_, _<_}
+use Prim.Native.Nat.{ℕ, suc, _+_, _*_, _/_, _%_, _^_, _≤_, _<_}
 use lib.ListN.{length, getD, getElem?}
+use Rattle.foundation.specs.Choices.{if_then_else_}
 use Rattle.foundation.specs.Results.{Res, ok, _from_}
 use Rattle.foundation.specs.Texts.{Text}
 use Rattle.wire.specs.Wire.{Message, cut}
 use Rattle.characters.specs.Characters.{partFrom}
 use Rattle.names.specs.Records.{Record, recordOf, decides, textOf, predefinedText}
-use Rattle.names.specs.Names.{recordAt, Names, string}
+use Rattle.names.specs.Names.{recordAt, Names, string, qualifiedName}
 use Rattle.names.specs.Name.{nameText}
-use Rattle.names.specs.Index.{startOf, endOf, Sums, IndexOf}
+use Rattle.names.specs.Index.{startOf, endOf, firstOf, Sums, IndexOf}
 use Rattle.names.specs.declared.name.Name.{Name}
 use Rattle.lookup.specs.Steps.{BytesName}
-use Rattle.lookup.specs.Note.{noted}
+use Rattle.lookup.specs.Note.{noted, notedClass, notedAs}
+use Rattle.lookup.specs.Qualified.{classText}
 use Rattle.lookup.specs.declared.Decided.{Decided}
 use Rattle.lookup.specs.declared.Decided.the-variants as decided
 use Rattle.lookup.specs.declared.steps.Extent.{Extent}
@@ -33,6 +35,10 @@ abbrev pub FoundBelow : ℕ → Served → Type 0
 FoundBelow count (found.Record at) = at < count
 FoundBelow count found.Nothing = Unit {0}
 
+-- it is record k of so many that serves an index
+abbrev pub ServesTold : List ℕ → ℕ → ℕ → ℕ → Type 0
+ServesTold notes count k index = (k < count) × (firstOf notes k ≤ index) × (index < firstOf notes (suc k))
+
 -- the record that serves an index
 pub record FindTold (notes : List ℕ) (count index : ℕ) (r : Served) : Type 0 where
   pub below : FoundBelow count r
@@ -45,10 +51,14 @@ PlaceTold bytes notes k (extent.Part start end) =
 PlaceTold bytes notes k extent.Nothing =
     3 * k + 2 < length notes → startOf (getD notes (3 * k) 0) ≤ endOf (getD notes (3 * k) 0) → endOf (getD notes (3 * k) 0) ≤ length bytes → ⊥
 
+-- a name, or with `class` a class name, by its index
+abbrev pub lookedUp : Bool → Names → ℕ → Res (Option Text)
+lookedUp class names index = if class then qualifiedName names index else string names index
+
 -- what a look-up comes to, by whether a record decides
-abbrev pub DecidedIs : List ℕ → List ℕ → Names → ℕ → Decided → Type 0
-DecidedIs bytes units names index (decided.Yes name) = string names index ≡ ok (nameText bytes units name)
-DecidedIs bytes units names index decided.No = string names index ≡ names .d2 index
+abbrev pub DecidedIs : List ℕ → List ℕ → Bool → Names → ℕ → Decided → Type 0
+DecidedIs bytes units class names index (decided.Yes name) = lookedUp class names index ≡ ok (nameText bytes units name)
+DecidedIs bytes units class names index decided.No = string names index ≡ names .d2 index
 
 abbrev pub DecidedBytes : Decided → Type 0
 DecidedBytes (decided.Yes name) = BytesName name
@@ -69,9 +79,16 @@ pub record NamedTold (bytes : List ℕ) (start end : ℕ) (r : Decided) : Type 0
   pub made : DecidedBytes r
   pub is : (m : Message) → cut (_from_ start (partFrom start end bytes)) ≡ ok m → (units : List ℕ) → NamedIs bytes units (recordOf m) r
 
--- What is noted of a record: whether it decides, and its name. Nothing of its message is read again.
+-- the same of its class name
+abbrev pub ClassIs : List ℕ → List ℕ → Record → Decided → Type 0
+ClassIs bytes units r (decided.Yes name) = (decides r ≡ true) × (classText (textOf r) ≡ nameText bytes units name)
+ClassIs bytes units r decided.No = decides r ≡ false
+
+-- What is noted of a record: whether it decides, its name and its class name, each with the size of its text. Nothing of its message is
+-- read again.
 pub record NoteTold (bytes : List ℕ) (r : Record) (place steps : ℕ) : Type 0 where
   pub is : (units : List ℕ) → NamedIs bytes units r (noted place steps)
+  pub class : (units : List ℕ) → ClassIs bytes units r (notedClass place steps)
 
 -- The index of a name table's records, each worked out: what it builds, and which indices it serves.
 pub record NotesOf (bytes notes : List ℕ) (count : ℕ) (records : List Record) : Type 0 where
@@ -79,10 +96,10 @@ pub record NotesOf (bytes notes : List ℕ) (count : ℕ) (records : List Record
   pub each : (k : ℕ) (r : Record) → getElem? records k ≡ some r → NoteTold bytes r (getD notes (3 * k) 0) (getD notes (3 * k + 1) 0)
 
 -- by the words of record k, if they are there
-abbrev pub WordsAt : List ℕ → ℕ → Decided → Type 0
-WordsAt notes k r = (3 * k + 2 < length notes → r ≡ noted (getD notes (3 * k) 0) (getD notes (3 * k + 1) 0)) × DecidedBytes r
+abbrev pub WordsAt : List ℕ → ℕ → Bool → Decided → Type 0
+WordsAt notes k class r = 3 * k + 2 < length notes → r ≡ notedAs class (getD notes (3 * k) 0) (getD notes (3 * k + 1) 0)
 
-pub record DecidedTold (bytes notes : List ℕ) (count index : ℕ) (r : Decided) : Type 0 where
-  pub made : DecidedBytes r
-  pub is : (units : List ℕ) (records : List Record) (d2 : ℕ → Res (Option Text)) → NotesOf bytes notes count records
-      → DecidedIs bytes units (record { records = records; d2 = d2 }) index r
+abbrev pub DecidedTold : List ℕ → ℕ → ℕ → Bool → Decided → Type 0
+DecidedTold notes count index class r =
+    (bytes units : List ℕ) (records : List Record) (d2 : ℕ → Res (Option Text)) → NotesOf bytes notes count records
+    → DecidedIs bytes units class (record { records = records; d2 = d2 }) index r

@@ -6,13 +6,15 @@ use mathlib.Core.List.{List, [], _∷_, _++_}
 use mathlib.Core.Option.{Option}
 use Prim.Native.Nat.{ℕ, _+_, _-_, _≤_, _<_}
 use lib.ListN.{length, take}
-use Rattle.foundation.specs.Choices.{mapOption}
+use lib.Dec.{eqb}
+use Rattle.foundation.specs.Choices.{if_then_else_, mapOption}
 use Rattle.foundation.specs.Results.{ok, _>>=_}
 use Rattle.foundation.specs.Texts.{Text}
-use Rattle.characters.specs.Characters.{fromUtf8, fromUtf16, partFrom}
+use Rattle.characters.specs.Characters.{utf8, fromUtf8, fromUtf16, partFrom}
 use Rattle.names.specs.Records.{substituted, dotted}
 use Rattle.names.specs.Names.{unwrapped, stringsFrom, endsFit, d2String}
-use Rattle.names.specs.Name.{nameText}
+use Rattle.names.specs.Name.{predefinedList, nameText}
+use Rattle.names.specs.Stream.{baseOf}
 use Rattle.names.specs.declared.name.Name.{Name}
 use Rattle.lookup.specs.declared.qualified.Last.{Last}
 use Rattle.lookup.specs.declared.qualified.Last.the-variants as last
@@ -24,10 +26,18 @@ abbrev pub LastTold : List ℕ → Last → Type 0
 LastTold s (last.Character place code) = (fromUtf8 s ≡ fromUtf8 (take place s) ++ (code ∷ [])) × (place ≤ length s)
 LastTold s last.Nothing = s ≡ []
 
+-- how many bytes a text takes, every character `from` become `to`
+abbrev pub sizeWith : ℕ → ℕ → List ℕ → ℕ
+sizeWith from to s = length (utf8 (substituted from to (fromUtf8 s)))
+
 -- the part of some bytes that is left of their text without L and ;
 abbrev pub UnwrapTold : List ℕ → ℕ → ℕ → Extent → Type 0
 UnwrapTold s from to (extent.Part a b) =
-    (unwrapped (substituted from to (fromUtf8 s)) ≡ substituted from to (fromUtf8 (partFrom a b s))) × (a ≤ b) × (b ≤ length s)
+    (unwrapped (substituted from to (fromUtf8 s)) ≡ substituted from to (fromUtf8 (partFrom a b s)))
+    × (a ≤ b)
+    × (b ≤ length s)
+    × (0 < a)
+    × (sizeWith from to s ≡ sizeWith from to (partFrom a b s) + 2)
 UnwrapTold s from to extent.Nothing = unwrapped (substituted from to (fromUtf8 s)) ≡ substituted from to (fromUtf8 s)
 
 abbrev pub qualifiedPart : Name → ℕ → ℕ → Name
@@ -39,14 +49,22 @@ qualifiedPart n start end = record {
   to = n .to;
   operation = n .operation;
   qualified = true;
+  size = 0;
 }
 
 abbrev pub classText : Option Text → Option Text
 classText = mapOption λ u. dotted (unwrapped u)
 
--- the class name of a name
-abbrev pub QualifiedTold : List ℕ → Name → Name → Type 0
-QualifiedTold payload n r = (d2 : List ℕ) → nameText payload d2 r ≡ classText (nameText payload d2 n)
+-- the size of a part of a name's source, after the replacement
+abbrev pub partSize : List ℕ → Name → ℕ → ℕ → ℕ
+partSize payload n start end = sizeWith (n .from) (n .to) (partFrom start end (baseOf (n .source) payload predefinedList))
+
+-- The class name of a name is made of the same part of its source, or of a later one without L and ;.
+pub record ClassTold (payload : List ℕ) (n r : Name) : Type 0 where
+  pub part : r ≡ qualifiedPart n (r .start) (r .end)
+  pub is : (d2 : List ℕ) → nameText payload d2 r ≡ classText (nameText payload d2 n)
+  pub inside : n .start ≤ n .end → (r .start ≤ n .end) × (r .end ≤ n .end)
+  pub size : partSize payload n (n .start) (n .end) ≡ partSize payload n (r .start) (r .end) + (if eqb (r .start) (n .start) then 0 else 2)
 
 -- an end that is no later than that of the units, and gives the same parts
 pub record ClippedTold (units : List ℕ) (end r : ℕ) : Type 0 where
@@ -55,8 +73,15 @@ pub record ClippedTold (units : List ℕ) (end r : ℕ) : Type 0 where
 
 -- whether units begin with L and end with ;
 pub record WrappedTold (units : List ℕ) (start end : ℕ) (r : Bool) : Type 0 where
-  pub yes : r ≡ true → (start + 1 < end) × (unwrapped (fromUtf16 (partFrom start end units)) ≡ fromUtf16 (partFrom (start + 1) (end - 1) units))
+  pub yes : r ≡ true
+      → (start + 1 < end)
+      × (unwrapped (fromUtf16 (partFrom start end units)) ≡ fromUtf16 (partFrom (start + 1) (end - 1) units))
+      × (length (utf8 (fromUtf16 (partFrom start end units))) ≡ length (utf8 (fromUtf16 (partFrom (start + 1) (end - 1) units))) + 2)
   pub no : r ≡ false → unwrapped (fromUtf16 (partFrom start end units)) ≡ fromUtf16 (partFrom start end units)
+
+-- a class name made of units of d2
+abbrev pub unitsName : ℕ → ℕ → ℕ → Name
+unitsName start end size = record { source = 3; start = start; end = end; from = 0; to = 0; operation = 0; qualified = true; size = size }
 
 -- the class name of a string of d2
 abbrev pub QualifiedUnits : List ℕ → List ℕ → ℕ → Name → Type 0

@@ -71,9 +71,9 @@ known operation = if eqb operation 1 then 1 else if eqb operation 2 then 2 else 
 abbrev pub withSteps : Option (ℕ × ℕ) → ℕ → Option Text → Option Text
 withSteps replaced operation text = ifSome text none λ t. mapOption (operated operation) (stepped replaceOf replaced t)
 
--- a name that is made of bytes, not of units, and is no class name yet
+-- a name that is made of bytes, not of units, and is no class name yet; its size isn't noted yet
 abbrev pub BytesName : Name → Type 0
-BytesName n = (n .source ≤ 2) × (n .qualified ≡ false) × (n .operation < 4) × (n .from < 2097152) × (n .to < 2097152)
+BytesName n = (n .source ≤ 2) × (n .qualified ≡ false) × (n .operation < 4) × (n .from < 2097152) × (n .to < 2097152) × (n .size ≡ 0)
 
 pub record StepsTold (source start end : ℕ) (replaced : Option (ℕ × ℕ)) (operation : ℕ) (r : Name) : Type 0 where
   pub bytes : source ≤ 2 → BytesName r

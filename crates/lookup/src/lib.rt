@@ -2,24 +2,29 @@
 ghost use mathlib.Core.Path.{_≡_};
 ghost use mathlib.Core.Bool.{true};
 ghost use mathlib.Core.List.{List};
-ghost use Prim.Native.Nat.{ℕ, _^_, _≤_, _<_};
+ghost use Prim.Native.Nat.{ℕ, _*_, _^_, _≤_, _<_};
 ghost use lib.ListN.{length, getElem?};
 ghost use Rattle.names.specs.Records.{Record};
 ghost use Rattle.foundation.specs.Results.{ok};
 ghost use Rattle.names.specs.Name.{nameText};
 ghost use Rattle.names.specs.Names.{stringsFrom, endsFit, d2String, string};
-ghost use Rattle.lookup.specs.Lookups.{FindTold, PlaceTold, PredefinedTold, NamedTold, NotesOf, WordsAt, DecidedTold};
+ghost use Rattle.lookup.specs.Lookups.{ServesTold, FindTold, PlaceTold, PredefinedTold, NamedTold, NotesOf, WordsAt, DecidedTold};
 ghost use Rattle.lookup.specs.Steps.{extentOf};
+ghost use Rattle.lookup.specs.Strings.{SizesOf};
 
+pub mod codes; // codes.rt: a code for each of the first indices
+pub mod strings; // strings.rt: the sizes of long strings of d2
 pub mod note; // note.rt: what a record builds, in two words
 pub mod steps; // steps.rt: the name that a record builds
 pub mod resolve; // resolve.rt: each record worked out once
 pub mod qualified; // qualified.rt: class names by their index
 
-use crate::note::noted;
+use crate::codes::code_at;
+use crate::note::noted_as;
 use crate::steps::Extent;
 use crate::steps::decides;
 use crate::steps::record_name;
+use crate::strings::size_at;
 use fields::RECORD_OPERATION;
 use fields::RECORD_PREDEFINED_INDEX;
 use fields::RECORD_RANGE;
@@ -36,6 +41,23 @@ pub enum Served {
     Nothing,
 }
 
+// Is it this record that serves an index?
+fn serves(notes: &[u64], count: usize, at: usize, index: u64) -> bool
+    requires { ⌜ 3 * count ≤ length (now notes) ⌝ }
+    ensures { λ r. ⌜ (r ≡ true → ServesTold (now (notes .entry)) count at index) ⌝ }
+{
+    if count <= at {
+        return false;
+    }
+    if notes[RECORD_WORDS * at + 2] <= index {
+        return false;
+    }
+    if at == 0 {
+        return true;
+    }
+    notes[RECORD_WORDS * at - 1] <= index
+}
+
 // The record that serves an index, by the first index that each of `count` records serves and the first that none does.
 pub fn find_record(notes: &[u64], count: usize, index: u32) -> Served
     ensures { λ r. ⌜ FindTold (now (notes .entry)) count index r ⌝ }
@@ -49,6 +71,10 @@ pub fn find_record(notes: &[u64], count: usize, index: u32) -> Served
     let wanted = index as u64;
     if notes[RECORD_WORDS * count - 1] <= wanted {
         return Served::Nothing;
+    }
+    let code = code_at(&*notes, wide(index));
+    if serves(&*notes, count, code, wanted) {
+        return Served::Record { at: code };
     }
     // it serves no index below that of `low`, and that of `high` is past it
     let mut low = 0;
@@ -81,8 +107,8 @@ pub fn d2_extent(ends: &[u32], index: u32) -> Extent
 }
 
 // A string of d2 as a name, with no step.
-fn d2_name(ends: &[u32], index: u32) -> Name
-    ensures { λ r. ⌜ ((payload units : List ℕ) → endsFit 0 (now (ends .entry)) (length units) ≡ true → d2String (stringsFrom 0 (now (ends .entry)) units) index ≡ ok (nameText payload units r)) ⌝ }
+fn d2_name(notes: &[u64], ends: &[u32], index: u32) -> Name
+    ensures { λ r. ⌜ ((payload units : List ℕ) → endsFit 0 (now (ends .entry)) (length units) ≡ true → SizesOf units (now (ends .entry)) (now (notes .entry)) → d2String (stringsFrom 0 (now (ends .entry)) units) index ≡ ok (nameText payload units r)) ⌝ }
 {
     let extent = d2_extent(&*ends, index);
     let Extent::Part { start, end } = extent else {
@@ -96,6 +122,7 @@ fn d2_name(ends: &[u32], index: u32) -> Name
         to: 0,
         operation: 0,
         qualified: false,
+        size: size_at(&*notes, index, start, end),
     }
 }
 
@@ -154,6 +181,7 @@ fn listed_name(index: u32) -> Name
         to: 0,
         operation: 0,
         qualified: false,
+        size: 0,
     }
 }
 
@@ -193,34 +221,35 @@ pub fn record_at(bytes: &[u8], start: usize, end: usize) -> Decided
     read_record(&*bytes, start, end)
 }
 
-// What is noted of record `at`.
-fn noted_at(notes: &[u64], at: usize) -> Decided
-    ensures { λ r. ⌜ WordsAt (now (notes .entry)) at r ⌝ }
+// What is noted of record `at`: its name, or with `class` its class name.
+fn noted_at(notes: &[u64], at: usize, class: bool) -> Decided
+    ensures { λ r. ⌜ WordsAt (now (notes .entry)) at class r ⌝ }
 {
     if notes.len() / RECORD_WORDS <= at {
         return Decided::No;
     }
-    noted(notes[RECORD_WORDS * at], notes[RECORD_WORDS * at + 1])
+    noted_as(class, notes[RECORD_WORDS * at], notes[RECORD_WORDS * at + 1])
 }
 
-// The name that the record of an index builds, if it decides: it has a string or a predefined index, even if its text can't be built.
-pub fn by_record(bytes: &[u8], notes: &[u64], count: usize, index: u32) -> Decided
-    ensures { λ r. ⌜ DecidedTold (now (bytes .entry)) (now (notes .entry)) count index r ⌝ }
+// The name that the record of an index builds, or with `class` its class name, if it decides: it has a string or a predefined index, even if
+// its text can't be built.
+pub fn by_record(notes: &[u64], count: usize, index: u32, class: bool) -> Decided
+    ensures { λ r. ⌜ DecidedTold (now (notes .entry)) count index class r ⌝ }
 {
     let found = find_record(&*notes, count, index);
     let Served::Record { at } = found else {
         return Decided::No;
     };
-    noted_at(&*notes, at)
+    noted_at(&*notes, at, class)
 }
 
 // The string with an index, of the name table whose index stands in `notes`; d2's strings end at `ends`.
 pub fn string(bytes: &[u8], notes: &[u64], count: usize, ends: &[u32], index: u32) -> Name
-    ensures { λ r. ⌜ ((units : List ℕ) (records : List Record) → endsFit 0 (now (ends .entry)) (length units) ≡ true → NotesOf (now (bytes .entry)) (now (notes .entry)) count records → string (record { records = records; d2 = d2String (stringsFrom 0 (now (ends .entry)) units) }) index ≡ ok (nameText (now (bytes .entry)) units r)) ⌝ }
+    ensures { λ r. ⌜ ((units : List ℕ) (records : List Record) → endsFit 0 (now (ends .entry)) (length units) ≡ true → SizesOf units (now (ends .entry)) (now (notes .entry)) → NotesOf (now (bytes .entry)) (now (notes .entry)) count records → string (record { records = records; d2 = d2String (stringsFrom 0 (now (ends .entry)) units) }) index ≡ ok (nameText (now (bytes .entry)) units r)) ⌝ }
 {
-    let answer = by_record(&*bytes, &*notes, count, index);
+    let answer = by_record(&*notes, count, index, false);
     let Decided::Yes { name } = answer else {
-        return d2_name(&*ends, index);
+        return d2_name(&*notes, &*ends, index);
     };
     name
 }

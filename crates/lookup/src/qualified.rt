@@ -11,11 +11,14 @@ ghost use Rattle.names.specs.Names.{stringsFrom, endsFit, d2String, qualifiedNa
 ghost use Rattle.names.specs.Name.{nameText};
 ghost use Rattle.lookup.specs.Lookups.{NotesOf};
 ghost use Rattle.lookup.specs.Steps.{BytesName};
-ghost use Rattle.lookup.specs.Qualified.{LastTold, UnwrapTold, qualifiedPart, QualifiedTold, ClippedTold, WrappedTold, QualifiedUnits};
+ghost use Rattle.lookup.specs.Qualified.{LastTold, UnwrapTold, qualifiedPart, ClassTold, ClippedTold, WrappedTold, unitsName, QualifiedUnits};
+ghost use Rattle.lookup.specs.Strings.{SizesOf};
 use crate::Decided;
 use crate::by_record;
 use crate::d2_extent;
+use crate::note::class_size;
 use crate::steps::Extent;
+use crate::strings::size_at;
 use characters::Character;
 use characters::utf8_at;
 use names::name::Name;
@@ -83,13 +86,14 @@ fn qualified_part(name: Name, start: usize, end: usize) -> Name
         to: name.to,
         operation: name.operation,
         qualified: true,
+        size: 0,
     }
 }
 
-// The class name of a record's name. What operation 2 puts in front begins with no L.
-fn qualified_bytes(payload: &[u8], name: Name) -> Name
+// The class name of a record's name, when the record is worked out. What operation 2 puts in front begins with no L.
+pub fn qualified_bytes(payload: &[u8], name: Name) -> Name
     requires { ⌜ BytesName name ⌝ }
-    ensures { λ r. ⌜ QualifiedTold (now (payload .entry)) name r ⌝ }
+    ensures { λ r. ⌜ ClassTold (now (payload .entry)) name r ⌝ }
 {
     let source = name.source;
     let start = name.start;
@@ -132,16 +136,11 @@ fn is_wrapped(units: &[u16], start: usize, end: usize) -> bool
     units[last] == 0x3b
 }
 
-// The class name of a string of d2.
-fn qualified_units(units: &[u16], ends: &[u32], index: u32) -> Name
-    ensures { λ r. ⌜ QualifiedUnits (now (units .entry)) (now (ends .entry)) index r ⌝ }
+// A class name made of units of d2.
+fn units_name(start: usize, end: usize, size: usize) -> Name
+    ensures { λ r. ⌜ r ≡ unitsName start end size ⌝ }
 {
-    let extent = d2_extent(&*ends, index);
-    let Extent::Part { start, end: limit } = extent else {
-        return absent();
-    };
-    let end = clipped(&*units, limit);
-    let name = Name {
+    Name {
         source: 3,
         start,
         end,
@@ -149,11 +148,24 @@ fn qualified_units(units: &[u16], ends: &[u32], index: u32) -> Name
         to: 0,
         operation: 0,
         qualified: true,
-    };
-    if is_wrapped(&*units, start, end) {
-        return qualified_part(name, start + 1, end - 1);
+        size,
     }
-    name
+}
+
+// The class name of a string of d2.
+fn qualified_units(notes: &[u64], units: &[u16], ends: &[u32], index: u32) -> Name
+    ensures { λ r. ⌜ (SizesOf (now (units .entry)) (now (ends .entry)) (now (notes .entry)) → QualifiedUnits (now (units .entry)) (now (ends .entry)) index r) ⌝ }
+{
+    let extent = d2_extent(&*ends, index);
+    let Extent::Part { start, end: limit } = extent else {
+        return absent();
+    };
+    let end = clipped(&*units, limit);
+    let size = size_at(&*notes, index, start, limit);
+    if is_wrapped(&*units, start, end) {
+        return units_name(start + 1, end - 1, class_size(size, start, start + 1));
+    }
+    units_name(start, end, size)
 }
 
 // The class name with an index; as `string`, with the units of d2.
@@ -165,11 +177,11 @@ pub fn qualified_name(
     ends: &[u32],
     index: u32,
 ) -> Name
-    ensures { λ r. ⌜ ((records : List Record) → endsFit 0 (now (ends .entry)) (length (now (units .entry))) ≡ true → NotesOf (now (bytes .entry)) (now (notes .entry)) count records → qualifiedName (record { records = records; d2 = d2String (stringsFrom 0 (now (ends .entry)) (now (units .entry))) }) index ≡ ok (nameText (now (bytes .entry)) (now (units .entry)) r)) ⌝ }
+    ensures { λ r. ⌜ ((records : List Record) → endsFit 0 (now (ends .entry)) (length (now (units .entry))) ≡ true → SizesOf (now (units .entry)) (now (ends .entry)) (now (notes .entry)) → NotesOf (now (bytes .entry)) (now (notes .entry)) count records → qualifiedName (record { records = records; d2 = d2String (stringsFrom 0 (now (ends .entry)) (now (units .entry))) }) index ≡ ok (nameText (now (bytes .entry)) (now (units .entry)) r)) ⌝ }
 {
-    let answer = by_record(&*bytes, &*notes, count, index);
+    let answer = by_record(&*notes, count, index, true);
     let Decided::Yes { name } = answer else {
-        return qualified_units(&*units, &*ends, index);
+        return qualified_units(&*notes, &*units, &*ends, index);
     };
-    qualified_bytes(&*bytes, name)
+    name
 }

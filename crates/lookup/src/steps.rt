@@ -155,6 +155,7 @@ fn with_steps(source: u8, start: usize, end: usize, replaced: Two, operation: u6
                     to: second,
                     operation,
                     qualified: false,
+                    size: 0,
                 };
             }
             absent()
@@ -167,6 +168,7 @@ fn with_steps(source: u8, start: usize, end: usize, replaced: Two, operation: u6
             to: 0,
             operation,
             qualified: false,
+            size: 0,
         },
     }
 }

@@ -76,7 +76,7 @@ fn read_small(
     ensures { λ r. ⌜ answered (now (sheet .entry)) (now (text .entry)) kind (readingOf kind (now (d1 .entry)) (now (d2 .entry)) (now (ends .entry))) ≡ told r (now (sheet .exit)) (now (text .exit)) ⌝ }
 {
     let mut bytes = [0u8; 256];
-    let mut notes = [0u64; 384];
+    let mut notes = [0u64; 560];
     let mut scratch_sheet = [0u8; 512];
     let mut scratch_text = [0u8; 1024];
     let passed = decode_in(
@@ -110,7 +110,7 @@ fn read_medium(
     ensures { λ r. ⌜ answered (now (sheet .entry)) (now (text .entry)) kind (readingOf kind (now (d1 .entry)) (now (d2 .entry)) (now (ends .entry))) ≡ told r (now (sheet .exit)) (now (text .exit)) ⌝ }
 {
     let mut bytes = [0u8; 1024];
-    let mut notes = [0u64; 1536];
+    let mut notes = [0u64; 2096];
     let mut scratch_sheet = [0u8; 2048];
     let mut scratch_text = [0u8; 6144];
     let passed = decode_in(
@@ -144,7 +144,7 @@ fn read_big(
     ensures { λ r. ⌜ answered (now (sheet .entry)) (now (text .entry)) kind (readingOf kind (now (d1 .entry)) (now (d2 .entry)) (now (ends .entry))) ≡ told r (now (sheet .exit)) (now (text .exit)) ⌝ }
 {
     let mut bytes = [0u8; 8192];
-    let mut notes = [0u64; 12288];
+    let mut notes = [0u64; 14368];
     let mut scratch_sheet = [0u8; 12288];
     let mut scratch_text = [0u8; 45056];
     let passed = decode_in(
@@ -178,7 +178,7 @@ fn read_large(
     ensures { λ r. ⌜ answered (now (sheet .entry)) (now (text .entry)) kind (readingOf kind (now (d1 .entry)) (now (d2 .entry)) (now (ends .entry))) ≡ told r (now (sheet .exit)) (now (text .exit)) ⌝ }
 {
     let mut bytes = [0u8; 32768];
-    let mut notes = [0u64; 49152];
+    let mut notes = [0u64; 51232];
     let mut scratch_sheet = [0u8; 49152];
     let mut scratch_text = [0u8; 65536];
     let passed = decode_in(

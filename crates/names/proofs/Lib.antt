@@ -4,8 +4,10 @@ pub mod LengthLaws
 pub mod ListLaws
 pub mod NameLaws
 pub mod StreamLaws
+pub mod FittedLaws
 pub mod AsciiLaws
 pub mod RecordLaws
 pub mod NoteLaws
 pub mod PresentLaws
 pub mod WidthLaws
+pub mod MeasuredLaws

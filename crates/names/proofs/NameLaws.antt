@@ -17,11 +17,13 @@ use Rattle.characters.specs.Characters.{utf8Of, utf8, fromUtf8, fromUtf16, part
 use Rattle.characters.specs.Plain.{instead, withDots, withSlashes}
 use Rattle.characters.proofs.TestLaws.{below}
 use Rattle.characters.proofs.Utf8Laws.{utf8-append}
-use Rattle.names.specs.Name.{predefinedList, sourceText, steppedBy, nameText}
+use Rattle.names.specs.Name.{predefinedList, sourceText, fitted, isMeasured, sized, steppedBy, nameText}
 use Rattle.names.specs.Records.{substituted, dotted, operated}
-use Rattle.names.specs.Stream.{changed, changeOf, prefixOf, printed, baseOf, changedBytes, sourceBytes, nameBytes}
+use Rattle.names.specs.Stream.{changed, changeOf, prefixOf, printed, baseOf, changedBytes, sizedBytes, sourceBytes, nameBytes}
 use Rattle.names.specs.declared.name.Name.{Name}
 use Rattle.names.specs.declared.name.Change.{Change}
+use Rattle.names.proofs.FittedLaws.{sized-map}
+use Rattle.names.proofs.WidthLaws.{dots-width, slashes-width}
 
 -- A part that goes to the end of s.
 pub part-rest : (s : List ℕ) (start end : ℕ) → length s ≤ end → take (length s - start) (drop start s) ≡ partFrom start end s
@@ -49,30 +51,39 @@ dots-once c =
     go true e h = refl
     go false e h = rw (e, h)
 
-dotted-parts : (f : ℕ → ℕ) (p t : Text) → dotted (p ++ map f t) ≡ dotted p ++ map (λ c. withDots true (f c)) t
-dotted-parts f p t =
-    ap (substituted 0x2f 0x2e) (map-parts (instead 0x24 0x2e) f p t)
-    ∙ map-parts (instead 0x2f 0x2e) (λ c. instead 0x24 0x2e (f c)) (substituted 0x24 0x2e p) t
+dotted-each : (t : Text) → dotted t ≡ map (withDots true) t
+dotted-each [] = refl
+dotted-each (c ∷ t) = ap (λ (u : Text). withDots true c ∷ u) (dotted-each t)
+
+map-same : (t : Text) → t ≡ map (λ c. c) t
+map-same [] = refl
+map-same (c ∷ t) = ap (λ (u : Text). c ∷ u) (map-same t)
 
 -- What a name's steps do: a text in front, and a change of each character.
-module _ (from to : ℕ) (t : Text) where
-  stepped-cases : (one two qualified : Bool) → (one ≡ true → two ≡ false)
-      → let r = substituted from to t in
-      let it = if one then dotted r else if two then ascii "kotlin.collections." ++ r else r in
-      (if qualified then dotted it else it)
-      ≡ (if two then ascii "kotlin.collections." else []) ++ map (λ c. withDots (one || qualified) (instead from to c)) t
-  stepped-cases true true q h =
-      let e = h refl in
-      let z : _≡_ {A = ℕ} 0 1 = cc in
-      absurd (omega arith)
-  stepped-cases true false true h =
-      let f : ℕ → ℕ = λ c. withDots true (instead from to c) in
-      ap dotted (dotted-parts (instead from to) [] t) ∙ dotted-parts f [] t ∙ map-each (λ c. withDots true (f c)) f (λ c. dots-once (instead from to c)) t
-  stepped-cases true false false h = dotted-parts (instead from to) [] t
-  stepped-cases false true true h = dotted-parts (instead from to) (ascii "kotlin.collections.") t
-  stepped-cases false true false h = refl
-  stepped-cases false false true h = dotted-parts (instead from to) [] t
-  stepped-cases false false false h = refl
+stepped-cases : (t : Text) (one two qualified : Bool) → (one ≡ true → two ≡ false)
+    → let it = if one then dotted t else if two then ascii "kotlin.collections." ++ t else t in
+    (if qualified then dotted it else it)
+    ≡ (if two then ascii "kotlin.collections." else []) ++ map (λ c. withDots (one || qualified) c) t
+stepped-cases t true true q h =
+    let e = h refl in
+    let z : _≡_ {A = ℕ} 0 1 = cc in
+    absurd (omega arith)
+stepped-cases t true false true h =
+    ap dotted (dotted-each t)
+    ∙ dotted-each (map (withDots true) t)
+    ∙ map-parts (withDots true) (withDots true) [] t
+    ∙ map-each (λ c. withDots true (withDots true c)) (withDots true) dots-once t
+stepped-cases t true false false h = dotted-each t
+stepped-cases t false true true h = dotted-each (ascii "kotlin.collections." ++ t)
+stepped-cases t false true false h = ap (λ (u : Text). ascii "kotlin.collections." ++ u) (map-same t)
+stepped-cases t false false true h = dotted-each t
+stepped-cases t false false false h = map-same t
+
+zero-shown : (dots slashes : Bool) → withSlashes slashes (withDots dots 0) ≡ 0
+zero-shown true true = refl
+zero-shown true false = refl
+zero-shown false true = refl
+zero-shown false false = refl
 
 printed-parts : (slashes : Bool) (f : ℕ → ℕ) (p t : Text)
     → printed slashes (p ++ map f t) ≡ printed slashes p ++ map (λ c. withSlashes slashes (f c)) t
@@ -80,13 +91,19 @@ printed-parts true f p t = map-parts (instead 0x2e 0x2f) f p t
 printed-parts false f p t = refl
 
 pub stepped-is : (n : Name) (t : Text) (slashes : Bool)
-    → printed slashes (steppedBy n t) ≡ printed slashes (prefixOf (n .operation)) ++ map (changed (changeOf n slashes)) t
+    → printed slashes (steppedBy n t) ≡ printed slashes (prefixOf (n .operation)) ++ sized (n .size) (map (changed (changeOf n slashes)) t)
 unfolding operated changed
 stepped-is n t slashes =
     let op = n .operation in
+    let dots = eqb op 1 || n .qualified in
+    let u = sized (n .size) (substituted (n .from) (n .to) t) in
+    let f : ℕ → ℕ = λ c. withSlashes slashes (withDots dots c) in
     let h : eqb op 1 ≡ true → eqb op 2 ≡ false = λ e. ne-eqb op 2 λ g. omega (arith, eqb-true op 1 e) in
-    ap (printed slashes) (stepped-cases (n .from) (n .to) t (eqb op 1) (eqb op 2) (n .qualified) h)
-    ∙ printed-parts slashes (λ c. withDots (eqb op 1 || n .qualified) (instead (n .from) (n .to) c)) (prefixOf op) t
+    ap (printed slashes) (stepped-cases u (eqb op 1) (eqb op 2) (n .qualified) h)
+    ∙ printed-parts slashes (withDots dots) (prefixOf op) u
+    ∙ ap (λ (v : Text). printed slashes (prefixOf op) ++ v)
+    (sized-map f (λ c. slashes-width slashes (withDots dots c) ∙ dots-width dots c) (zero-shown dots slashes) (n .size) (substituted (n .from) (n .to) t)
+    ∙ ap (sized (n .size)) (map-parts f (instead (n .from) (n .to)) [] t))
 
 -- What a name is made of, by its source.
 module _ (payload d2 : List ℕ) (n : Name) where
@@ -146,26 +163,36 @@ module _ (payload d2 : List ℕ) (n : Name) where
     past-bytes e = none-bytes (source-past e)
 
     pub some-bytes : (t : Text) → sourceText payload d2 n ≡ some t
-        → nameBytes payload d2 n slashes ≡ utf8 (printed slashes (prefixOf (n .operation))) ++ sourceBytes (changeOf n slashes) (sourceText payload d2 n)
+        → nameBytes payload d2 n slashes ≡ utf8 (printed slashes (prefixOf (n .operation))) ++ sourceBytes (n .size) (changeOf n slashes) (sourceText payload d2 n)
     unfolding nameBytes nameText
     some-bytes t e =
-        rw e (ap utf8 (stepped-is n t slashes) ∙ utf8-append (printed slashes (prefixOf (n .operation))) (map (changed (changeOf n slashes)) t))
+        rw e (ap utf8 (stepped-is n t slashes) ∙ utf8-append (printed slashes (prefixOf (n .operation))) (sized (n .size) (map (changed (changeOf n slashes)) t)))
 
     pub name-bytes : 0 < n .source → n .source ≤ 3
-        → nameBytes payload d2 n slashes ≡ utf8 (printed slashes (prefixOf (n .operation))) ++ sourceBytes (changeOf n slashes) (sourceText payload d2 n)
+        → nameBytes payload d2 n slashes ≡ utf8 (printed slashes (prefixOf (n .operation))) ++ sourceBytes (n .size) (changeOf n slashes) (sourceText payload d2 n)
     name-bytes g h =
         let s = source-there g h in
         some-bytes (s .0) (s .1)
 
     -- by the change that the code made
     pub name-parts : {h : Change} → h ≡ changeOf n slashes → 0 < n .source → n .source ≤ 3
-        → nameBytes payload d2 n slashes ≡ utf8 (printed slashes (prefixOf (n .operation))) ++ sourceBytes h (sourceText payload d2 n)
+        → nameBytes payload d2 n slashes ≡ utf8 (printed slashes (prefixOf (n .operation))) ++ sourceBytes (n .size) h (sourceText payload d2 n)
     name-parts e g i =
         name-bytes g i
-        ∙ ap (λ (k : Change). utf8 (printed slashes (prefixOf (n .operation))) ++ sourceBytes k (sourceText payload d2 n)) (sym e)
+        ∙ ap (λ (k : Change). utf8 (printed slashes (prefixOf (n .operation))) ++ sourceBytes (n .size) k (sourceText payload d2 n)) (sym e)
 
-pub source-some : (h : Change) {o : Option Text} {t : Text} → o ≡ some t → changedBytes h t ≡ sourceBytes h o
-source-some h e = ap (sourceBytes h) (sym e)
+pub source-some : (size : ℕ) (h : Change) {o : Option Text} {t : Text} → o ≡ some t → sizedBytes size h t ≡ sourceBytes size h o
+source-some size h e = ap (sourceBytes size h) (sym e)
+
+-- by whether a size is noted
+pub source-walked : (size : ℕ) (h : Change) {o : Option Text} {t : Text} → isMeasured size ≡ false → o ≡ some t → changedBytes h t ≡ sourceBytes size h o
+source-walked size h {o} {t} m e =
+    ap (λ (b : Bool). utf8 (if b then fitted size (map (changed h) t) else map (changed h) t)) (sym m) ∙ source-some size h e
+
+pub source-fitted : (size : ℕ) (h : Change) {o : Option Text} {t : Text} → isMeasured size ≡ true → o ≡ some t
+    → utf8 (fitted size (map (changed h) t)) ≡ sourceBytes size h o
+source-fitted size h {o} {t} m e =
+    ap (λ (b : Bool). utf8 (if b then fitted size (map (changed h) t) else map (changed h) t)) (sym m) ∙ source-some size h e
 
 -- What operation 2 puts in front, and its bytes.
 module _ (operation : ℕ) (slashes : Bool) where

@@ -1,7 +1,7 @@
 -- Whether a name is there, and how many bytes it takes.
 -- Assumes nothing.
-use mathlib.Core.Path.{_≡_, refl}
-use mathlib.Core.Bool.{Bool, true, false}
+use mathlib.Core.Path.{_≡_, refl, ap, sym, _∙_}
+use mathlib.Core.Bool.{Bool, true, false, _&&_}
 use mathlib.Core.List.{List, []}
 use mathlib.Core.Option.{Option, none, some}
 use Prim.Native.Nat.{ℕ, _+_, _-_, _*_, _≤_, _<_}
@@ -15,11 +15,13 @@ use Rattle.foundation.proofs.ChoiceLaws.{if-ind}
 use Rattle.characters.specs.Characters.{partFrom, width, fromUtf8, fromUtf16, utf8}
 use Rattle.characters.proofs.LengthLaws.{AtMost, InBytes, bytes-most, fromUtf8-length, fromUtf16-length}
 use Rattle.names.specs.Records.{substituted, operated}
-use Rattle.names.specs.Name.{predefinedList, sourceText, steppedBy, nameText}
+use Rattle.names.specs.Name.{predefinedList, sourceText, isMeasured, sized, steppedBy, nameText}
 use Rattle.names.specs.Stream.{printed, nameBytes}
 use Rattle.names.specs.declared.name.Name.{Name}
 use Rattle.names.proofs.LengthLaws.{substituted-bytes, dotted-bytes, operated-bytes}
+use Rattle.names.proofs.FittedLaws.{fitted-bytes}
 use Rattle.names.proofs.NameLaws.{source-none, source-there}
+use Rattle.names.proofs.AsciiLaws.{not-plain as never}
 
 module _ (payload d2 : List ℕ) (n : Name) where
   pub absent-name : n .source ≡ 0 → isSome (nameText payload d2 n) ≡ false
@@ -49,8 +51,16 @@ list-length : length predefinedList ≡ 878
 unfolding predefinedList
 list-length = refl
 
+measured-most : (size : ℕ) → isMeasured size ≡ true → size ≤ 131072
+measured-most size e = go (leb 1 size) refl (leb size 131072) refl
+  where
+    go : (a : Bool) → leb 1 size ≡ a → (b : Bool) → leb size 131072 ≡ b → size ≤ 131072
+    go a p true q = leb-true size 131072 q
+    go true p false q = let z : false ≡ true = sym (ap (λ (b : Bool). leb 1 size && b) q ∙ ap (λ (a : Bool). a && false) p) ∙ e in never z
+    go false p false q = let z : false ≡ true = sym (ap (λ (a : Bool). a && leb size 131072) p) ∙ e in never z
+
 -- A name of sources that are no longer than k takes at most four bytes for each, and 19 for what an operation puts in front.
-module _ (payload d2 : List ℕ) (n : Name) (k : ℕ) (f : length payload ≤ k) (g : length d2 ≤ k) (h : 878 ≤ k) where
+module _ (payload d2 : List ℕ) (n : Name) (k : ℕ) (f : length payload ≤ k) (g : length d2 ≤ k) (h : 32768 ≤ k) where
   units-most : IfSome (AtMost k) (if eqb (n .source) 3 then some (fromUtf16 (partFrom (n .start) (n .end) d2)) else none)
   units-most =
       if-ind (IfSome (AtMost k)) (eqb (n .source) 3)
@@ -65,11 +75,17 @@ module _ (payload d2 : List ℕ) (n : Name) (k : ℕ) (f : length payload ≤ k)
       if-ind (IfSome (AtMost k)) (eqb (n .source) 1) (λ e. bytes-of payload f) λ e.
       if-ind (IfSome (AtMost k)) (eqb (n .source) 2) (λ e. bytes-of predefinedList (omega (arith, list-length))) λ e. units-most
 
+  sized-most : (t : Text) → InBytes (4 * k) t → InBytes (4 * k) (sized (n .size) t)
+  sized-most t l =
+      if-ind (InBytes (4 * k)) (isMeasured (n .size)) (λ e. omega (arith, fitted-bytes (n .size) t, measured-most (n .size) e)) λ e. l
+
   stepped-most : (t : Text) → AtMost k t → InBytes (4 * k + 19) (steppedBy n t)
   stepped-most t l =
       let r = substituted (n .from) (n .to) t in
-      let it = operated (n .operation) r in
-      let m : InBytes (4 * k + 19) it = omega (arith, length-map t (λ (c : ℕ). if eqb c (n .from) then n .to else c), bytes-most r, operated-bytes (n .operation) r) in
+      let s = sized (n .size) r in
+      let it = operated (n .operation) s in
+      let b : InBytes (4 * k) r = omega (arith, length-map t (λ (c : ℕ). if eqb c (n .from) then n .to else c), bytes-most r) in
+      let m : InBytes (4 * k + 19) it = omega (arith, sized-most r b, operated-bytes (n .operation) s) in
       if-ind (InBytes (4 * k + 19)) (n .qualified) (λ e. omega (arith, dotted-bytes it)) λ e. m
 
   printed-most : (slashes : Bool) (t : Text) → InBytes (4 * k + 19) t → InBytes (4 * k + 19) (printed slashes t)

@@ -25,12 +25,12 @@ instead-width : (a b c : ℕ) → width a ≡ width b → width (instead a b c) 
 instead-width a b c e =
     if-ind (λ (n : ℕ). width n ≡ width c) (eqb c a) (λ t. sym e ∙ ap width (sym (eqb-true c a t))) λ t. refl
 
-dots-width : (t : Bool) (c : ℕ) → width (withDots t c) ≡ width c
+pub dots-width : (t : Bool) (c : ℕ) → width (withDots t c) ≡ width c
 unfolding width
 dots-width true c = instead-width 0x2f 0x2e (instead 0x24 0x2e c) refl ∙ instead-width 0x24 0x2e c refl
 dots-width false c = refl
 
-slashes-width : (t : Bool) (c : ℕ) → width (withSlashes t c) ≡ width c
+pub slashes-width : (t : Bool) (c : ℕ) → width (withSlashes t c) ≡ width c
 unfolding width
 slashes-width true c = instead-width 0x2e 0x2f c refl
 slashes-width false c = refl

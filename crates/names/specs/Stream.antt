@@ -5,17 +5,20 @@ use mathlib.Core.Path.{_≡_}
 use mathlib.Core.List.{List, [], map}
 use mathlib.Core.Option.{Option, none, some}
 use Prim.Native.Nat.{ℕ, _+_, _≤_}
-use lib.Dec.{eqb}
+use lib.Dec.{eqb, leb}
 use lib.ListN.{length}
 use lib.Seq.{sets}
 use Rattle.foundation.specs.Choices.{if_then_else_, ifSome}
 use Rattle.foundation.specs.Texts.{Text, ascii}
 use Rattle.characters.specs.Characters.{width, fromUtf8, utf8, partFrom}
 use Rattle.characters.specs.Plain.{instead, withDots, withSlashes, isAscii}
-use Rattle.names.specs.Name.{predefinedList, nameText}
+use Rattle.characters.specs.declared.Character.{Character}
+use Rattle.characters.specs.declared.Character.the-variants.{Read, End}
+use Rattle.names.specs.Name.{predefinedList, sized, nameText}
 use Rattle.names.specs.Records.{INTERNAL-TO-CLASS-ID, DESC-TO-CLASS-ID, substituted}
 use Rattle.names.specs.declared.name.Name.{Name}
 use Rattle.names.specs.declared.name.Change.{Change}
+use Rattle.names.specs.declared.stream.Fitted.{Fitted}
 use Rattle.names.specs.declared.name.PredefinedPart.{PredefinedPart}
 use Rattle.names.specs.declared.name.PredefinedPart.the-variants.{Part, Nothing}
 
@@ -62,8 +65,19 @@ changedBytes h t = utf8 (map (changed h) t)
 abbrev pub KeepsWidth : Change → Type 0
 KeepsWidth h = (c : ℕ) → width (changed h c) ≡ width c
 
-abbrev pub sourceBytes : Change → Option Text → List ℕ
-sourceBytes h t = ifSome t [] (changedBytes h)
+-- the same of a text whose size is noted
+abbrev pub sizedBytes : ℕ → Change → Text → List ℕ
+sizedBytes size h t = utf8 (sized size (map (changed h) t))
+
+abbrev pub sourceBytes : ℕ → Change → Option Text → List ℕ
+sourceBytes size h t = ifSome t [] (sizedBytes size h)
+
+-- What is written next of a text that is made to take `left` bytes more: of a character, it or a zero where it takes too much; at the end
+-- a zero. After a zero the text has ended.
+abbrev pub fittedOf : Change → ℕ → ℕ → Character → Fitted
+fittedOf h left end (Read code next) =
+    if leb (width (changed h code)) left then record { code = changed h code; next = next } else record { code = 0; next = end }
+fittedOf h left end End = record { code = 0; next = end }
 
 -- a name's text in UTF-8, with slashes for dots if they are asked for; nothing if it is absent
 unfoldable pub nameBytes : List ℕ → List ℕ → Name → Bool → List ℕ

@@ -21,6 +21,8 @@ pub struct Name {
     pub operation: u8,
     // A class name: / and $ become dots.
     pub qualified: bool,
+    // How many bytes of UTF-8 the characters take after `from` became `to`, where it is noted; 0: it is not.
+    pub size: usize,
 }
 
 // Nothing, if the name is absent.
@@ -35,6 +37,7 @@ pub fn absent() -> Name
         to: 0,
         operation: 0,
         qualified: false,
+        size: 0,
     }
 }
 

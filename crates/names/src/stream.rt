@@ -9,12 +9,14 @@ use characters::Character;
 use characters::ascii;
 use characters::measure;
 ghost use mathlib.Core.Path.{_≡_};
-ghost use mathlib.Core.Bool.{true};
+ghost use mathlib.Core.Bool.{true, false};
 ghost use Prim.Native.Nat.{_+_, _^_, _≤_, _<_};
+ghost use mathlib.Core.List.{map};
 ghost use lib.ListN.{length};
+ghost use lib.Seq.{sets};
 ghost use Rattle.characters.specs.Characters.{fromUtf8, fromUtf16, utf8, partFrom};
-ghost use Rattle.names.specs.Name.{predefinedList, sourceText};
-ghost use Rattle.names.specs.Stream.{changedBytes, KeepsWidth, sourceBytes, nameBytes, PutText, PlainPart, prefixOf, printed};
+ghost use Rattle.names.specs.Name.{predefinedList, sourceText, fitted, isMeasured};
+ghost use Rattle.names.specs.Stream.{changed, changedBytes, KeepsWidth, fittedOf, sourceBytes, nameBytes, PutText, PlainPart, prefixOf, printed};
 
 // The text of some bytes, each character changed, one by one. Answers the place after it.
 fn put_utf8(s: &[u8], change: Change, area: &mut [u8], at: usize) -> usize
@@ -186,8 +188,137 @@ fn put_listed(start: usize, end: usize, change: Change, area: &mut [u8], at: usi
     put_bytes(part_of(&PREDEFINED, start, end), change, area, at)
 }
 
-// The characters of a name's source, changed.
-fn put_source(
+// What is written next of a text whose size is noted, and where it goes on.
+pub struct Fitted {
+    pub code: u32,
+    pub next: usize,
+}
+
+fn fitted_of(character: Character, change: Change, left: usize, end: usize) -> Fitted
+    ensures { λ r. ⌜ r ≡ fittedOf change left end character ⌝ }
+{
+    let Character::Read { code, next } = character else {
+        return Fitted { code: 0, next: end };
+    };
+    let c = character_of(change, code);
+    if left < characters::width_of(c) {
+        return Fitted { code: 0, next: end };
+    }
+    Fitted { code: c, next }
+}
+
+// The text of some bytes, made to take `size` bytes, as far as the area goes: what is past its end is not walked.
+fn put_fitted(s: &[u8], change: Change, size: usize, area: &mut [u8], at: usize)
+    requires { ⌜ at + size < 2 ^ 64 ⌝ }
+    ensures { λ _. ⌜ now (area .exit) ≡ sets (now (area .entry)) at (utf8 (fitted size (map (changed change) (fromUtf8 (now (s .entry)))))) ⌝ }
+{
+    let mut i = 0;
+    let mut to = at;
+    let mut left = size;
+    while 0 < left {
+        if area.len() <= to {
+            return;
+        }
+        let character = characters::utf8_at(&*s, i);
+        let one = fitted_of(character, change, left, s.len());
+        let taken = characters::put_character(area, to, one.code);
+        to += taken;
+        left -= taken;
+        i = one.next;
+    }
+}
+
+// The same of units of d2.
+fn put_fitted_units(
+    units: &[u16],
+    start: usize,
+    end: usize,
+    change: Change,
+    size: usize,
+    area: &mut [u8],
+    at: usize,
+)
+    requires { ⌜ at + size < 2 ^ 64 ⌝ }
+    ensures { λ _. ⌜ now (area .exit) ≡ sets (now (area .entry)) at (utf8 (fitted size (map (changed change) (fromUtf16 (partFrom start end (now (units .entry))))))) ⌝ }
+{
+    let mut i = start;
+    let mut to = at;
+    let mut left = size;
+    while 0 < left {
+        if area.len() <= to {
+            return;
+        }
+        let character = characters::utf16_at(&*units, i, end);
+        let one = fitted_of(character, change, left, end);
+        let taken = characters::put_character(area, to, one.code);
+        to += taken;
+        left -= taken;
+        i = one.next;
+    }
+}
+
+// The text of some bytes whose size is noted: at once where it is made of characters below 128, none is replaced, and there is room for it.
+fn put_measured(s: &[u8], change: Change, size: usize, area: &mut [u8], at: usize)
+    requires { ⌜ at + size < 2 ^ 64 ⌝ }
+    ensures { λ _. ⌜ now (area .exit) ≡ sets (now (area .entry)) at (utf8 (fitted size (map (changed change) (fromUtf8 (now (s .entry)))))) ⌝ }
+{
+    if s.len() == size {
+        if change.from == change.to {
+            if at + size <= area.len() {
+                if ascii::ascii_bytes(&*s) {
+                    ascii::copy_bytes(&*s, change.dots, change.slashes, area, at);
+                    return;
+                }
+            }
+        }
+    }
+    put_fitted(&*s, change, size, area, at);
+}
+
+// A measured part of the predefined list.
+fn put_measured_list(start: usize, end: usize, change: Change, size: usize, area: &mut [u8], at: usize)
+    requires { ⌜ at + size < 2 ^ 64 ⌝ }
+    ensures { λ _. ⌜ now (area .exit) ≡ sets (now (area .entry)) at (utf8 (fitted size (map (changed change) (fromUtf8 (partFrom start end predefinedList))))) ⌝ }
+{
+    put_measured(part_of(&PREDEFINED, start, end), change, size, area, at);
+}
+
+// The characters of a name's source, changed, where their size is noted. Where there is room for none, nothing is walked.
+fn put_noted(payload: &[u8], d2: &[u16], name: Name, change: Change, area: &mut [u8], at: usize) -> usize
+    requires { ⌜ (0 < name .source) × (name .source ≤ 3) × (isMeasured (name .size) ≡ true) × (at + name .size < 2 ^ 64) ⌝ }
+    ensures { λ r. ⌜ PutText (sourceBytes (name .size) change (sourceText (now (payload .entry)) (now (d2 .entry)) name)) at r (now (area .entry)) (now (area .exit)) ⌝ }
+{
+    let source = name.source;
+    let start = name.start;
+    let end = name.end;
+    let size = name.size;
+    let next = at + size;
+    if area.len() <= at {
+        return next;
+    }
+    if source == 3 {
+        put_fitted_units(&*d2, start, end, change, size, area, at);
+        return next;
+    }
+    if source == 2 {
+        put_measured_list(start, end, change, size, area, at);
+        return next;
+    }
+    put_measured(part_of(&*payload, start, end), change, size, area, at);
+    next
+}
+
+fn is_measured(size: usize) -> bool
+    ensures { λ r. ⌜ r ≡ isMeasured size ⌝ }
+{
+    if size < 1 {
+        return false;
+    }
+    size <= 131072
+}
+
+// The characters of a name's source, changed, walked.
+fn put_walked(
     payload: &[u8],
     d2: &[u16],
     name: Name,
@@ -195,8 +326,8 @@ fn put_source(
     area: &mut [u8],
     at: usize,
 ) -> usize
-    requires { ⌜ (0 < name .source) × (name .source ≤ 3) × (at + length (sourceBytes change (sourceText (now payload) (now d2) name)) < 2 ^ 64) ⌝ }
-    ensures { λ r. ⌜ PutText (sourceBytes change (sourceText (now (payload .entry)) (now (d2 .entry)) name)) at r (now (area .entry)) (now (area .exit)) ⌝ }
+    requires { ⌜ (0 < name .source) × (name .source ≤ 3) × (isMeasured (name .size) ≡ false) × (at + length (sourceBytes (name .size) change (sourceText (now payload) (now d2) name)) < 2 ^ 64) ⌝ }
+    ensures { λ r. ⌜ PutText (sourceBytes (name .size) change (sourceText (now (payload .entry)) (now (d2 .entry)) name)) at r (now (area .entry)) (now (area .exit)) ⌝ }
 {
     let source = name.source;
     let start = name.start;
@@ -208,6 +339,24 @@ fn put_source(
         return put_listed(start, end, change, area, at);
     }
     put_bytes(part_of(&*payload, start, end), change, area, at)
+}
+
+// The characters of a name's source, changed.
+fn put_source(
+    payload: &[u8],
+    d2: &[u16],
+    name: Name,
+    change: Change,
+    area: &mut [u8],
+    at: usize,
+) -> usize
+    requires { ⌜ (0 < name .source) × (name .source ≤ 3) × (at + length (sourceBytes (name .size) change (sourceText (now payload) (now d2) name)) < 2 ^ 64) ⌝ }
+    ensures { λ r. ⌜ PutText (sourceBytes (name .size) change (sourceText (now (payload .entry)) (now (d2 .entry)) name)) at r (now (area .entry)) (now (area .exit)) ⌝ }
+{
+    if is_measured(name.size) {
+        return put_noted(&*payload, &*d2, name, change, area, at);
+    }
+    put_walked(&*payload, &*d2, name, change, area, at)
 }
 
 // A name's text in UTF-8, as far as the area goes; an absent one has none. Answers the place after it.

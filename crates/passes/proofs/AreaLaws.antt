@@ -30,7 +30,7 @@ use Rattle.schema.specs.MembersTold.{Affords}
 use Rattle.schema.specs.declared.Tables.{Tables}
 use Rattle.schema.proofs.TypeCount.{body-enters}
 use Rattle.declarations.specs.Payload.{bodyOf, payload, declarationRows}
-use Rattle.declarations.specs.PayloadTold.{OpenedAt}
+use Rattle.declarations.specs.PayloadTold.{OpenedAt, LentAt}
 use Rattle.declarations.specs.BodyTold.{bodyCost, BodyTold, BodyWalked}
 use Rattle.declarations.specs.declared.body.Body.{Body}
 use Rattle.declarations.specs.declared.body.Body.the-variants as body
@@ -53,7 +53,10 @@ start-affords bytes d2 ends at k e =
     (record { payload-short = k .bytes-short; d2-short = k .d2-short; types = omega arith; room = omega arith })
 
 -- What is lent is the scope's, and what a body gives is what the bytes do.
-module _ (kind : ℕ) (bytes d2 ends notes : List ℕ) (at : ℕ) (tables : Tables) (o : OpenedAt bytes notes at tables) where
+module _ (kind : ℕ) (bytes d2 ends notes : List ℕ) (at : ℕ) (tables : Tables) (lentAt : LentAt bytes d2 ends notes at tables) where
+  abbrev o : OpenedAt bytes notes at tables
+  o = lentAt .opened
+
   abbrev named : Names
   named = record { records = o .records; d2 = strings d2 ends }
 
@@ -62,7 +65,7 @@ module _ (kind : ℕ) (bytes d2 ends notes : List ℕ) (at : ℕ) (tables : Tabl
 
   scoped : InLimits bytes d2 ends → Scoped (lent bytes d2 ends notes tables) scoped-by
   scoped k = record {
-    names = record { strings = refl; fit = k .fit; records = o .names };
+    names = record { strings = refl; fit = k .fit; sizes = lentAt .sizes (k .fit); records = o .names };
     entries = o .is .noted;
     nullable = o .is .nullable;
   }
@@ -112,8 +115,8 @@ module _ (kind : ℕ) (bytes d2 ends notes : List ℕ) (x : Measured) (SS TT : L
 
   pub types-left : end .types ≤ 2048
   types-left =
-      let e = sym (by-body kind bytes d2 ends notes (x .at) (x .tables) (m .opened)) ∙ m .reads in
-      omega (arith, left-is, left-within kind _ (m .opened .is .body) e)
+      let e = sym (by-body kind bytes d2 ends notes (x .at) (x .tables) (m .lent)) ∙ m .reads in
+      omega (arith, left-is, left-within kind _ (m .lent .opened .is .body) e)
 
   module _ (S T : List ℕ) where
     by-rows : answered S T kind bytesRead ≡ written S T rows (allowance - m .left)

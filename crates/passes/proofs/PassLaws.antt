@@ -22,7 +22,7 @@ use Rattle.schema.specs.declared.Tables.{Tables}
 use Rattle.schema.specs.declared.Stop.{Stop}
 use Rattle.schema.specs.declared.Stop.the-variants as stop
 use Rattle.declarations.specs.Payload.{payload}
-use Rattle.declarations.specs.PayloadTold.{OpenedAt, NotesRoom, OpenedTold}
+use Rattle.declarations.specs.PayloadTold.{LentAt, LentRoom, LentTold}
 use Rattle.declarations.specs.BodyTold.{BodyTold}
 use Rattle.declarations.specs.declared.body.Sections.{Sections}
 use Rattle.declarations.specs.declared.body.Body.{Body}
@@ -64,7 +64,7 @@ module _ (kind : ℕ) (d1 d2 ends before after : List ℕ) (answer : Decoded) (k
     bytes-kept = record { bytes-short = omega (arith, bytes-few, k .bytes-short); d2-short = k .d2-short; fit = k .fit }
 
     pub bytes-read : (notes : List ℕ) (y : Passed) (S S′ T T′ : List ℕ)
-        → PassedTold kind (payload kind (strings d2 ends) (take n after)) (NotesRoom (take n after) notes) y S S′ T T′
+        → PassedTold kind (payload kind (strings d2 ends) (take n after)) (LentRoom (take n after) notes) y S S′ T T′
         → PassedTold kind (readingOf kind d1 d2 ends) (FrameRoom d1 after notes) y S S′ T T′
     bytes-read notes (passed.Answered r) S S′ T T′ h =
         ap (λ (x : Res (List ℕ)). answered S T kind (Results._>>=_ x (payload kind (strings d2 ends)))) bytes-are ∙ h
@@ -88,27 +88,27 @@ module _ (kind : ℕ) (d1 d2 ends before after : List ℕ) (answer : Decoded) (k
       ((λ room. told-room d1 before after answer t (omega (arith, room .bytes-long)) e), refl, refl)
 
 -- In an arm of a `match` on what was opened, walked, or measured.
-module _ (bytes notes : List ℕ) (r : Opened) (t : OpenedTold bytes notes r) where
-  arm-opened : {y : Opened} → r ≡ y → OpenedTold bytes notes y
-  arm-opened e = subst (OpenedTold bytes notes) e t
+module _ (bytes d2 ends notes : List ℕ) (r : Opened) (t : LentTold bytes d2 ends notes r) where
+  arm-opened : {y : Opened} → r ≡ y → LentTold bytes d2 ends notes y
+  arm-opened e = subst (LentTold bytes d2 ends notes) e t
 
-  pub opened-is : {at : ℕ} {tables : Tables} → r ≡ opened.Body at tables → OpenedAt bytes notes at tables
+  pub opened-is : {at : ℕ} {tables : Tables} → r ≡ opened.Body at tables → LentAt bytes d2 ends notes at tables
   opened-is e = arm-opened e
 
-  pub opened-refused : {error : WireError} → r ≡ opened.Refused error → (kind : ℕ) (d2 ends : List ℕ)
+  pub opened-refused : {error : WireError} → r ≡ opened.Refused error → (kind : ℕ)
       → payload kind (strings d2 ends) bytes ≡ schema.refusal (stop.Wire error)
-  opened-refused e kind d2 ends = arm-opened e kind (strings d2 ends)
+  opened-refused e kind = arm-opened e kind (strings d2 ends)
 
-  pub opened-no-room : r ≡ opened.NoRoom → NotesRoom bytes notes → ⊥
+  pub opened-no-room : r ≡ opened.NoRoom → LentRoom bytes notes → ⊥
   opened-no-room e = arm-opened e
 
-module _ (kind : ℕ) (bytes d2 ends notes : List ℕ) {at : ℕ} {tables : Tables} (o : OpenedAt bytes notes at tables) (r : Body) (S S′ T T′ : List ℕ)
+module _ (kind : ℕ) (bytes d2 ends notes : List ℕ) {at : ℕ} {tables : Tables} (o : LentAt bytes d2 ends notes at tables) (r : Body) (S S′ T T′ : List ℕ)
     (t : BodyTold kind (payload kind (strings d2 ends) bytes) start r S S′ T T′) where
   pub walked-done : {b : Sections} → r ≡ body.Done b
       → MeasuredAt kind bytes d2 ends notes (record { at = at; tables = tables; sections = b }) S′ T′
   walked-done g =
       let x = subst (λ (y : Body). BodyTold kind (payload kind (strings d2 ends) bytes) start y S S′ T T′) g t in
-      record { opened = o; declarations = x .0; left = x .1; reads = x .2; S₀ = S; T₀ = T; written = x .3 }
+      record { lent = o; declarations = x .0; left = x .1; reads = x .2; S₀ = S; T₀ = T; written = x .3 }
 
   pub walked-stops : {stop : Stop} → r ≡ body.Refused stop → payload kind (strings d2 ends) bytes ≡ schema.refusal stop
   walked-stops g = subst (λ (y : Body). BodyTold kind (payload kind (strings d2 ends) bytes) start y S S′ T T′) g t
@@ -123,5 +123,5 @@ module _ (kind : ℕ) (bytes d2 ends notes : List ℕ) (r : FirstPass) (S T : Li
   pub first-refused : {x : Stop} → r ≡ first.Refused x → payload kind (strings d2 ends) bytes ≡ schema.refusal x
   first-refused e = arm-first e
 
-  pub first-no-room : r ≡ first.NoRoom → NotesRoom bytes notes → ⊥
+  pub first-no-room : r ≡ first.NoRoom → LentRoom bytes notes → ⊥
   first-no-room e = arm-first e

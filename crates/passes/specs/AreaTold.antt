@@ -15,7 +15,7 @@ use Rattle.names.specs.Names.{stringsFrom, d2String, endsFit}
 use Rattle.declaration_rows.specs.Declarations.{Declarations}
 use Rattle.schema.specs.Reading.{allowance}
 use Rattle.declarations.specs.Payload.{payload, declarationRows}
-use Rattle.declarations.specs.PayloadTold.{OpenedAt}
+use Rattle.declarations.specs.PayloadTold.{LentAt}
 use Rattle.declarations.specs.BodyTold.{Written}
 use Rattle.passes.specs.declared.Measured.{Measured}
 
@@ -38,7 +38,7 @@ lastOf m = m .sections .properties .state
 
 -- The decoded bytes are read, their rows measured, and written where two areas hold them: what is lent is theirs.
 pub record MeasuredAt (kind : ℕ) (bytes d2 ends notes : List ℕ) (m : Measured) (S T : List ℕ) : Type 0 where
-  pub opened : OpenedAt bytes notes (m .at) (m .tables)
+  pub lent : LentAt bytes d2 ends notes (m .at) (m .tables)
   pub declarations : Declarations
   pub left : ℕ
   pub reads : payload kind (strings d2 ends) bytes ≡ ok (declarations, left)

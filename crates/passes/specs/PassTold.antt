@@ -7,12 +7,13 @@ use lib.ListN.{length}
 use Rattle.foundation.specs.Choices.{if_then_else_}
 use Rattle.foundation.specs.Results.{Res, _>>=_}
 use Rattle.encoding.specs.Encoding.{decoded}
+use Rattle.lookup.specs.Strings.{codesFrom}
 use Rattle.declaration_rows.specs.Declarations.{Declarations}
 use Rattle.schema.specs.Told as schema
 use Rattle.inputs.specs.Inputs.{carriesDeclarations}
 use Rattle.inputs.specs.Outcomes.{told}
 use Rattle.declarations.specs.Payload.{payload}
-use Rattle.declarations.specs.PayloadTold.{NotesRoom}
+use Rattle.declarations.specs.PayloadTold.{LentRoom}
 use Rattle.passes.specs.Answered.{nothingRead, answered}
 use Rattle.passes.specs.AreaTold.{strings, MeasuredAt}
 use Rattle.passes.specs.declared.FirstPass.{FirstPass}
@@ -23,17 +24,17 @@ use Rattle.passes.specs.declared.Passed.the-variants as passed
 abbrev pub FirstTold : ℕ → List ℕ → List ℕ → List ℕ → List ℕ → FirstPass → (S T : List ℕ) → Type 0
 FirstTold kind bytes d2 ends notes (first.Done measured) S T = MeasuredAt kind bytes d2 ends notes measured S T
 FirstTold kind bytes d2 ends notes (first.Refused stop) S T = payload kind (strings d2 ends) bytes ≡ schema.refusal stop
-FirstTold kind bytes d2 ends notes first.NoRoom S T = NotesRoom bytes notes → ⊥
+FirstTold kind bytes d2 ends notes first.NoRoom S T = LentRoom bytes notes → ⊥
 
 -- An answer to some reading, or no room, with both areas as they were.
 abbrev pub PassedTold : ℕ → Res (Declarations × ℕ) → Type 0 → Passed → (S S′ T T′ : List ℕ) → Type 0
 PassedTold kind reading room (passed.Answered r) S S′ T T′ = answered S T kind reading ≡ told r S′ T′
 PassedTold kind reading room passed.NoRoom S S′ T T′ = (room → ⊥) × (S′ ≡ S) × (T′ ≡ T)
 
--- Room for the decoded bytes and for the notes of both tables.
+-- Room for the decoded bytes and for the notes.
 pub record FrameRoom (d1 bytes notes : List ℕ) : Type 0 where
   pub bytes-long : length d1 ≤ length bytes
-  pub notes-long : 3 * length d1 ≤ 2 * length notes
+  pub notes-long : 3 * length d1 ≤ 2 * codesFrom (length notes)
 
 -- what is read of a kind that carries declarations
 abbrev pub readingOf : ℕ → List ℕ → List ℕ → List ℕ → Res (Declarations × ℕ)

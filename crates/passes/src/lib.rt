@@ -2,7 +2,7 @@
 // then are 11 and 12 tested and the lent areas written (areas.rt). What the functions tell: specs/PassTold.antt.
 ghost use mathlib.Core.Path.{_≡_};
 ghost use Rattle.declarations.specs.Payload.{payload};
-ghost use Rattle.declarations.specs.PayloadTold.{NotesRoom, OpenedAt};
+ghost use Rattle.declarations.specs.PayloadTold.{LentAt, LentRoom};
 ghost use Rattle.declarations.specs.BodyTold.{BodyTold};
 ghost use Rattle.passes.specs.AreaTold as definition;
 ghost use Rattle.passes.specs.AreaTold.{strings, InLimits};
@@ -12,7 +12,7 @@ use declarations::body::Body;
 use declarations::body::Sections;
 use declarations::body::body_in;
 use declarations::payload::Opened;
-use declarations::payload::open_payload;
+use declarations::payload::open_lent;
 use encoding::Decoded;
 use encoding::decode;
 use inputs::outcome::Outcome;
@@ -68,7 +68,7 @@ fn walk(
     sheet: &mut [u8],
     text: &mut [u8],
 ) -> Body
-    requires { ⌜ InLimits (now bytes) (now d2) (now ends) × OpenedAt (now bytes) (now notes) at tables ⌝ }
+    requires { ⌜ InLimits (now bytes) (now d2) (now ends) × LentAt (now bytes) (now d2) (now ends) (now notes) at tables ⌝ }
     ensures { λ r. ⌜ BodyTold kind (payload kind (strings (now (d2 .entry)) (now (ends .entry))) (now (bytes .entry))) definition.start r (now (sheet .entry)) (now (sheet .exit)) (now (text .entry)) (now (text .exit)) ⌝ }
 {
     body_in(
@@ -99,7 +99,7 @@ fn measure(
     requires { ⌜ InLimits (now bytes) (now d2) (now ends) ⌝ }
     ensures { λ r. ⌜ FirstTold kind (now (bytes .entry)) (now (d2 .entry)) (now (ends .entry)) (now (notes .exit)) r (now («scratch_sheet» .exit)) (now («scratch_text» .exit)) ⌝ }
 {
-    let opened = open_payload(&*bytes, notes);
+    let opened = open_lent(&*bytes, &*d2, &*ends, notes);
     match opened {
         Opened::Body { at, tables } => {
             let body = walk(
@@ -144,7 +144,7 @@ fn read_in(
     text: &mut [u8],
 ) -> Passed
     requires { ⌜ InLimits (now bytes) (now d2) (now ends) ⌝ }
-    ensures { λ r. ⌜ PassedTold kind (payload kind (strings (now (d2 .entry)) (now (ends .entry))) (now (bytes .entry))) (NotesRoom (now (bytes .entry)) (now (notes .exit))) r (now (sheet .entry)) (now (sheet .exit)) (now (text .entry)) (now (text .exit)) ⌝ }
+    ensures { λ r. ⌜ PassedTold kind (payload kind (strings (now (d2 .entry)) (now (ends .entry))) (now (bytes .entry))) (LentRoom (now (bytes .entry)) (now (notes .exit))) r (now (sheet .entry)) (now (sheet .exit)) (now (text .entry)) (now (text .exit)) ⌝ }
 {
     let first = measure(
         kind,

@@ -14,6 +14,7 @@ use Rattle.characters.specs.Characters.{partFrom}
 use Rattle.names.specs.Names.{Names, stringsFrom, d2String, endsFit}
 use Rattle.names.specs.Index.{startOf, endOf}
 use Rattle.lookup.specs.Lookups.{NotesOf}
+use Rattle.lookup.specs.Strings.{SizesOf}
 use Rattle.sheet.specs.Rows.{Row}
 use Rattle.sheet.specs.Put.{PutRows}
 use Rattle.sheet.specs.declared.State.{State}
@@ -80,6 +81,7 @@ entriesIn tables notes = drop (3 * tables .records) notes
 pub record NamesOf (payload d2 ends notes : List ℕ) (count : ℕ) (n : Names) : Type 0 where
   pub strings : n .d2 ≡ d2String (stringsFrom 0 ends d2)
   pub fit : endsFit 0 ends (length d2) ≡ true
+  pub sizes : SizesOf d2 ends notes
   pub records : NotesOf payload notes count (n .records)
 
 -- What is lent is the scope's: the index of its names, its type table.

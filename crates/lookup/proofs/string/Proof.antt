@@ -1,3 +1,4 @@
+use mathlib.Core.Bool.{false}
 use mathlib.Core.Path.{_∙_}
 use Rattle.names.specs.Names.{d2String, stringsFrom}
 use Rattle.lookup.proofs.LookupLaws.{decided-no, decided-yes}
@@ -27,11 +28,11 @@ d2-name-requires c κs = search needs
 
 -- src/lib.rt:229:9
 returns : tie.Need-returns
-returns c = λ units records f i. decided-no (c .before .before .before .before .before .before .before .args .bytes .now) (c .before .before .before .before .before .before .before .args .notes .now) (c .before .before .before .before .before .before .before .args .count) (c .before .before .before .before .before .before .before .args .index) (c .before .before .before .by-record .result) (c .before .before .before .by-record .ensures) units records (d2String (stringsFrom 0 (c .before .before .before .before .before .before .before .args .ends .now) units)) i (c .before .enum-told .given .1) ∙ c .d2-name .ensures (c .before .before .before .before .before .before .before .args .bytes .now) units f
+returns c = λ units records f z i. decided-no (c .before .before .before .before .before .before .before .args .bytes .now) (c .before .before .before .before .before .before .before .args .notes .now) (c .before .before .before .before .before .before .before .args .count) (c .before .before .before .before .before .before .before .args .index) false (c .before .before .before .by-record .result) (c .before .before .before .by-record .ensures) units records (d2String (stringsFrom 0 (c .before .before .before .before .before .before .before .args .ends .now) units)) i (c .before .enum-told .given .1) ∙ c .d2-name .ensures (c .before .before .before .before .before .before .before .args .bytes .now) units f z
 
 -- src/lib.rt:218:1
 returns-2 : tie.Need-returns-2
-returns-2 c = λ units records f i. decided-yes (c .before .before .before .before .before .before .before .args .bytes .now) (c .before .before .before .before .before .before .before .args .notes .now) (c .before .before .before .before .before .before .before .args .count) (c .before .before .before .before .before .before .before .args .index) (c .before .before .before .by-record .result) (c .before .before .before .by-record .ensures) units records (d2String (stringsFrom 0 (c .before .before .before .before .before .before .before .args .ends .now) units)) i (c .before .answer .given .1)
+returns-2 c = λ units records f z i. decided-yes (c .before .before .before .before .before .before .before .args .bytes .now) (c .before .before .before .before .before .before .before .args .notes .now) (c .before .before .before .before .before .before .before .args .count) (c .before .before .before .before .before .before .before .args .index) false (c .before .before .before .by-record .result) (c .before .before .before .by-record .ensures) units records (d2String (stringsFrom 0 (c .before .before .before .before .before .before .before .args .ends .now) units)) i (c .before .answer .given .1)
 
 pub string-spec : {M : Type 1} → statement M
 string-spec =

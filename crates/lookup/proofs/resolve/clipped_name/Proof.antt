@@ -1,5 +1,5 @@
-use borrow.Author.Needs.{needs}
 use Rattle.lookup.proofs.ResolveLaws.{clipped-is}
+use borrow.Author.Needs.{needs}
 use Rattle.lookup.proofs.resolve.clipped_name.Statement.{statement}
 use Rattle.lookup.proofs.resolve.clipped_name.Tie as tie
 use Rattle.lookup.proofs.resolve.clipped_name.Reads as reads

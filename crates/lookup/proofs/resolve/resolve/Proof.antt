@@ -16,33 +16,37 @@ Inv-loop bytes notes₀ count i₀ notes i = (length notes ≡ length notes₀) 
 abbrev μ-loop : tie.MeasureT-loop
 μ-loop bytes notes₀ count i₀ notes i = count - i
 
--- src/resolve.rt:77:5
+-- src/resolve.rt:130:9
+returns : tie.Need-returns Inv-loop μ-loop
+returns c = λ records m x. let h = c .if1 .taken in absurd (omega arith)
+
+-- src/resolve.rt:133:5
 loop-holds : tie.Need-loop-holds Inv-loop μ-loop
-loop-holds c = (refl, resolving-start (c .before .before .args .bytes .now) (c .before .before .args .notes .now))
+loop-holds c = (refl, resolving-start (c .before .before .before .args .bytes .now) (c .before .before .before .args .notes .now))
 
--- src/resolve.rt:78:9
+-- src/resolve.rt:134:9
 resolve-one-requires : tie.Need-resolve-one-requires Inv-loop μ-loop
-resolve-one-requires c κs = search needs
+resolve-one-requires c κs = omega (arith, c .before .before .before .if1 .left)
 
--- src/resolve.rt:79:9
+-- src/resolve.rt:135:9
 add-i : tie.Need-add-i Inv-loop μ-loop
 add-i c = search needs
 
--- src/resolve.rt:77:5
+-- src/resolve.rt:133:5
 loop-less : tie.Need-loop-less Inv-loop μ-loop
 loop-less c = search needs
 
--- src/resolve.rt:77:5
+-- src/resolve.rt:133:5
 loop-again : tie.Need-loop-again Inv-loop μ-loop
-loop-again c = (c .before .before .resolve-one .kept .1 .0 ∙ c .before .before .before .before .before .loop .inv .0, resolving-next (c .before .before .before .before .before .before .before .before .args .bytes .now) (c .before .before .before .before .before .before .before .before .args .notes .now) (c .before .before .before .before .before .loop .notes) _ (c .before .before .before .before .before .loop .i) (c .before .before .before .before .before .loop .inv .0) (c .before .before .before .before .before .loop .inv .1) (c .before .before .resolve-one .ensures))
+loop-again c = (c .before .before .resolve-one .kept .1 .0 ∙ c .before .before .before .before .before .loop .inv .0, resolving-next (c .before .before .before .before .before .before .before .before .before .args .bytes .now) (c .before .before .before .before .before .before .before .before .before .args .notes .now) (c .before .before .before .before .before .loop .notes) _ (c .before .before .before .before .before .loop .i) (c .before .before .before .before .before .loop .inv .0) (c .before .before .before .before .before .loop .inv .1) (c .before .before .resolve-one .ensures))
 
--- src/resolve.rt:73:1
+-- src/resolve.rt:125:1
 same-length : tie.Need-same-length Inv-loop μ-loop
 same-length c = search needs
 
--- src/resolve.rt:73:1
-returns : tie.Need-returns Inv-loop μ-loop
-returns c = λ records m x. resolving-end (c .before .before .before .before .args .bytes .now) (c .before .before .before .before .args .notes .now) (c .before .loop .notes) (c .before .before .before .before .args .count) (c .before .loop .i) (c .before .loop .inv .0) (c .before .loop .inv .1) (c .loop-test .left) records m x
+-- src/resolve.rt:125:1
+returns-2 : tie.Need-returns-2 Inv-loop μ-loop
+returns-2 c = λ records m x. resolving-end (c .before .before .before .before .before .args .bytes .now) (c .before .before .before .before .before .args .notes .now) (c .before .loop .notes) (c .before .before .before .before .before .args .count) (c .before .loop .i) (c .before .loop .inv .0) (c .before .loop .inv .1) (c .loop-test .left) records x
 
 pub resolve-spec : {M : Type 1} → statement M
 resolve-spec =
@@ -50,10 +54,11 @@ resolve-spec =
     (tie.spec
     Inv-loop
     μ-loop
+    returns
     loop-holds
     resolve-one-requires
     add-i
     loop-less
     loop-again
     same-length
-    returns)
+    returns-2)

@@ -1,8 +1,8 @@
-use Rattle.lookup.proofs.PartLaws.{part-none, part-some, part-ends}
 use mathlib.Core.Path.{subst}
 use native.Mathlib.Omega.{arith}
 use Rattle.names.specs.Name.{predefinedList}
 use Rattle.lookup.specs.Steps.{SubstringTold}
+use Rattle.lookup.proofs.PartLaws.{part-none, part-some, part-ends}
 use borrow.Author.Needs.{needs}
 use Rattle.lookup.proofs.steps.part_of.Statement.{statement}
 use Rattle.lookup.proofs.steps.part_of.Tie as tie

@@ -30,7 +30,7 @@ absent-requires c κs = search needs
 
 -- src/steps.rt:197:9
 returns : tie.Need-returns
-returns c = record { bytes = rw (c .absent .ensures) (omega arith, refl, omega arith, omega arith, omega arith); is = λ d2 end h. record-nothing (c .before .before .before .before .before .args .payload .now) (c .before .before .before .before .before .args .from) (c .before .before .before .before .before .args .read) (c .before .before .before .base-of .result) (c .before .before .before .base-of .ensures) (c .absent .result) d2 end h (c .before .enum-told .given .1) (c .absent .ensures) }
+returns c = record { bytes = rw (c .absent .ensures) (omega arith, refl, omega arith, omega arith, omega arith, refl); is = λ d2 end h. record-nothing (c .before .before .before .before .before .args .payload .now) (c .before .before .before .before .before .args .from) (c .before .before .before .before .before .args .read) (c .before .before .before .base-of .result) (c .before .before .before .base-of .ensures) (c .absent .result) d2 end h (c .before .enum-told .given .1) (c .absent .ensures) }
 
 -- src/steps.rt:199:9
 substring-of-requires : tie.Need-substring-of-requires
@@ -50,7 +50,7 @@ absent-requires-2 c κs = search needs
 
 -- src/steps.rt:206:9
 returns-2 : tie.Need-returns-2
-returns-2 c = record { bytes = rw (c .absent2 .ensures) (omega arith, refl, omega arith, omega arith, omega arith); is = λ d2 end h. record-cut (c .before .before .before .before .before .before .before .before .before .args .payload .now) (c .before .before .before .before .before .before .before .before .before .args .from) (c .before .before .before .before .before .before .before .before .before .args .read) (c .before .before .before .before .before .before .before .base-of .result) (c .before .before .before .before .before .before .before .base-of .ensures) (c .absent2 .result) d2 end h (c .before .before .before .before .before .base .given .1) (c .before .before .before .substring-of .result) (c .before .before .before .substring-of .ensures) (c .before .enum-told2 .given .1) (c .absent2 .ensures) }
+returns-2 c = record { bytes = rw (c .absent2 .ensures) (omega arith, refl, omega arith, omega arith, omega arith, refl); is = λ d2 end h. record-cut (c .before .before .before .before .before .before .before .before .before .args .payload .now) (c .before .before .before .before .before .before .before .before .before .args .from) (c .before .before .before .before .before .before .before .before .before .args .read) (c .before .before .before .before .before .before .before .base-of .result) (c .before .before .before .before .before .before .before .base-of .ensures) (c .absent2 .result) d2 end h (c .before .before .before .before .before .base .given .1) (c .before .before .before .substring-of .result) (c .before .before .before .substring-of .ensures) (c .before .enum-told2 .given .1) (c .absent2 .ensures) }
 
 -- src/steps.rt:208:5
 with-steps-requires : tie.Need-with-steps-requires

@@ -28,7 +28,7 @@ change-of-requires c κs = search needs
 
 -- src/stream.rt:104:9
 put-prefix-requires : tie.Need-put-prefix-requires
-put-prefix-requires c κs = let a = c .before .before .before .before .before .before .before .args in fits-first (utf8 (printed (a .slashes) (prefixOf (a .name .operation)))) (sourceBytes (c .before .change-of .result) (sourceText (a .payload .now) (a .d2 .now) (a .name))) _ (a .at) (name-parts (a .payload .now) (a .d2 .now) (a .name) (a .slashes) (c .before .change-of .ensures) (omega arith) (c .before .before .if2 .left)) (c .before .before .before .before .before .before .before .pre)
+put-prefix-requires c κs = let a = c .before .before .before .before .before .before .before .args in fits-first (utf8 (printed (a .slashes) (prefixOf (a .name .operation)))) (sourceBytes (a .name .size) (c .before .change-of .result) (sourceText (a .payload .now) (a .d2 .now) (a .name))) _ (a .at) (name-parts (a .payload .now) (a .d2 .now) (a .name) (a .slashes) (c .before .change-of .ensures) (omega arith) (c .before .before .if2 .left)) (c .before .before .before .before .before .before .before .pre)
 
 -- src/stream.rt:105:5
 put-source-requires : tie.Need-put-source-requires

@@ -1,71 +1,51 @@
-use mathlib.Core.Path.{sym, ap, _∙_}
-use mathlib.Core.List.{List}
-use mathlib.Core.Option.{some}
-use Prim.Native.Nat.{ℕ}
-use Rattle.characters.specs.Characters.{fromUtf8}
-use Rattle.names.proofs.NameLaws.{source-units, source-listed, source-own, source-some}
-use Rattle.names.proofs.StreamLaws.{text-same, fits-same}
+use mathlib.Core.Path.{sym, _∙_}
+use Rattle.names.proofs.NameLaws.{source-there}
+use Rattle.names.proofs.MeasuredLaws.{noted-fits}
 use borrow.Author.Needs.{needs}
 use Rattle.names.proofs.stream.put_source.Statement.{statement}
 use Rattle.names.proofs.stream.put_source.Tie as tie
 use Rattle.names.proofs.stream.put_source.Reads as reads
 use Rattle.names.proofs.stream.put_source.Lts as lts
-use Rattle.names.proofs.name.part_of.Reads as part-of-reads
-use Rattle.names.proofs.stream.put_bytes.Reads as put-bytes-reads
-use Rattle.names.proofs.stream.put_listed.Reads as put-listed-reads
-use Rattle.names.proofs.stream.put_units.Reads as put-units-reads
+use Rattle.names.proofs.stream.is_measured.Reads as is-measured-reads
+use Rattle.names.proofs.stream.put_noted.Reads as put-noted-reads
+use Rattle.names.proofs.stream.put_walked.Reads as put-walked-reads
 
--- src/stream.rt:157:9
-put-units-requires : tie.Need-put-units-requires
-put-units-requires c κs = let a = c .before .before .before .before .before .args in fits-same _ (a .at) (source-some (a .change) (source-units (a .payload .now) (a .d2 .now) (a .name) (c .before .if1 .taken))) (c .before .before .before .before .before .pre .2)
+-- src/stream.rt:356:8
+is-measured-requires : tie.Need-is-measured-requires
+is-measured-requires c κs = search needs
 
--- src/stream.rt:157:9
+-- src/stream.rt:357:9
+put-noted-requires : tie.Need-put-noted-requires
+put-noted-requires c κs = let a = c .before .before .before .before .before .before .args in let m = sym (c .before .before .is-measured .ensures) ∙ c .before .if1 .taken in (c .before .before .before .before .before .before .pre .0, c .before .before .before .before .before .before .pre .1, m, noted-fits (a .name .size) (a .change) m (source-there (a .payload .now) (a .d2 .now) (a .name) (c .before .before .before .before .before .before .pre .0) (c .before .before .before .before .before .before .pre .1) .1) _ _ (c .before .before .before .before .before .before .pre .2))
+
+-- src/stream.rt:357:9
 same-length : tie.Need-same-length
 same-length c = search needs
 
--- src/stream.rt:157:9
+-- src/stream.rt:357:9
 returns : tie.Need-returns
-returns c = let a = c .before .before .before .before .before .before .before .before .args in text-same (source-some (a .change) (source-units (a .payload .now) (a .d2 .now) (a .name) (c .before .before .before .before .if1 .taken))) (c .before .before .put-units .ensures)
+returns c = search needs
 
--- src/stream.rt:160:9
-put-listed-requires : tie.Need-put-listed-requires
-put-listed-requires c κs = let a = c .before .before .before .before .before .before .args in fits-same _ (a .at) (source-some (a .change) (source-listed (a .payload .now) (a .d2 .now) (a .name) (c .before .if2 .taken))) (c .before .before .before .before .before .before .pre .2)
+-- src/stream.rt:359:5
+put-walked-requires : tie.Need-put-walked-requires
+put-walked-requires c κs = (c .before .before .before .before .before .before .pre .0, c .before .before .before .before .before .before .pre .1, sym (c .before .before .is-measured .ensures) ∙ c .before .if1 .left, c .before .before .before .before .before .before .pre .2)
 
--- src/stream.rt:160:9
+-- src/stream.rt:345:1
 same-length-2 : tie.Need-same-length-2
 same-length-2 c = search needs
 
--- src/stream.rt:160:9
+-- src/stream.rt:345:1
 returns-2 : tie.Need-returns-2
-returns-2 c = let a = c .before .before .before .before .before .before .before .before .before .args in text-same (source-some (a .change) (source-listed (a .payload .now) (a .d2 .now) (a .name) (c .before .before .before .before .if2 .taken))) (c .before .before .put-listed .ensures)
-
--- src/stream.rt:162:15
-part-of-requires : tie.Need-part-of-requires
-part-of-requires c κs = search needs
-
--- src/stream.rt:162:5
-put-bytes-requires : tie.Need-put-bytes-requires
-put-bytes-requires c κs = let a = c .before .before .before .before .before .before .before .args in let e = source-own (a .payload .now) (a .d2 .now) (a .name) (c .before .before .before .before .before .before .before .pre .0) (c .before .before .before .before .before .before .before .pre .1) (c .before .before .before .if1 .left) (c .before .before .if2 .left) ∙ ap (λ (bs : List ℕ). some (fromUtf8 bs)) (sym (c .before .part-of .ensures)) in fits-same _ (a .at) (source-some (a .change) e) (c .before .before .before .before .before .before .before .pre .2)
-
--- src/stream.rt:142:1
-same-length-3 : tie.Need-same-length-3
-same-length-3 c = search needs
-
--- src/stream.rt:142:1
-returns-3 : tie.Need-returns-3
-returns-3 c = let a = c .before .before .before .before .before .before .before .before .before .before .args in let e = source-own (a .payload .now) (a .d2 .now) (a .name) (c .before .before .before .before .before .before .before .before .before .before .pre .0) (c .before .before .before .before .before .before .before .before .before .before .pre .1) (c .before .before .before .before .before .before .if1 .left) (c .before .before .before .before .before .if2 .left) ∙ ap (λ (bs : List ℕ). some (fromUtf8 bs)) (sym (c .before .before .before .before .part-of .ensures)) in text-same (source-some (a .change) e) (c .before .before .put-bytes .ensures)
+returns-2 c = search needs
 
 pub put-source-spec : {M : Type 1} → statement M
 put-source-spec =
     tie.close
     (tie.spec
-    put-units-requires
+    is-measured-requires
+    put-noted-requires
     same-length
     returns
-    put-listed-requires
+    put-walked-requires
     same-length-2
-    returns-2
-    part-of-requires
-    put-bytes-requires
-    same-length-3
-    returns-3)
+    returns-2)

@@ -36,7 +36,7 @@ qualified-name-requires c κs = search needs
 -- src/name.rt:41:1
 returns-2 : tie.Need-returns-2
 unfolding classNameIn
-returns-2 c = λ s o k m e l. looked-up (qualifiedName (s .names)) e l (c .before .before .found .given .1) (ap (λ (n : Names). qualifiedName n (c .before .before .found .given .0 .0)) (names-are o) ∙ c .qualified-name .ensures (s .names .records) (o .fit) (o .records))
+returns-2 c = λ s o k m e l. looked-up (qualifiedName (s .names)) e l (c .before .before .found .given .1) (ap (λ (n : Names). qualifiedName n (c .before .before .found .given .0 .0)) (names-are o) ∙ c .qualified-name .ensures (s .names .records) (o .fit) (o .sizes) (o .records))
 
 pub class-name-at-spec : {M : Type 1} → statement M
 class-name-at-spec =

@@ -41,7 +41,7 @@ string-requires c κs = search needs
 -- src/name.rt:25:1
 returns-2 : tie.Need-returns-2
 unfolding nameIn
-returns-2 c = λ units s o m k l. looked-up (string (s .names)) (c .before .before .before .before .index .ensures m k) l (c .before .before .found .given .1) (ap (λ (n : Names). string n (c .before .before .found .given .0 .0)) (names-are o) ∙ c .string .ensures units (s .names .records) (o .fit) (o .records))
+returns-2 c = λ units s o m k l. looked-up (string (s .names)) (c .before .before .before .before .index .ensures m k) l (c .before .before .found .given .1) (ap (λ (n : Names). string n (c .before .before .found .given .0 .0)) (names-are o) ∙ c .string .ensures units (s .names .records) (o .fit) (o .sizes) (o .records))
 
 pub name-in-spec : {M : Type 1} → statement M
 name-in-spec =
