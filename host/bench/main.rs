@@ -4,11 +4,12 @@ mod timing;
 
 use harness::input::Input;
 use harness::limits::{self, AREA};
-use harness::reader::Reader;
+use harness::reader::{Reader, LARGEST};
 use harness::{corpus, slow};
 use timing::Timing;
 
 const USAGE: &str = "bench [--clear] [--reader library|stand-in]
+bench --slow [WORDS]              the slowest inputs that could be made, each by itself, or those with such words
 bench --each                      each real class by itself: those that cost most beside the Rust
 bench --corpus N [--rust]         N times all real classes, for a profiler
 bench --once FILE N [--rust]      N calls on one program input, for a profiler";
@@ -36,6 +37,9 @@ fn main() {
     let timing = Timing::new(reader, has("--clear"));
     if has("--each") {
         return each(timing);
+    }
+    if has("--slow") {
+        return slowest(timing, &after("--slow", 1).unwrap_or_default());
     }
     all(timing);
 }
@@ -106,7 +110,19 @@ fn all(mut timing: Timing) {
     for size in [1, 3, 10, 20, 30] {
         timing.set(&format!("a made class of {size} kB"), &[slow::ordinary(size * 1000)]);
     }
-    for (words, input) in slow::slowest() {
-        timing.set(words, &[input]);
+}
+
+/// The slowest inputs, those that the type table makes last.
+fn slowest(mut timing: Timing, having: &str) {
+    timing.lend(LARGEST);
+    println!("reader: {}; a sheet area of {LARGEST} bytes", timing.reader.name());
+    let mut inputs = slow::slowest();
+    inputs.retain(|slow| slow.words.contains(having));
+    for by_type_table in [false, true] {
+        println!("{}", if by_type_table { "made by the type table:" } else { "the slowest inputs:" });
+        for slow in inputs.iter().filter(|slow| slow.by_type_table == by_type_table) {
+            timing.slow(&slow.words, &slow.input);
+        }
     }
+    timing.tell_worst();
 }

@@ -7,7 +7,6 @@ use harness::reader::Reader;
 use original::class::Class;
 use original::sheet::Sheet;
 use std::hint::black_box;
-use std::time::Instant;
 
 pub struct Timing {
     pub reader: Reader,
@@ -15,6 +14,7 @@ pub struct Timing {
     sheet: Vec<u8>,
     text: Vec<u8>,
     number: u64,
+    worst: (f64, String),
 }
 
 /// A round takes about this long, and the median is of so many rounds.
@@ -23,7 +23,12 @@ const ROUNDS: usize = 11;
 
 impl Timing {
     pub fn new(reader: Reader, clear: bool) -> Self {
-        Self { reader, clear, sheet: vec![0; AREA], text: vec![0; AREA], number: 0 }
+        Self { reader, clear, sheet: vec![0; AREA], text: vec![0; AREA], number: 0, worst: (0.0, String::new()) }
+    }
+
+    /// Lends a sheet area of another length: one that no sheet outgrows lets more inputs be accepted, and accepted ones are walked twice.
+    pub fn lend(&mut self, sheet: usize) {
+        self.sheet = vec![0; sheet];
     }
 
     pub fn clearing(&self) -> &'static str {
@@ -59,6 +64,19 @@ impl Timing {
         let mut reader = || self.reader(input, 1);
         let mut decode = || drop(black_box(prepared[0].decode()));
         medians(ROUND / 10.0, [&mut reader, &mut decode])
+    }
+
+    /// Times one slow input, prints a line, and keeps the slowest.
+    pub fn slow(&mut self, words: &str, input: &Input) {
+        let [read] = medians(ROUND, [&mut || self.reader(input, 1)]);
+        println!("{:8.2} ms, answer {:2}, {words}", read * 1e3, self.number);
+        if read > self.worst.0 {
+            self.worst = (read, words.to_string());
+        }
+    }
+
+    pub fn tell_worst(&self) {
+        println!("slowest: {:.2} ms, {}", self.worst.0 * 1e3, self.worst.1);
     }
 
     /// Times a set of inputs and prints a line.
@@ -111,12 +129,31 @@ fn answer(input: &Input, number: u64) -> String {
     format!(", answer {number}{wrong}, {} types, sheet {}", right.types, right.sheet)
 }
 
+#[repr(C)]
+struct Timespec {
+    seconds: i64,
+    nanoseconds: i64,
+}
+
+extern "C" {
+    fn clock_gettime(clock: i32, time: *mut Timespec) -> i32;
+}
+
+/// Seconds that this thread has run: what waits for a core while others have it doesn't count.
+fn running() -> f64 {
+    const CLOCK_THREAD_CPUTIME_ID: i32 = 3;
+    let mut time = Timespec { seconds: 0, nanoseconds: 0 };
+    let failed = unsafe { clock_gettime(CLOCK_THREAD_CPUTIME_ID, &mut time) };
+    assert_eq!(failed, 0, "no clock of this thread");
+    time.seconds as f64 + time.nanoseconds as f64 / 1e9
+}
+
 /// Seconds of one run of each, as the median of some rounds of so many seconds. The rounds take turns, so that a busy machine slows all.
 fn medians<const N: usize>(round: f64, mut runs: [&mut dyn FnMut(); N]) -> [f64; N] {
     let time = |run: &mut dyn FnMut(), times: usize| {
-        let start = Instant::now();
+        let start = running();
         (0..times).for_each(|_| run());
-        start.elapsed().as_secs_f64() / times as f64
+        (running() - start) / times as f64
     };
     let first: Vec<f64> = runs.iter_mut().map(|run| time(run, 1)).collect();
     let rounds = if first.iter().any(|seconds| *seconds > 0.5) { 3 } else { ROUNDS };

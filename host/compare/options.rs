@@ -3,7 +3,7 @@
 use harness::input::from_hex;
 use harness::reader::Reader;
 
-pub const USAGE: &str = "compare [--seed N] [--count N] [--mode exhaustive|made|damaged|boundaries|all] [--show N]
+pub const USAGE: &str = "compare [--seed N] [--count N] [--mode exhaustive|made|damaged|boundaries|slow|all] [--show N]
 compare --file INPUT | --hex HEX    one program input: the Rust's line and the reader's
 compare --lines FILE                the Rust's line for each input of a file of inputs
 compare --self-test                 plants mistakes in the stand-in; each must be found
@@ -15,10 +15,11 @@ pub enum Mode {
     Made,
     Damaged,
     Boundaries,
+    Slow,
 }
 
 impl Mode {
-    pub const ALL: [Self; 4] = [Self::Exhaustive, Self::Made, Self::Damaged, Self::Boundaries];
+    pub const ALL: [Self; 5] = [Self::Exhaustive, Self::Made, Self::Damaged, Self::Boundaries, Self::Slow];
 
     pub fn name(self) -> String {
         format!("{self:?}").to_lowercase()

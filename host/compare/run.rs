@@ -8,6 +8,7 @@ use harness::input::{hex, Input};
 use harness::limits::Areas;
 use harness::random::Random;
 use harness::reader::{Caller, Reader, LARGEST};
+use harness::slow::{slowest, Slow};
 use harness::{corpus, damage, made, shapes, shrink};
 use std::time::Instant;
 
@@ -15,16 +16,18 @@ use std::time::Instant;
 pub struct Source {
     classes: Vec<Input>,
     exhaustive: Exhaustive,
+    slow: Vec<Slow>,
 }
 
 impl Default for Source {
     fn default() -> Self {
-        Self { classes: corpus::classes(), exhaustive: Exhaustive::default() }
+        Self { classes: corpus::classes(), exhaustive: Exhaustive::default(), slow: slowest() }
     }
 }
 
 /// Small areas serve short contents and are quicker to fill.
 const SMALL: Areas = Areas { sheet: 600, text: 600 };
+const LARGE: Areas = Areas { sheet: LARGEST, text: LARGEST };
 
 impl Source {
     /// The input with this number of a mode's run, and the areas to read it into.
@@ -36,10 +39,10 @@ impl Source {
             Mode::Damaged => (self.damaged(&mut random, number), vec![Areas::PROGRAM]),
             Mode::Boundaries => {
                 let input = if random.once_in(4) { self.made(&mut random) } else { shapes::input(&mut random) };
-                let large = Areas { sheet: LARGEST, text: LARGEST };
-                let areas = around(&input).into_iter().chain([large, Areas::PROGRAM]).collect();
+                let areas = around(&input).into_iter().chain([LARGE, Areas::PROGRAM]).collect();
                 (input, areas)
             }
+            Mode::Slow => (self.slow.get(number as usize)?.input.clone(), vec![Areas::PROGRAM, LARGE]),
         })
     }
 
