@@ -56,9 +56,9 @@ differs() { # what
 sed -i 's/^| `wire` | `Messages`, `Wire`/| `wire` | `Wire`/' "$here/copy/README.md"
 differs 'README has a file fewer'
 cmp README.md "$here/copy/README.md" || failed=1
-echo 'use Rattle.promises.specs.Walk.{walked}' >> "$here/copy/crates/metadata/specs/Read.antt"
+echo 'use Rattle.lookup.specs.Strings.{codesIn}' >> "$here/copy/crates/metadata/specs/Read.antt"
 differs 'a definition rests on a file more'
-grep -q '^| `promises` | `Walk` |' "$here/copy/README.md" || { echo 'trusted: the new file is not named'; failed=1; }
+grep -q '^| `lookup` | `Strings` |' "$here/copy/README.md" || { echo 'trusted: the new file is not named'; failed=1; }
 
 # the lines that README shows of ./sheet are those that it prints
 grep '^    public ' README.md | sed 's/^    //' > "$here/shown"
