@@ -63,7 +63,7 @@ fn head_alone(kind: u8, sheet: &mut [u8], text: &mut [u8]) -> Outcome
     }
 }
 
-// A d1 of 256 units at most, as most classes have: a frame of 5 KB.
+// A d1 of 256 units at most, as most classes have: a frame of 6 KB.
 fn read_small(
     kind: u8,
     d1: &[u16],
@@ -97,7 +97,7 @@ fn read_small(
     }
 }
 
-// A d1 of 1,024 units at most: a frame of 21 KB.
+// A d1 of 1,024 units at most: a frame of 26 KB.
 fn read_medium(
     kind: u8,
     d1: &[u16],
@@ -131,7 +131,7 @@ fn read_medium(
     }
 }
 
-// A d1 of 8,192 units at most: a frame of 164 KB.
+// A d1 of 8,192 units at most: a frame of 181 KB.
 fn read_big(
     kind: u8,
     d1: &[u16],
@@ -165,7 +165,7 @@ fn read_big(
     }
 }
 
-// Any d1: a frame of 540 KB.
+// Any d1: a frame of 557 KB.
 fn read_large(
     kind: u8,
     d1: &[u16],
