@@ -16,10 +16,10 @@ use Rattle.foundation.proofs.ChoiceLaws.{if-ind}
 use Rattle.characters.specs.Characters.{utf8, fromUtf16, partFrom}
 use Rattle.characters.proofs.LengthLaws.{bytes-most, fromUtf16-length}
 use Rattle.names.specs.Names.{stringsFrom, endsFit}
-use Rattle.lookup.specs.Steps.{extentOf}
+use Rattle.record_names.specs.Steps.{extentOf}
 use Rattle.lookup.specs.Strings.{codesIn, codesFrom, sizesFrom, Keeps, SizeOf, SizesOf, StringNoted}
-use Rattle.lookup.specs.declared.steps.Extent.{Extent}
-use Rattle.lookup.specs.declared.steps.Extent.the-variants as extent
+use Rattle.record_names.specs.declared.Extent.{Extent}
+use Rattle.record_names.specs.declared.Extent.the-variants as extent
 use Rattle.lookup.proofs.ResolveLaws.{still-lower}
 
 -- What stands before a place stays.

@@ -1,5 +1,3 @@
-pub mod Note
-pub mod Steps
 pub mod Lookups
 pub mod Qualified
 pub mod Resolved

@@ -1,28 +1,24 @@
 -- What look-ups in the index of the name table's records tell.
 -- Assumes nothing.
 use mathlib.Core.Path.{_≡_}
-use mathlib.Core.Bool.{Bool, true, false}
+use mathlib.Core.Bool.{Bool}
 use mathlib.Core.List.{List}
 use mathlib.Core.Option.{Option, none, some}
-use Prim.Native.Nat.{ℕ, suc, _+_, _*_, _/_, _%_, _^_, _≤_, _<_}
+use Prim.Native.Nat.{ℕ, suc, _+_, _*_, _^_, _≤_, _<_}
 use lib.ListN.{length, getD, getElem?}
 use Rattle.foundation.specs.Choices.{if_then_else_}
-use Rattle.foundation.specs.Results.{Res, ok, _from_}
+use Rattle.foundation.specs.Results.{Res, ok}
 use Rattle.foundation.specs.Texts.{Text}
-use Rattle.wire.specs.Wire.{Message, cut}
-use Rattle.characters.specs.Characters.{partFrom}
-use Rattle.names.specs.Records.{Record, recordOf, decides, textOf, predefinedText}
+use Rattle.names.specs.Records.{Record}
 use Rattle.names.specs.Names.{recordAt, Names, string, qualifiedName}
 use Rattle.names.specs.Name.{nameText}
-use Rattle.names.specs.Index.{startOf, endOf, firstOf, Sums, IndexOf}
-use Rattle.names.specs.declared.name.Name.{Name}
-use Rattle.lookup.specs.Steps.{BytesName}
-use Rattle.lookup.specs.Note.{noted, notedClass, notedAs}
-use Rattle.lookup.specs.Qualified.{classText}
-use Rattle.lookup.specs.declared.Decided.{Decided}
-use Rattle.lookup.specs.declared.Decided.the-variants as decided
-use Rattle.lookup.specs.declared.steps.Extent.{Extent}
-use Rattle.lookup.specs.declared.steps.Extent.the-variants as extent
+use Rattle.names.specs.Index.{startOf, endOf, firstOf, Sums}
+use Rattle.record_names.specs.Note.{notedAs}
+use Rattle.record_names.specs.Named.{NoteTold}
+use Rattle.record_names.specs.declared.Decided.{Decided}
+use Rattle.record_names.specs.declared.Decided.the-variants as decided
+use Rattle.record_names.specs.declared.Extent.{Extent}
+use Rattle.record_names.specs.declared.Extent.the-variants as extent
 use Rattle.lookup.specs.declared.Served.{Served}
 use Rattle.lookup.specs.declared.Served.the-variants as found
 
@@ -59,36 +55,6 @@ lookedUp class names index = if class then qualifiedName names index else string
 abbrev pub DecidedIs : List ℕ → List ℕ → Bool → Names → ℕ → Decided → Type 0
 DecidedIs bytes units class names index (decided.Yes name) = lookedUp class names index ≡ ok (nameText bytes units name)
 DecidedIs bytes units class names index decided.No = string names index ≡ names .d2 index
-
-abbrev pub DecidedBytes : Decided → Type 0
-DecidedBytes (decided.Yes name) = BytesName name
-DecidedBytes decided.No = Unit {0}
-
--- a predefined string as a name
-pub record PredefinedTold (index : ℕ) (r : Name) : Type 0 where
-  pub bytes : BytesName r
-  pub is : (payload units : List ℕ) → nameText payload units r ≡ predefinedText index
-
--- by a record: whether it decides, and its name
-abbrev pub NamedIs : List ℕ → List ℕ → Record → Decided → Type 0
-NamedIs bytes units r (decided.Yes name) = (decides r ≡ true) × (textOf r ≡ nameText bytes units name)
-NamedIs bytes units r decided.No = decides r ≡ false
-
--- by the record whose message stands from start to end
-pub record NamedTold (bytes : List ℕ) (start end : ℕ) (r : Decided) : Type 0 where
-  pub made : DecidedBytes r
-  pub is : (m : Message) → cut (_from_ start (partFrom start end bytes)) ≡ ok m → (units : List ℕ) → NamedIs bytes units (recordOf m) r
-
--- the same of its class name
-abbrev pub ClassIs : List ℕ → List ℕ → Record → Decided → Type 0
-ClassIs bytes units r (decided.Yes name) = (decides r ≡ true) × (classText (textOf r) ≡ nameText bytes units name)
-ClassIs bytes units r decided.No = decides r ≡ false
-
--- What is noted of a record: whether it decides, its name and its class name, each with the size of its text. Nothing of its message is
--- read again.
-pub record NoteTold (bytes : List ℕ) (r : Record) (place steps : ℕ) : Type 0 where
-  pub is : (units : List ℕ) → NamedIs bytes units r (noted place steps)
-  pub class : (units : List ℕ) → ClassIs bytes units r (notedClass place steps)
 
 -- The index of a name table's records, each worked out: what it builds, and which indices it serves.
 pub record NotesOf (bytes notes : List ℕ) (count : ℕ) (records : List Record) : Type 0 where

@@ -8,9 +8,9 @@ ghost use Rattle.names.specs.Names.{endsFit};
 ghost use Rattle.lookup.specs.Strings.{sizesFrom, Keeps, SizeOf, SizesOf, StringNoted};
 use crate::codes::sizes_from;
 use crate::d2_extent;
-use crate::steps::Extent;
 use characters::measure::utf8_size;
 use foundation::wide;
+use record_names::Extent;
 
 // A string of d2 of so many units is long: at most 32 are.
 const LONG: usize = 1024;
