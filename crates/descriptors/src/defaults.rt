@@ -184,10 +184,11 @@ fn preceded(size: usize, part: Part) -> Part
     requires { ⌜ (size ≤ 2 ^ 61) × PartWithin (2 ^ 61) part ⌝ }
     ensures { λ r. ⌜ r ≡ preceded size part ⌝ }
 {
-    match part {
-        Part::Written { size: more } => Part::Written { size: size + more },
-        Part::Absent => Part::Absent,
-    }
+    let Part::Written { size: more } = part else {
+        return Part::Absent;
+    };
+    let whole = size + more;
+    Part::Written { size: whole }
 }
 
 // The default descriptor of a constructor, which returns V.

@@ -119,25 +119,22 @@ pub(crate) fn closed_constructor(
         sheet,
         text,
     );
-    match picked {
-        Picked::Kept { state: after } => {
-            let last = close_constructor(
-                msg,
-                base,
-                payload,
-                d2,
-                ends,
-                notes,
-                tables,
-                after,
-                sheet,
-                text,
-            );
-            Picked::Kept { state: last }
-        }
-        Picked::Dropped => Picked::Dropped,
-        Picked::Refused { stop } => Picked::Refused { stop },
-    }
+    let Picked::Kept { state: after } = picked else {
+        return picked;
+    };
+    let last = close_constructor(
+        msg,
+        base,
+        payload,
+        d2,
+        ends,
+        notes,
+        tables,
+        after,
+        sheet,
+        text,
+    );
+    Picked::Kept { state: last }
 }
 
 // A function, with the record that closes it.
@@ -168,23 +165,20 @@ pub(crate) fn closed_function(
         sheet,
         text,
     );
-    match picked {
-        Picked::Kept { state: after } => {
-            let last = close_function(
-                msg,
-                base,
-                payload,
-                d2,
-                ends,
-                notes,
-                tables,
-                after,
-                sheet,
-                text,
-            );
-            Picked::Kept { state: last }
-        }
-        Picked::Dropped => Picked::Dropped,
-        Picked::Refused { stop } => Picked::Refused { stop },
-    }
+    let Picked::Kept { state: after } = picked else {
+        return picked;
+    };
+    let last = close_function(
+        msg,
+        base,
+        payload,
+        d2,
+        ends,
+        notes,
+        tables,
+        after,
+        sheet,
+        text,
+    );
+    Picked::Kept { state: last }
 }

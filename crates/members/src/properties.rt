@@ -132,41 +132,39 @@ fn named_property(
         sheet,
         text,
     );
-    match received {
-        Walked::Refused { stop } => Picked::Refused { stop },
-        Walked::Done { state: next } => {
-            let due = check_accessors(own.names);
-            match due {
-                Checked::Refused { error } => Picked::Refused {
-                    stop: Stop::Wire { error },
-                },
-                Checked::Whole => {
-                    let returned = TypeSlot {
-                        inline: PROPERTY_RETURN_TYPE,
-                        indexed: PROPERTY_RETURN_TYPE_ID,
-                        role: RETURN_ROLE,
-                    };
-                    let typed = declared_type(
-                        msg,
-                        base,
-                        returned,
-                        payload,
-                        d2,
-                        ends,
-                        notes,
-                        tables,
-                        next,
-                        sheet,
-                        text,
-                    );
-                    match typed {
-                        Walked::Done { state: last } => Picked::Kept { state: last },
-                        Walked::Refused { stop } => Picked::Refused { stop },
-                    }
-                }
-            }
-        }
-    }
+    let Walked::Done { state: next } = received else {
+        return Picked::Refused {
+            stop: received.stop(),
+        };
+    };
+    let due = check_accessors(own.names);
+    let Checked::Whole = due else {
+        return Picked::Refused {
+            stop: Stop::Wire { error: due.error() },
+        };
+    };
+    let returned = TypeSlot {
+        inline: PROPERTY_RETURN_TYPE,
+        indexed: PROPERTY_RETURN_TYPE_ID,
+        role: RETURN_ROLE,
+    };
+    let typed = declared_type(
+        msg,
+        base,
+        returned,
+        payload,
+        d2,
+        ends,
+        notes,
+        tables,
+        next,
+        sheet,
+        text,
+    );
+    let Walked::Done { state: last } = typed else {
+        return Picked::Refused { stop: typed.stop() };
+    };
+    Picked::Kept { state: last }
 }
 
 // A property: skipped without a name, before anything inside it is read.
@@ -191,25 +189,25 @@ pub(crate) fn property_in(
         return Picked::Dropped;
     }
     let signed = property_signatures(msg, base, payload, ends, notes, records);
-    match signed {
-        PropertySigned::Refused { error } => Picked::Refused {
-            stop: Stop::Wire { error },
-        },
-        PropertySigned::Names { names } => {
-            let own = Named { name, names };
-            named_property(
-                msg,
-                base,
-                own,
-                payload,
-                d2,
-                ends,
-                notes,
-                tables,
-                state,
-                sheet,
-                text,
-            )
-        }
-    }
+    let PropertySigned::Names { names } = signed else {
+        return Picked::Refused {
+            stop: Stop::Wire {
+                error: signed.error(),
+            },
+        };
+    };
+    let own = Named { name, names };
+    named_property(
+        msg,
+        base,
+        own,
+        payload,
+        d2,
+        ends,
+        notes,
+        tables,
+        state,
+        sheet,
+        text,
+    )
 }

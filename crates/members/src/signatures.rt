@@ -131,18 +131,17 @@ fn field_in(
     ensures { λ r. ⌜ ((units : List ℕ) (c : Scope) → NamesOf (now (payload .entry)) units (now (ends .entry)) (now (notes .entry)) records (c .names) → (m : Message) → cut (_from_ base (now (msg .entry))) ≡ ok m → (l : ℕ) → fieldIn c m l ≡ ok (signatureBy (now (payload .entry)) units r, l)) ⌝ }
 {
     let inner = message(msg, base, JVM_PROPERTY_SIGNATURE_FIELD);
-    match inner {
-        Embedded::Inline { start, end } => names_in(
-            &msg[start..end],
-            base + start as u32,
-            payload,
-            ends,
-            notes,
-            records,
-        ),
-        Embedded::Nothing => unsigned(),
-        Embedded::Refused { error: _ } => unsigned(),
-    }
+    let Embedded::Inline { start, end } = inner else {
+        return unsigned();
+    };
+    names_in(
+        &msg[start..end],
+        base + start as u32,
+        payload,
+        ends,
+        notes,
+        records,
+    )
 }
 
 impl Signed {
@@ -153,6 +152,16 @@ impl Signed {
         match self {
             Signed::Names { names } => names,
             Signed::Refused { error: _ } => unsigned(),
+        }
+    }
+
+    // Why it is refused, of one that is.
+    pub(crate) fn error(self) -> WireError
+        ensures { λ r. ⌜ ((e : WireError) → self ≡ Signed.Refused e → r ≡ e) ⌝ }
+    {
+        match self {
+            Signed::Names { names: _ } => WireError::VarintCutShort { place: 0 },
+            Signed::Refused { error } => error,
         }
     }
 }
@@ -169,19 +178,35 @@ pub(crate) enum PropertySigned {
     Refused { error: WireError },
 }
 
+impl PropertySigned {
+    // Why it is refused, of one that is.
+    pub(crate) fn error(self) -> WireError
+        ensures { λ r. ⌜ ((e : WireError) → self ≡ PropertySigned.Refused e → r ≡ e) ⌝ }
+    {
+        match self {
+            PropertySigned::Names { names: _ } => WireError::VarintCutShort { place: 0 },
+            PropertySigned::Refused { error } => error,
+        }
+    }
+}
+
 // The refusal of a getter, else of a setter.
 pub(crate) fn check_accessors(names: PropertyNames) -> Checked
     ensures { λ r. ⌜ AccessorsDue names r ⌝ }
 {
     let getter = names.getter;
     let setter = names.setter;
-    match getter {
-        Signed::Refused { error } => Checked::Refused { error },
-        Signed::Names { names: _ } => match setter {
-            Signed::Refused { error } => Checked::Refused { error },
-            Signed::Names { names: _ } => Checked::Whole,
-        },
-    }
+    let Signed::Names { names: _ } = getter else {
+        return Checked::Refused {
+            error: getter.error(),
+        };
+    };
+    let Signed::Names { names: _ } = setter else {
+        return Checked::Refused {
+            error: setter.error(),
+        };
+    };
+    Checked::Whole
 }
 
 // A property without a signature message.

@@ -33,10 +33,12 @@ pub fn either(a: bool, b: bool) -> bool
 pub fn picked(walked: Walked) -> Picked
     ensures { λ r. ⌜ r ≡ pickedOf walked ⌝ }
 {
-    match walked {
-        Walked::Done { state } => Picked::Kept { state },
-        Walked::Refused { stop } => Picked::Refused { stop },
-    }
+    let Walked::Done { state } = walked else {
+        return Picked::Refused {
+            stop: walked.stop(),
+        };
+    };
+    Picked::Kept { state }
 }
 
 // Where an entry of the type table stands, if there is one at the index.
