@@ -261,19 +261,19 @@ module _ (k base : ℕ) (s : List ℕ) where
       unfolding cutAll
       cutting-none g m w = let l = o m w in l .2 checked.Whole ([], ap cutAll (here g (l .0) (l .1)))
 
-      module _ {a b : ℕ} (g : x ≡ piece.Body a b) {c : Checked} (d : CheckedTold (cut (restOf base (take b s) a)) c) where
+      module _ {a b : ℕ} (g : x ≡ piece.Body a b) {c : Checked} (d : CheckedTold (cut (bodyOf base s a b)) c) where
         pub cutting-refused : {error : WireError} → c ≡ checked.Refused error → (m : Message) → cut (_from_ base s) ≡ ok m
             → CheckedTold (messages k m) c
         cutting-refused q m w =
             let l = o m w in
             let n = here g (l .0) (l .1) in
-            l .2 c (subst (λ (ps : List Part). CheckedTold (cutAll ps) c) (sym (n .2)) (cut-none-of (bodyOf base s a b) (bodies k (n .0)) c q (checked-part base s a b c (piece-in g .0) d)))
+            l .2 c (subst (λ (ps : List Part). CheckedTold (cutAll ps) c) (sym (n .2)) (cut-none-of (bodyOf base s a b) (bodies k (n .0)) c q d))
 
         pub cutting-next : c ≡ checked.Whole → Cutting k base s b
         cutting-next q m w =
             let l = o m w in
             let n = here g (l .0) (l .1) in
-            let inner = subst (CheckedTold (cut (bodyOf base s a b))) q (checked-part base s a b c (piece-in g .0) d) in
+            let inner = subst (CheckedTold (cut (bodyOf base s a b))) q d in
             (n .0, n .1, λ c h. l .2 c (subst (λ (ps : List Part). CheckedTold (cutAll ps) c) (sym (n .2)) (cut-one (bodyOf base s a b) (bodies k (n .0)) c (inner .1) h)))
 
 -- the message in a field
@@ -290,13 +290,13 @@ module _ (k base : ℕ) (s : List ℕ) {x : Piece} (t : BytesTold base s k x) wh
     unfolding message
     there m w = ap cutOption (t .is m w ∙ ap (pieceTold base s) g)
 
-    module _ {c : Checked} (d : CheckedTold (cut (restOf base (take b s) a)) c) where
+    module _ {c : Checked} (d : CheckedTold (cut (bodyOf base s a b)) c) where
       pub message-cut : c ≡ checked.Whole → EmbeddedTold base s k (embedded.Inline a b)
       message-cut q =
-          let inner = subst (CheckedTold (cut (bodyOf base s a b))) q (checked-part base s a b c (message-in .0) d) in
+          let inner = subst (CheckedTold (cut (bodyOf base s a b))) q d in
           record { is = λ m w. (inner .0, inner .1, there m w ∙ ap (λ (r : Res Message). r >>= λ i. ok (some i)) (inner .1)); inside = message-in }
 
       pub message-refused : {error err : WireError} → c ≡ checked.Refused error → err ≡ error → EmbeddedTold base s k (embedded.Refused err)
       message-refused q r =
-          let inner = subst (CheckedTold (cut (bodyOf base s a b))) q (checked-part base s a b c (message-in .0) d) in
+          let inner = subst (CheckedTold (cut (bodyOf base s a b))) q d in
           record { is = λ m w. there m w ∙ ap (λ (r : Res Message). r >>= λ i. ok (some i)) inner ∙ ap (refusal {A = Option Message}) (sym r); inside = tt }
