@@ -5,6 +5,7 @@ use mathlib.Core.Bool.{Bool, true, false}
 use mathlib.Core.List.{List, [], _∷_}
 use mathlib.Core.Option.{Option, some}
 use Prim.Native.Nat.{ℕ, _+_, _-_, _%_, _/_, _≤_, _<_, _^_}
+use native.Mathlib.Nat.{zero-add}
 use native.Mathlib.Omega.{arith}
 use borrow.Author.Tests.{eq-eqb, eqb-true, eqb-false, ltb-false}
 use lib.Dec.{eqb, ltb}
@@ -222,6 +223,10 @@ part-is base s a e h =
 pub checked-part : (base : ℕ) (s : List ℕ) (a e : ℕ) (c : Checked) → a ≤ e → CheckedTold (cut (restOf base (take e s) a)) c
     → CheckedTold (cut (bodyOf base s a e)) c
 checked-part base s a e c h t = subst (λ (p : Part). CheckedTold (cut p) c) (part-is base s a e h) t
+
+-- a part of the decoded bytes, handed on with the place where it begins
+pub checked-at : (s : List ℕ) (a e : ℕ) (c : Checked) → CheckedTold (cut (_from_ a (take (e - a) (drop a s)))) c → CheckedTold (cut (bodyOf 0 s a e)) c
+checked-at s a e c t = subst (λ (n : ℕ). CheckedTold (cut (_from_ n (take (e - a) (drop a s)))) c) (sym (zero-add a)) t
 
 -- the messages of a list: what is checked from a place on holds of all of them
 abbrev pub Cutting : ℕ → ℕ → List ℕ → ℕ → Type 0
