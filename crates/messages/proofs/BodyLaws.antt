@@ -5,6 +5,7 @@ use mathlib.Core.Bool.{Bool, true, false}
 use mathlib.Core.List.{List, [], _∷_}
 use mathlib.Core.Option.{Option, some}
 use Prim.Native.Nat.{ℕ, _+_, _-_, _%_, _/_, _≤_, _<_, _^_}
+use native.Mathlib.Nat.{zero-add}
 use native.Mathlib.Omega.{arith}
 use borrow.Author.Tests.{eq-eqb, eqb-true, eqb-false, ltb-false}
 use lib.Dec.{eqb, ltb}
@@ -223,6 +224,10 @@ pub checked-part : (base : ℕ) (s : List ℕ) (a e : ℕ) (c : Checked) → a �
     → CheckedTold (cut (bodyOf base s a e)) c
 checked-part base s a e c h t = subst (λ (p : Part). CheckedTold (cut p) c) (part-is base s a e h) t
 
+-- a part of the decoded bytes, handed on with the place where it begins
+pub checked-at : (s : List ℕ) (a e : ℕ) (c : Checked) → CheckedTold (cut (_from_ a (take (e - a) (drop a s)))) c → CheckedTold (cut (bodyOf 0 s a e)) c
+checked-at s a e c t = subst (λ (n : ℕ). CheckedTold (cut (_from_ n (take (e - a) (drop a s)))) c) (sym (zero-add a)) t
+
 -- the messages of a list: what is checked from a place on holds of all of them
 abbrev pub Cutting : ℕ → ℕ → List ℕ → ℕ → Type 0
 Cutting k base s at =
@@ -261,19 +266,19 @@ module _ (k base : ℕ) (s : List ℕ) where
       unfolding cutAll
       cutting-none g m w = let l = o m w in l .2 checked.Whole ([], ap cutAll (here g (l .0) (l .1)))
 
-      module _ {a b : ℕ} (g : x ≡ piece.Body a b) {c : Checked} (d : CheckedTold (cut (restOf base (take b s) a)) c) where
+      module _ {a b : ℕ} (g : x ≡ piece.Body a b) {c : Checked} (d : CheckedTold (cut (bodyOf base s a b)) c) where
         pub cutting-refused : {error : WireError} → c ≡ checked.Refused error → (m : Message) → cut (_from_ base s) ≡ ok m
             → CheckedTold (messages k m) c
         cutting-refused q m w =
             let l = o m w in
             let n = here g (l .0) (l .1) in
-            l .2 c (subst (λ (ps : List Part). CheckedTold (cutAll ps) c) (sym (n .2)) (cut-none-of (bodyOf base s a b) (bodies k (n .0)) c q (checked-part base s a b c (piece-in g .0) d)))
+            l .2 c (subst (λ (ps : List Part). CheckedTold (cutAll ps) c) (sym (n .2)) (cut-none-of (bodyOf base s a b) (bodies k (n .0)) c q d))
 
         pub cutting-next : c ≡ checked.Whole → Cutting k base s b
         cutting-next q m w =
             let l = o m w in
             let n = here g (l .0) (l .1) in
-            let inner = subst (CheckedTold (cut (bodyOf base s a b))) q (checked-part base s a b c (piece-in g .0) d) in
+            let inner = subst (CheckedTold (cut (bodyOf base s a b))) q d in
             (n .0, n .1, λ c h. l .2 c (subst (λ (ps : List Part). CheckedTold (cutAll ps) c) (sym (n .2)) (cut-one (bodyOf base s a b) (bodies k (n .0)) c (inner .1) h)))
 
 -- the message in a field
@@ -290,13 +295,13 @@ module _ (k base : ℕ) (s : List ℕ) {x : Piece} (t : BytesTold base s k x) wh
     unfolding message
     there m w = ap cutOption (t .is m w ∙ ap (pieceTold base s) g)
 
-    module _ {c : Checked} (d : CheckedTold (cut (restOf base (take b s) a)) c) where
+    module _ {c : Checked} (d : CheckedTold (cut (bodyOf base s a b)) c) where
       pub message-cut : c ≡ checked.Whole → EmbeddedTold base s k (embedded.Inline a b)
       message-cut q =
-          let inner = subst (CheckedTold (cut (bodyOf base s a b))) q (checked-part base s a b c (message-in .0) d) in
+          let inner = subst (CheckedTold (cut (bodyOf base s a b))) q d in
           record { is = λ m w. (inner .0, inner .1, there m w ∙ ap (λ (r : Res Message). r >>= λ i. ok (some i)) (inner .1)); inside = message-in }
 
       pub message-refused : {error err : WireError} → c ≡ checked.Refused error → err ≡ error → EmbeddedTold base s k (embedded.Refused err)
       message-refused q r =
-          let inner = subst (CheckedTold (cut (bodyOf base s a b))) q (checked-part base s a b c (message-in .0) d) in
+          let inner = subst (CheckedTold (cut (bodyOf base s a b))) q d in
           record { is = λ m w. there m w ∙ ap (λ (r : Res Message). r >>= λ i. ok (some i)) inner ∙ ap (refusal {A = Option Message}) (sym r); inside = tt }

@@ -91,10 +91,10 @@ fn read_small(
         sheet,
         text,
     );
-    match passed {
-        Passed::Answered { outcome } => outcome,
-        Passed::NoRoom => refused(0, 0),
-    }
+    let Passed::Answered { outcome } = passed else {
+        return refused(0, 0);
+    };
+    outcome
 }
 
 // A d1 of 1,024 units at most: a frame of 26 KB.
@@ -125,10 +125,10 @@ fn read_medium(
         sheet,
         text,
     );
-    match passed {
-        Passed::Answered { outcome } => outcome,
-        Passed::NoRoom => refused(0, 0),
-    }
+    let Passed::Answered { outcome } = passed else {
+        return refused(0, 0);
+    };
+    outcome
 }
 
 // A d1 of 8,192 units at most: a frame of 181 KB.
@@ -159,10 +159,10 @@ fn read_big(
         sheet,
         text,
     );
-    match passed {
-        Passed::Answered { outcome } => outcome,
-        Passed::NoRoom => refused(0, 0),
-    }
+    let Passed::Answered { outcome } = passed else {
+        return refused(0, 0);
+    };
+    outcome
 }
 
 // Any d1: a frame of 557 KB.
@@ -193,10 +193,10 @@ fn read_large(
         sheet,
         text,
     );
-    match passed {
-        Passed::Answered { outcome } => outcome,
-        Passed::NoRoom => refused(0, 0),
-    }
+    let Passed::Answered { outcome } = passed else {
+        return refused(0, 0);
+    };
+    outcome
 }
 
 // A longer d1, in the frame that is enough.

@@ -8,7 +8,9 @@ use Prim.Native.Nat.{ℕ, zero, suc, _+_, _-_, _*_, _/_, _%_, _^_, _≤_, _<_}
 use native.Mathlib.Nat.{zero-add, le-refl}
 use native.Mathlib.Numerals.{add-one}
 use native.Mathlib.Omega.{arith}
-use lib.ListN.{length, take, drop, set, getD, getElem?, length-append, length-set, length-drop}
+use types.Run.{OneOf, miss}
+use denote.Enum.Declared.{tagOf}
+use lib.ListN.{length, drop, set, getD, getElem?, length-append, length-set, length-drop}
 use lib.Seq.{getD-at, getD-set-same, getD-set-other, take-all}
 use Rattle.foundation.specs.Results.{Res, ok, refused, _>>=_, Part, _from_}
 use Rattle.fields.specs.Fields.{StringTableTypes·record, StringTableTypes·local-name, Record·range}
@@ -23,12 +25,13 @@ use Rattle.messages.specs.declared.Indexed.{Indexed}
 use Rattle.wire.specs.declared.Piece.{Piece}
 use Rattle.wire.specs.declared.Piece.the-variants as piece
 use Rattle.wire.proofs.WalkLaws.{cut-end, ok-same}
-use Rattle.messages.proofs.BodyLaws.{checked-part}
+use Rattle.messages.proofs.BodyLaws.{checked-at}
 use Rattle.characters.specs.Characters.{partFrom}
 use Rattle.names.specs.Records.{Record, recordOf, served}
 use Rattle.names.specs.Names.{recordsOf}
 use Rattle.names.specs.Index.{sumsFrom, rangesOf, packed, startOf, endOf, firstOf, Sums, RecordAt, IndexOf, NotedTold, IndexTold}
 use Rattle.names.specs.declared.records.RecordIndex.{RecordIndex}
+use Rattle.names.proofs.records.RecordIndex.{the-type}
 use Rattle.names.specs.declared.records.RecordIndex.the-variants.{Records, NoRoom, Refused}
 
 -- One more at the end of a list.
@@ -248,13 +251,13 @@ module _ (bytes : List ℕ) (start : ℕ) (notes : List ℕ) (total count at : �
       pub body-in : (a ≤ e) × (e ≤ length bytes) × (at < e)
       body-in = (next .inside .0, next .inside .1, next .later)
 
-      pub noting-refused : {c : Checked} → CheckedTold (cut (restOf 0 (take e bytes) a)) c → {error err : WireError} → c ≡ checked.Refused error → err ≡ error
+      pub noting-refused : {c : Checked} → CheckedTold (cut (_from_ a (partFrom a e bytes))) c → {error err : WireError} → c ≡ checked.Refused error → err ≡ error
           → (m : Message) → cut (restOf 0 bytes start) ≡ ok m → NotedTold bytes start m notes (Refused err)
       noting-refused {c} k {error} {err} q p m w =
           let n = i m w in
           let b = next .is (n .rest) (n .cuts) in
           let f : cut (bodyOf 0 bytes a e) ≡ refusal error =
-          subst (CheckedTold (cut (bodyOf 0 bytes a e))) q (checked-part 0 bytes a e c (body-in .0) k) in
+          subst (CheckedTold (cut (bodyOf 0 bytes a e))) q (checked-at bytes a e c k) in
           n .whole
           ∙ ap (λ (ps : List Part). after (n .before) (cutAll ps)) (b .2)
           ∙ after-refused (n .before) (bodyOf 0 bytes a e) (bodies StringTableTypes·record (b .0)) error f
@@ -268,9 +271,9 @@ module _ (bytes : List ℕ) (start : ℕ) (notes : List ℕ) (total count at : �
           let q : length (bodies StringTableTypes·record (n .rest)) ≡ suc (length (bodies StringTableTypes·record (b .0))) = ap length (b .2) in
           omega (arith, room .long, n .many)
 
-      module _ {c : Checked} (k : CheckedTold (cut (restOf 0 (take e bytes) a)) c) (q : c ≡ checked.Whole) where
+      module _ {c : Checked} (k : CheckedTold (cut (_from_ a (partFrom a e bytes))) c) (q : c ≡ checked.Whole) where
         inner : (x : Message) × (cut (bodyOf 0 bytes a e) ≡ ok x)
-        inner = subst (CheckedTold (cut (bodyOf 0 bytes a e))) q (checked-part 0 bytes a e c (body-in .0) k)
+        inner = subst (CheckedTold (cut (bodyOf 0 bytes a e))) q (checked-at bytes a e c k)
 
         here : cut (_from_ a (partFrom a e bytes)) ≡ ok (inner .0)
         here = ap (λ (n : ℕ). cut (_from_ n (partFrom a e bytes))) (sym (zero-add a)) ∙ inner .1
@@ -331,11 +334,10 @@ module _ (bytes : List ℕ) (start : ℕ) (m : Message) (w : cut (restOf 0 bytes
           let l : varints StringTableTypes·local-name m ≡ refusal error = subst (CheckedTold (varints StringTableTypes·local-name m)) q (k m from-start) in
           rw (noted .1, l, p)
 
-  pub index-no-room : r ≡ NoRoom → IndexTold bytes start m notes NoRoom
-  index-no-room g = subst (NotedTold bytes start m notes) g t
-
-  pub index-refused : {error : WireError} → r ≡ Refused error → IndexTold bytes start m notes (Refused error)
-  unfolding recordsOf
-  index-refused {error} g =
-      let l : messages StringTableTypes·record m ≡ refusal error = subst (NotedTold bytes start m notes) g t in
-      rw l
+-- Where not all records are noted, that is the answer.
+pub index-stopped : (bytes : List ℕ) (start : ℕ) (m : Message) (notes : List ℕ) (r : RecordIndex) → OneOf (1 ∷ 2 ∷ []) (tagOf the-type r)
+    → NotedTold bytes start m notes r → IndexTold bytes start m notes r
+unfolding recordsOf
+index-stopped bytes start m notes (Records count) k t = absurd (miss (1 ∷ 2 ∷ []) 0 tt k)
+index-stopped bytes start m notes NoRoom k t = t
+index-stopped bytes start m notes (Refused error) k t = let l : messages StringTableTypes·record m ≡ refusal error = t in rw l

@@ -22,7 +22,7 @@ use fields::STRING_TABLE_TYPES_RECORD;
 use messages::Checked;
 use messages::Found;
 use messages::Indexed;
-use messages::check_from;
+use messages::check;
 use messages::index;
 use messages::next_body;
 use messages::repeated::FirstTwo;
@@ -221,7 +221,7 @@ fn note_records(bytes: &[u8], at: usize, notes: &mut [u64]) -> RecordIndex
         let Piece::Body { start, end } = piece else {
             return RecordIndex::Records { count };
         };
-        let checked = check_from(&bytes[..end], 0, start);
+        let checked = check(&bytes[start..end], start as u32);
         let Checked::Whole = checked else {
             return RecordIndex::Refused {
                 error: checked.error(),
@@ -251,17 +251,14 @@ pub fn index_records(bytes: &[u8], at: usize, notes: &mut [u64]) -> RecordIndex
         return RecordIndex::NoRoom;
     }
     let noted = note_records(&*bytes, at, notes);
-    match noted {
-        RecordIndex::Records { count } => {
-            let checked = check_varints(&bytes[at..], at as u32, STRING_TABLE_TYPES_LOCAL_NAME);
-            let Checked::Whole = checked else {
-                return RecordIndex::Refused {
-                    error: checked.error(),
-                };
-            };
-            RecordIndex::Records { count }
-        }
-        RecordIndex::NoRoom => RecordIndex::NoRoom,
-        RecordIndex::Refused { error } => RecordIndex::Refused { error },
-    }
+    let RecordIndex::Records { count } = noted else {
+        return noted;
+    };
+    let checked = check_varints(&bytes[at..], at as u32, STRING_TABLE_TYPES_LOCAL_NAME);
+    let Checked::Whole = checked else {
+        return RecordIndex::Refused {
+            error: checked.error(),
+        };
+    };
+    RecordIndex::Records { count }
 }

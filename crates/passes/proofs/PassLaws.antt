@@ -1,10 +1,12 @@
 -- The two passes over d1: decoded, opened, measured, answered.
 -- Assumes nothing.
 use mathlib.Core.Path.{_≡_, refl, ap, sym, subst, _∙_}
-use mathlib.Core.List.{List}
+use mathlib.Core.List.{List, [], _∷_}
 use mathlib.Core.Option.{some}
 use Prim.Native.Nat.{ℕ, _≤_}
 use native.Mathlib.Omega.{arith}
+use types.Run.{OneOf, miss}
+use denote.Enum.Declared.{tagOf}
 use lib.ListN.{length, take}
 use Rattle.foundation.specs.Results as Results
 use Rattle.foundation.specs.Results.{Res, ok, refused, Cause}
@@ -29,6 +31,7 @@ use Rattle.declarations.specs.declared.body.Body.{Body}
 use Rattle.declarations.specs.declared.body.Body.the-variants as body
 use Rattle.declarations.specs.declared.payload.Opened.{Opened}
 use Rattle.declarations.specs.declared.payload.Opened.the-variants as opened
+use Rattle.declarations.proofs.payload.Opened as opened-type
 use Rattle.inputs.specs.Outcomes.{told, RefusedAs}
 use Rattle.inputs.specs.declared.outcome.Outcome.{Outcome}
 use Rattle.passes.specs.Answered.{answered}
@@ -37,6 +40,7 @@ use Rattle.passes.specs.PassTold.{FirstTold, PassedTold, FrameRoom, read
 use Rattle.passes.specs.declared.Measured.{Measured}
 use Rattle.passes.specs.declared.FirstPass.{FirstPass}
 use Rattle.passes.specs.declared.FirstPass.the-variants as first
+use Rattle.passes.proofs.FirstPass as first-type
 use Rattle.passes.specs.declared.Passed.{Passed}
 use Rattle.passes.specs.declared.Passed.the-variants as passed
 
@@ -44,6 +48,17 @@ use Rattle.passes.specs.declared.Passed.the-variants as passed
 pub pass-stops : (kind : ℕ) (x : Res (Declarations × ℕ)) (stop : Stop) (S T : List ℕ) {r : Outcome} → x ≡ schema.refusal stop → RefusedAs (schema.causeOf stop) (schema.placeOf stop) r
     → answered S T kind x ≡ told r S T
 pass-stops kind x stop S T e h = ap (answered S T kind) e ∙ h S T
+
+-- What neither gives what was asked for nor is refused had no room.
+pub opened-left : (r : Opened) → OneOf (1 ∷ 2 ∷ []) (tagOf opened-type.the-type r) → OneOf (0 ∷ 2 ∷ []) (tagOf opened-type.the-type r) → r ≡ opened.NoRoom
+opened-left (opened.Body at tables) k l = absurd (miss (1 ∷ 2 ∷ []) 0 tt k)
+opened-left (opened.Refused error) k l = absurd (miss (0 ∷ 2 ∷ []) 1 tt l)
+opened-left opened.NoRoom k l = refl
+
+pub first-left : (r : FirstPass) → OneOf (1 ∷ 2 ∷ []) (tagOf first-type.the-type r) → OneOf (0 ∷ 2 ∷ []) (tagOf first-type.the-type r) → r ≡ first.NoRoom
+first-left (first.Done measured) k l = absurd (miss (1 ∷ 2 ∷ []) 0 tt k)
+first-left (first.Refused stop) k l = absurd (miss (0 ∷ 2 ∷ []) 1 tt l)
+first-left first.NoRoom k l = refl
 
 -- What d1 is decoded to.
 module _ (kind : ℕ) (d1 d2 ends before after : List ℕ) (answer : Decoded) (k : InLimits d1 d2 ends) (t : encoding.Told (encoding.limited d1) before after answer) where
@@ -110,8 +125,8 @@ module _ (kind : ℕ) (bytes d2 ends notes : List ℕ) {at : ℕ} {tables : Tabl
       let x = subst (λ (y : Body). BodyTold kind (payload kind (strings d2 ends) bytes) start y S S′ T T′) g t in
       record { lent = o; declarations = x .0; left = x .1; reads = x .2; S₀ = S; T₀ = T; written = x .3 }
 
-  pub walked-stops : {stop : Stop} → r ≡ body.Refused stop → payload kind (strings d2 ends) bytes ≡ schema.refusal stop
-  walked-stops g = subst (λ (y : Body). BodyTold kind (payload kind (strings d2 ends) bytes) start y S S′ T T′) g t
+  pub walked-stops : {stop s : Stop} → r ≡ body.Refused stop → s ≡ stop → payload kind (strings d2 ends) bytes ≡ schema.refusal s
+  walked-stops g e = subst (λ (y : Body). BodyTold kind (payload kind (strings d2 ends) bytes) start y S S′ T T′) g t ∙ ap schema.refusal (sym e)
 
 module _ (kind : ℕ) (bytes d2 ends notes : List ℕ) (r : FirstPass) (S T : List ℕ) (t : FirstTold kind bytes d2 ends notes r S T) where
   arm-first : {y : FirstPass} → r ≡ y → FirstTold kind bytes d2 ends notes y S T

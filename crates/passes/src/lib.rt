@@ -86,6 +86,16 @@ fn walk(
     )
 }
 
+// Why a body is refused, of one that is.
+fn stop_of(body: Body) -> Stop
+    ensures { λ r. ⌜ ((s : Stop) → body ≡ Body.Refused s → r ≡ s) ⌝ }
+{
+    match body {
+        Body::Done { sections: _ } => Stop::TooManyTypes,
+        Body::Refused { stop } => stop,
+    }
+}
+
 // Refusals 7 to 10, both lengths and the types, with no area touched but the scratch.
 fn measure(
     kind: u8,
@@ -100,34 +110,36 @@ fn measure(
     ensures { λ r. ⌜ FirstTold kind (now (bytes .entry)) (now (d2 .entry)) (now (ends .entry)) (now (notes .exit)) r (now («scratch_sheet» .exit)) (now («scratch_text» .exit)) ⌝ }
 {
     let opened = open_lent(&*bytes, &*d2, &*ends, notes);
-    match opened {
-        Opened::Body { at, tables } => {
-            let body = walk(
-                kind,
-                at,
-                tables,
-                &*bytes,
-                &*d2,
-                &*ends,
-                notes,
-                scratch_sheet,
-                scratch_text,
-            );
-            match body {
-                Body::Done { sections } => FirstPass::Done {
-                    measured: Measured {
-                        at,
-                        tables,
-                        sections,
-                    },
-                },
-                Body::Refused { stop } => FirstPass::Refused { stop },
-            }
-        }
-        Opened::Refused { error } => FirstPass::Refused {
+    let Opened::Body { at, tables } = opened else {
+        let Opened::Refused { error } = opened else {
+            return FirstPass::NoRoom;
+        };
+        return FirstPass::Refused {
             stop: Stop::Wire { error },
+        };
+    };
+    let body = walk(
+        kind,
+        at,
+        tables,
+        &*bytes,
+        &*d2,
+        &*ends,
+        notes,
+        scratch_sheet,
+        scratch_text,
+    );
+    let Body::Done { sections } = body else {
+        return FirstPass::Refused {
+            stop: stop_of(body),
+        };
+    };
+    FirstPass::Done {
+        measured: Measured {
+            at,
+            tables,
+            sections,
         },
-        Opened::NoRoom => FirstPass::NoRoom,
     }
 }
 
@@ -155,25 +167,27 @@ fn read_in(
         scratch_sheet,
         scratch_text,
     );
-    match first {
-        FirstPass::Done { measured } => Passed::Answered {
-            outcome: write_in(
-                kind,
-                measured,
-                &*bytes,
-                &*d2,
-                &*ends,
-                notes,
-                scratch_sheet,
-                scratch_text,
-                sheet,
-                text,
-            ),
-        },
-        FirstPass::Refused { stop } => Passed::Answered {
+    let FirstPass::Done { measured } = first else {
+        let FirstPass::Refused { stop } = first else {
+            return Passed::NoRoom;
+        };
+        return Passed::Answered {
             outcome: stop_refusal(stop),
-        },
-        FirstPass::NoRoom => Passed::NoRoom,
+        };
+    };
+    Passed::Answered {
+        outcome: write_in(
+            kind,
+            measured,
+            &*bytes,
+            &*d2,
+            &*ends,
+            notes,
+            scratch_sheet,
+            scratch_text,
+            sheet,
+            text,
+        ),
     }
 }
 

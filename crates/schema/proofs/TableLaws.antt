@@ -25,7 +25,7 @@ use Rattle.wire.specs.declared.Piece.{Piece}
 use Rattle.wire.specs.declared.Piece.the-variants as piece
 use Rattle.messages.specs.declared.Embedded.{Embedded}
 use Rattle.messages.specs.declared.Embedded.the-variants as embedded
-use Rattle.messages.proofs.BodyLaws.{checked-part, part-is}
+use Rattle.messages.proofs.BodyLaws.{checked-at, part-is}
 use Rattle.characters.specs.Characters.{partFrom}
 use Rattle.characters.proofs.PartLaws.{part-part}
 use Rattle.names.specs.Index.{packed, startOf, endOf}
@@ -119,13 +119,13 @@ module _ (bytes : List ℕ) (start : ℕ) (notes : List ℕ) (count at : ℕ) (i
     pub body-in : (a ≤ b) × (b ≤ length bytes) × (at < b)
     body-in = (next .inside .0, next .inside .1, next .later)
 
-    pub noting-refused : (c : Checked) → CheckedTold (cut (restOf 0 (take b bytes) a)) c → {error err : WireError} → c ≡ checked.Refused error
+    pub noting-refused : (c : Checked) → CheckedTold (cut (_from_ a (partFrom a b bytes))) c → {error err : WireError} → c ≡ checked.Refused error
         → err ≡ error → (m : Message) → cut (restOf 0 bytes start) ≡ ok m → EntriesTold bytes m notes (entries.Refused err)
     noting-refused c k {error} {err} q p m w =
         let n = i m w in
         let v = next .is (n .rest) (n .cuts) in
         let f : cut (bodyOf 0 bytes a b) ≡ refusal error =
-        subst (CheckedTold (cut (bodyOf 0 bytes a b))) q (checked-part 0 bytes a b c (body-in .0) k) in
+        subst (CheckedTold (cut (bodyOf 0 bytes a b))) q (checked-at bytes a b c k) in
         n .whole
         ∙ ap (λ (ps : List Part). after (n .before) (cutAll ps)) (v .2)
         ∙ after-refused (n .before) (bodyOf 0 bytes a b) (bodies TypeTable·type (v .0)) error f
@@ -142,9 +142,9 @@ module _ (bytes : List ℕ) (start : ℕ) (notes : List ℕ) (count at : ℕ) (i
     pub no-place : length notes ≤ count → (m : Message) → cut (restOf 0 bytes start) ≡ ok m → EntriesTold bytes m notes entries.NoRoom
     no-place h m w room = omega (arith, one-more m w, room .long)
 
-    module _ (c : Checked) (k : CheckedTold (cut (restOf 0 (take b bytes) a)) c) (q : c ≡ checked.Whole) where
+    module _ (c : Checked) (k : CheckedTold (cut (_from_ a (partFrom a b bytes))) c) (q : c ≡ checked.Whole) where
       inner : (x : Message) × (cut (bodyOf 0 bytes a b) ≡ ok x)
-      inner = subst (CheckedTold (cut (bodyOf 0 bytes a b))) q (checked-part 0 bytes a b c (body-in .0) k)
+      inner = subst (CheckedTold (cut (bodyOf 0 bytes a b))) q (checked-at bytes a b c k)
 
       pub noting-next : count < length notes → a < 2 ^ 32 → {notes′ : List ℕ} → notes′ ≡ set notes count (packed a b)
           → Noting bytes start notes′ (count + 1) b

@@ -16,7 +16,7 @@ use fields::TYPE_TABLE_TYPE;
 use messages::Checked;
 use messages::Embedded;
 use messages::Indexed;
-use messages::check_from;
+use messages::check;
 use messages::index;
 use messages::message;
 use messages::next_body;
@@ -58,7 +58,7 @@ fn note_entries(bytes: &[u8], at: usize, notes: &mut [u64]) -> Entries
         let Piece::Body { start, end } = piece else {
             return Entries::Noted { count };
         };
-        let checked = check_from(&bytes[..end], 0, start);
+        let checked = check(&bytes[start..end], start as u32);
         let Checked::Whole = checked else {
             return Entries::Refused {
                 error: checked.error(),
