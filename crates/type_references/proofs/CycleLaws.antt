@@ -27,15 +27,24 @@ use Rattle.type_references.specs.ParseTold.{EnteredIs, EnterTold, Argume
 use Rattle.type_references.proofs.PendingLaws.{walked-then}
 use Rattle.type_references.proofs.WalkLaws.{loop-start, loop-end}
 
--- What falls: the depth left, of which each look-up takes one.
-pub falls-arguments : (left : ℕ) {less t : ℕ} → 3 * left + 2 ≡ t → less ≡ left - 1 → 3 * less + 1 < t
-falls-arguments left e h = omega arith
+-- What falls: one number of the depth left and of the bytes left. A look-up starts with no bytes and takes one of the depth for those of an
+-- entry, which are fewer than the number that a depth counts for.
+abbrev pub remaining : ℕ → ℕ → ℕ
+remaining left bytes = 65536 * left + bytes
 
-pub falls-look-up : (left : ℕ) {deep t : ℕ} → 3 * left + 1 ≡ t → deep ≤ left → 3 * deep < t
-falls-look-up left e h = omega arith
+pub falls-arguments : (left bytes : ℕ) {less t : ℕ} → 3 * remaining left bytes + 2 ≡ t → less ≡ left - 1 → 3 * remaining less bytes + 1 < t
+falls-arguments left bytes e h = omega arith
 
-pub falls-entry : (left : ℕ) {t : ℕ} → 3 * left ≡ t → (left ≡ 0 → ⊥) → 3 * (left - 1) + 2 < t
-falls-entry left e h = omega arith
+pub falls-look-up : (left bytes : ℕ) {deep t : ℕ} → 3 * remaining left bytes + 1 ≡ t → deep ≤ left → 3 * remaining deep 0 < t
+falls-look-up left bytes e h = omega arith
+
+falls-inside : (left bytes : ℕ) {t : ℕ} → 3 * remaining left 0 ≡ t → (left ≡ 0 → ⊥) → bytes ≤ 32768 → 3 * remaining (left - 1) bytes + 2 < t
+falls-inside left bytes e h k = omega arith
+
+pub falls-entry : (left : ℕ) {t : ℕ} → 3 * remaining left 0 ≡ t → (left ≡ 0 → ⊥) → (payload : List ℕ) → length payload ≤ 32768
+    → (a b : ℕ) → a ≤ b → b ≤ length payload → 3 * remaining (left - 1) (length (take (b - a) (drop a payload))) + 2 < t
+falls-entry left e h payload k a b p q =
+    falls-inside left (length (take (b - a) (drop a payload))) e h (omega (arith, entry-inside payload a b p q))
 
 -- What is asked for where an entry of the type table is read.
 pub entry-room : {payload d2 nest : List ℕ} {tables : Tables} {left : ℕ} {s : State} → Ready payload d2 s → left ≤ 64

@@ -128,14 +128,16 @@ module _ (e : Lent) (msg : List ℕ) (base left role : ℕ) (nullable : Bool) (s
     some-left : 1 ≤ s .types
     some-left = omega arith
 
-    pub enter-uncut : {error : WireError} → x ≡ counted.Refused error → {S S′ T T′ : List ℕ}
-        → EnterTold e msg base left role nullable s (walked.Refused (stop.Wire error)) S S′ T T′
-    enter-uncut {error} g = record {
+    pub enter-uncut : {error err : WireError} → x ≡ counted.Refused error → err ≡ error → {S S′ T T′ : List ℕ}
+        → EnterTold e msg base left role nullable s (walked.Refused (stop.Wire err)) S S′ T T′
+    enter-uncut {error} {err} g q = record {
       spends = tt;
       one = tt;
       is = λ c o m k d l.
           let cuts : messages Type·argument m ≡ refusal (stop.Wire error) = subst (ArgumentsCut (messages Type·argument m)) g (t .cuts m k) in
-          type-uncut c d m (s .types) some-left (ready .room .types) error cuts;
+          let same : messages Type·argument m ≡ refusal (stop.Wire err) =
+          subst (λ (y : WireError). messages Type·argument m ≡ refusal (stop.Wire y)) (sym q) cuts in
+          type-uncut c d m (s .types) some-left (ready .room .types) err same;
     }
 
     module _ {count : ℕ} (g : x ≡ counted.Count count) {own : TypeHead} (f : HeadTold base msg own) {either : Bool} (q : either ≡ (nullable || own .nullable)) (name : Name)

@@ -80,6 +80,17 @@ enum Counted {
     Refused { error: WireError },
 }
 
+impl Counted {
+    fn error(self) -> WireError
+        ensures { λ r. ⌜ ((e : WireError) → self ≡ Counted.Refused e → r ≡ e) ⌝ }
+    {
+        match self {
+            Counted::Count { count: _ } => WireError::VarintCutShort { place: 0 },
+            Counted::Refused { error } => error,
+        }
+    }
+}
+
 // The arguments of a type are cut and counted, if it has any. `left` is left at them.
 fn count_arguments(
     msg: &[u8],
@@ -140,26 +151,26 @@ pub(crate) fn enter_type(
         &*notes,
         tables,
     );
-    match arguments {
-        Counted::Refused { error } => Walked::Refused {
-            stop: Stop::Wire { error },
-        },
-        Counted::Count { count } => {
-            let nulls = either(place.nullable, own.nullable);
-            let found = own.name;
-            let name = class_name_at(found, &*payload, &*d2, &*ends, &*notes, tables.records);
-            let after = put_type(
-                place.role,
-                nulls,
-                &*payload,
-                &*d2,
-                name,
-                count,
-                state,
-                sheet,
-                text,
-            );
-            Walked::Done { state: after }
-        }
-    }
+    let Counted::Count { count } = arguments else {
+        return Walked::Refused {
+            stop: Stop::Wire {
+                error: arguments.error(),
+            },
+        };
+    };
+    let nulls = either(place.nullable, own.nullable);
+    let found = own.name;
+    let name = class_name_at(found, &*payload, &*d2, &*ends, &*notes, tables.records);
+    let after = put_type(
+        place.role,
+        nulls,
+        &*payload,
+        &*d2,
+        name,
+        count,
+        state,
+        sheet,
+        text,
+    );
+    Walked::Done { state: after }
 }

@@ -1,6 +1,6 @@
-// Types and their arguments. `parse_at`, `arguments_at` and `resolve_at` are one cycle: what falls along it is the depth left, since a look-up
-// takes one of it. Types inside types are a loop, since an input can nest 2,048 of them: what falls there is the bytes left. What is told:
-// specs/ParseTold.antt and schema's specs/TypesTold.antt.
+// Types and their arguments. `parse_at`, `arguments_at` and `resolve_at` are one cycle: what falls along it is one number of the depth left, of
+// which a look-up takes one, and the bytes of the message (`remaining`). Types inside types are a loop, since an input can nest 2,048 of them:
+// what falls there is the bytes left. What is told: specs/ParseTold.antt and schema's specs/TypesTold.antt.
 ghost use Prim.Native.Nat.{_≤_};
 ghost use lib.ListN.{length};
 ghost use Rattle.schema.specs.Told.{lent, Ready};
