@@ -57,6 +57,18 @@ pub enum Body {
     Refused { stop: Stop },
 }
 
+impl Body {
+    // The refusal of a refused answer.
+    pub fn stop(self) -> Stop
+        ensures { λ r. ⌜ ((s : Stop) → self ≡ Body.Refused s → r ≡ s) ⌝ }
+    {
+        match self {
+            Body::Done { sections: _ } => Stop::TooManyTypes,
+            Body::Refused { stop } => stop,
+        }
+    }
+}
+
 fn function_field(class: bool) -> u32
     ensures { λ r. ⌜ r ≡ functionField class ⌝ }
 {

@@ -145,7 +145,7 @@ fn field_in(
 }
 
 impl Signed {
-    // The names, of one that is not refused.
+    // The names in an answer that has them.
     pub(crate) fn names(self) -> SignatureNames
         ensures { λ r. ⌜ ((n : SignatureNames) → self ≡ Signed.Names n → r ≡ n) ⌝ }
     {
@@ -155,7 +155,7 @@ impl Signed {
         }
     }
 
-    // Why it is refused, of one that is.
+    // The refusal of a refused answer.
     pub(crate) fn error(self) -> WireError
         ensures { λ r. ⌜ ((e : WireError) → self ≡ Signed.Refused e → r ≡ e) ⌝ }
     {
@@ -179,7 +179,7 @@ pub(crate) enum PropertySigned {
 }
 
 impl PropertySigned {
-    // Why it is refused, of one that is.
+    // The refusal of a refused answer.
     pub(crate) fn error(self) -> WireError
         ensures { λ r. ⌜ ((e : WireError) → self ≡ PropertySigned.Refused e → r ≡ e) ⌝ }
     {

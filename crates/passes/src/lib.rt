@@ -86,16 +86,6 @@ fn walk(
     )
 }
 
-// Why a body is refused, of one that is.
-fn stop_of(body: Body) -> Stop
-    ensures { λ r. ⌜ ((s : Stop) → body ≡ Body.Refused s → r ≡ s) ⌝ }
-{
-    match body {
-        Body::Done { sections: _ } => Stop::TooManyTypes,
-        Body::Refused { stop } => stop,
-    }
-}
-
 // Refusals 7 to 10, both lengths and the types, with no area touched but the scratch.
 fn measure(
     kind: u8,
@@ -130,9 +120,7 @@ fn measure(
         scratch_text,
     );
     let Body::Done { sections } = body else {
-        return FirstPass::Refused {
-            stop: stop_of(body),
-        };
+        return FirstPass::Refused { stop: body.stop() };
     };
     FirstPass::Done {
         measured: Measured {

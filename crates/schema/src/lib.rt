@@ -46,7 +46,7 @@ pub enum Walked {
 }
 
 impl Walked {
-    // Why it stops, of one that is refused.
+    // The refusal of a refused answer.
     pub fn stop(self) -> Stop
         ensures { λ r. ⌜ ((s : Stop) → self ≡ Walked.Refused s → r ≡ s) ⌝ }
     {
@@ -57,7 +57,7 @@ impl Walked {
     }
 }
 
-// The same of what may not be there.
+// The answer of a reader of something that may be skipped: written, skipped or refused.
 pub enum Picked {
     Kept { state: State },
     Dropped,
@@ -71,7 +71,7 @@ pub enum Listed {
 }
 
 impl Listed {
-    // Why it stops, of one that is refused.
+    // The refusal of a refused answer.
     pub fn stop(self) -> Stop
         ensures { λ r. ⌜ ((s : Stop) → self ≡ Listed.Refused s → r ≡ s) ⌝ }
     {

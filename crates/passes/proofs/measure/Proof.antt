@@ -5,7 +5,7 @@ use Rattle.passes.proofs.measure.Tie as tie
 use Rattle.passes.proofs.measure.Reads as reads
 use Rattle.passes.proofs.measure.Lts as lts
 use Rattle.declarations.proofs.payload.open_lent.Reads as open-lent-reads
-use Rattle.passes.proofs.stop_of.Reads as stop-of-reads
+use Rattle.declarations.proofs.body.Body.stop.Reads as stop-reads
 use Rattle.passes.proofs.walk.Reads as walk-reads
 
 -- src/lib.rt:112:9
@@ -49,8 +49,8 @@ enum-told : tie.Need-enum-told
 enum-told c = search needs
 
 -- src/lib.rt:133:43
-stop-of-requires : tie.Need-stop-of-requires
-stop-of-requires c κs = search needs
+stop-requires : tie.Need-stop-requires
+stop-requires c κs = search needs
 
 -- src/lib.rt:133:9
 same-length-3 : tie.Need-same-length-3
@@ -66,7 +66,7 @@ same-length-5 c = search needs
 
 -- src/lib.rt:133:9
 returns-3 : tie.Need-returns-3
-returns-3 c = walked-stops (c .before .before .before .before .before .before .before .before .before .before .before .before .before .before .before .before .before .before .before .before .before .before .before .before .args .kind) (c .before .before .before .before .before .before .before .before .before .before .before .before .before .before .before .before .before .before .before .before .before .before .before .before .args .bytes .now) (c .before .before .before .before .before .before .before .before .before .before .before .before .before .before .before .before .before .before .before .before .before .before .before .before .args .d2 .now) (c .before .before .before .before .before .before .before .before .before .before .before .before .before .before .before .before .before .before .before .before .before .before .before .before .args .ends .now) (c .before .before .before .before .before .before .before .before .before .before .before .before .before .before .before .before .open-lent .last .1 .1 .1 .0) (opened-is (c .before .before .before .before .before .before .before .before .before .before .before .before .before .before .before .before .before .before .before .before .before .before .before .before .args .bytes .now) (c .before .before .before .before .before .before .before .before .before .before .before .before .before .before .before .before .before .before .before .before .before .before .before .before .args .d2 .now) (c .before .before .before .before .before .before .before .before .before .before .before .before .before .before .before .before .before .before .before .before .before .before .before .before .args .ends .now) (c .before .before .before .before .before .before .before .before .before .before .before .before .before .before .before .before .open-lent .last .1 .1 .1 .0) (c .before .before .before .before .before .before .before .before .before .before .before .before .before .before .before .before .open-lent .result) (c .before .before .before .before .before .before .before .before .before .before .before .before .before .before .before .before .open-lent .ensures) (c .before .before .before .before .before .before .before .before .before .before .before .before .opened .given .1)) (c .before .before .before .before .before .before .before .walk .result) (c .before .before .before .before .before .before .before .before .before .before .before .before .before .before .before .before .before .before .before .before .before .before .before .before .args .scratch-sheet .now) (c .before .before .before .before .before .before .before .walk .last .1 .1 .1 .1 .1 .1 .1 .0) (c .before .before .before .before .before .before .before .before .before .before .before .before .before .before .before .before .before .before .before .before .before .before .before .before .args .scratch-text .now) (c .before .before .before .before .before .before .before .walk .last .1 .1 .1 .1 .1 .1 .1 .1 .0) (c .before .before .before .before .before .before .before .walk .ensures) (c .before .enum-told .given .1) (c .stop-of .ensures _ (c .before .enum-told .given .1))
+returns-3 c = walked-stops (c .before .before .before .before .before .before .before .before .before .before .before .before .before .before .before .before .before .before .before .before .before .before .before .before .args .kind) (c .before .before .before .before .before .before .before .before .before .before .before .before .before .before .before .before .before .before .before .before .before .before .before .before .args .bytes .now) (c .before .before .before .before .before .before .before .before .before .before .before .before .before .before .before .before .before .before .before .before .before .before .before .before .args .d2 .now) (c .before .before .before .before .before .before .before .before .before .before .before .before .before .before .before .before .before .before .before .before .before .before .before .before .args .ends .now) (c .before .before .before .before .before .before .before .before .before .before .before .before .before .before .before .before .open-lent .last .1 .1 .1 .0) (opened-is (c .before .before .before .before .before .before .before .before .before .before .before .before .before .before .before .before .before .before .before .before .before .before .before .before .args .bytes .now) (c .before .before .before .before .before .before .before .before .before .before .before .before .before .before .before .before .before .before .before .before .before .before .before .before .args .d2 .now) (c .before .before .before .before .before .before .before .before .before .before .before .before .before .before .before .before .before .before .before .before .before .before .before .before .args .ends .now) (c .before .before .before .before .before .before .before .before .before .before .before .before .before .before .before .before .open-lent .last .1 .1 .1 .0) (c .before .before .before .before .before .before .before .before .before .before .before .before .before .before .before .before .open-lent .result) (c .before .before .before .before .before .before .before .before .before .before .before .before .before .before .before .before .open-lent .ensures) (c .before .before .before .before .before .before .before .before .before .before .before .before .opened .given .1)) (c .before .before .before .before .before .before .before .walk .result) (c .before .before .before .before .before .before .before .before .before .before .before .before .before .before .before .before .before .before .before .before .before .before .before .before .args .scratch-sheet .now) (c .before .before .before .before .before .before .before .walk .last .1 .1 .1 .1 .1 .1 .1 .0) (c .before .before .before .before .before .before .before .before .before .before .before .before .before .before .before .before .before .before .before .before .before .before .before .before .args .scratch-text .now) (c .before .before .before .before .before .before .before .walk .last .1 .1 .1 .1 .1 .1 .1 .1 .0) (c .before .before .before .before .before .before .before .walk .ensures) (c .before .enum-told .given .1) (c .stop .ensures _ (c .before .enum-told .given .1))
 
 -- src/lib.rt:100:1
 same-length-6 : tie.Need-same-length-6
@@ -98,7 +98,7 @@ measure-spec =
     walk-requires
     enum-known-body
     enum-told
-    stop-of-requires
+    stop-requires
     same-length-3
     same-length-4
     same-length-5
