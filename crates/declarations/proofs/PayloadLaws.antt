@@ -18,11 +18,10 @@ use Rattle.foundation.specs.Results.{Res, ok, refused, Part, _from_, got}
 use Rattle.foundation.specs.Texts.{Text}
 use Rattle.fields.specs.Fields.{StringTableTypes·record, TypeTable·type, Class·type-table}
 use Rattle.wire.specs.Wire.{Message, cut, readDelimited}
-use Rattle.wire.specs.Told.{refusal, restOf}
-use Rattle.wire.specs.Told as wire
-use Rattle.messages.specs.Asked.{CheckedTold, bodies}
+use Rattle.wire.specs.told.WireTold.{wireRefused, restOf, partBetween}
+use Rattle.messages.specs.told.Asked.{CheckedTold, bodies}
 use Rattle.wire.specs.declared.WireError.{WireError}
-use Rattle.messages.specs.Reader as reader
+use Rattle.messages.specs.told.Reader as reader
 use Rattle.messages.specs.declared.reader.Split as parted
 use Rattle.messages.specs.declared.reader.Split.the-variants as parts
 use Rattle.messages.specs.declared.Checked.{Checked}
@@ -30,12 +29,12 @@ use Rattle.messages.specs.declared.Checked.the-variants as checked
 use Rattle.messages.proofs.BodyLaws.{part-is, checked-at}
 use Rattle.names.specs.Records.{Record}
 use Rattle.names.specs.Names.{Names, endsFit}
-use Rattle.names.specs.Index.{IndexOf, IndexTold}
+use Rattle.names.specs.told.Index.{IndexOf, IndexTold}
 use Rattle.names.specs.declared.records.RecordIndex.{RecordIndex}
 use Rattle.names.specs.declared.records.RecordIndex.the-variants as records
 use Rattle.names.proofs.records.RecordIndex as record-index
-use Rattle.lookup.specs.Lookups.{NotesOf}
-use Rattle.lookup.specs.Strings.{codesFrom, sizesFrom, Keeps, SizesOf}
+use Rattle.lookup.specs.told.Lookups.{NotesOf}
+use Rattle.lookup.specs.told.Strings.{codesFrom, sizesFrom, Keeps, SizesOf}
 use Rattle.lookup.proofs.LookupLaws.{index-longer}
 use Rattle.lookup.proofs.ResolveLaws.{notes-kept}
 use Rattle.lookup.proofs.StringLaws.{codes-inside, codes-before, keeps-less}
@@ -43,13 +42,13 @@ use Rattle.foundation.proofs.PresenceLaws.{elem-below}
 use Rattle.schema.specs.Reading.{TypeTable, scope, allowance}
 use Rattle.schema.specs.Types.{typeTableIn}
 use Rattle.schema.specs.Members.{afterTable, bodyIn}
-use Rattle.schema.specs.TableTold.{TypeIndexTold}
+use Rattle.schema.specs.told.TableTold.{TypeIndexTold}
 use Rattle.schema.specs.declared.table.TypeIndex.{TypeIndex}
 use Rattle.schema.specs.declared.table.TypeIndex.the-variants as types
 use Rattle.schema.proofs.table.TypeIndex as type-index
 use Rattle.declarations.specs.Payload.{bodyOf, payload}
-use Rattle.declarations.specs.PayloadTold.{bodyFrom, BodyAt, BodyOpened, NotedOpened, OpenedAt, OpenedTold, LentTold}
-use Rattle.schema.specs.Told.{EntriesOf}
+use Rattle.declarations.specs.told.PayloadTold.{bodyFrom, BodyAt, BodyOpened, NotedOpened, OpenedAt, OpenedTold, LentTold}
+use Rattle.schema.specs.told.SchemaTold.{EntriesOf}
 use Rattle.schema.specs.declared.Tables.{Tables}
 use Rattle.declarations.specs.declared.payload.Opened.{Opened}
 use Rattle.declarations.specs.declared.payload.Opened.the-variants as opened
@@ -64,7 +63,7 @@ module _ (names : Names) (m : Message) (l : ℕ) where
   table-then true e = rw e
   table-then false e = rw e
 
-  table-refuses : (class : Bool) (error : WireError) → typeTableIn Class·type-table m l ≡ refusal error → bodyIn class names m l ≡ refusal error
+  table-refuses : (class : Bool) (error : WireError) → typeTableIn Class·type-table m l ≡ wireRefused error → bodyIn class names m l ≡ wireRefused error
   unfolding bodyIn
   table-refuses true error e = rw e
   table-refuses false error e = rw e
@@ -91,7 +90,7 @@ module _ (bytes : List ℕ) (at count : ℕ) (entries : List ℕ) (x : Checked) 
 
   pub body-refused : {error err : WireError} → x ≡ checked.Refused error → err ≡ error → BodyOpened bytes at count entries (opened.Refused err)
   body-refused {error} {err} g e kind names =
-      let refuses : cut (_from_ at (drop at bytes)) ≡ refusal err = ap cut (sym here) ∙ subst (CheckedTold (cut (_from_ at (take (length bytes - at) (drop at bytes))))) g t ∙ ap refusal (sym e) in
+      let refuses : cut (_from_ at (drop at bytes)) ≡ wireRefused err = ap cut (sym here) ∙ subst (CheckedTold (cut (_from_ at (take (length bytes - at) (drop at bytes))))) g t ∙ ap wireRefused (sym e) in
       rw refuses
 
   module _ (g : x ≡ checked.Whole) (r : TypeIndex)
@@ -153,13 +152,13 @@ module _ (bytes : List ℕ) (start end rest : ℕ) (o : start ≤ end) (i : end 
 
   -- the name table and the rest
   abbrev Delimited : Type 0
-  Delimited = readDelimited (_from_ 0 bytes) ≡ got (wire.bodyOf 0 bytes start end) (restOf 0 bytes rest)
+  Delimited = readDelimited (_from_ 0 bytes) ≡ got (partBetween 0 bytes start end) (restOf 0 bytes rest)
 
   pub table-refused : Delimited → {error err : WireError} → x ≡ checked.Refused error → err ≡ error → (notes : List ℕ) → OpenedTold bytes notes (opened.Refused err)
   unfolding payload
   table-refused d {error} {err} g e notes kind d2 =
-      let refuses : cut (wire.bodyOf 0 bytes start end) ≡ refusal err =
-      ap cut (sym (part-is 0 bytes start end o)) ∙ subst (CheckedTold (cut (restOf 0 (take end bytes) start))) g t ∙ ap refusal (sym e) in
+      let refuses : cut (partBetween 0 bytes start end) ≡ wireRefused err =
+      ap cut (sym (part-is 0 bytes start end o)) ∙ subst (CheckedTold (cut (restOf 0 (take end bytes) start))) g t ∙ ap wireRefused (sym e) in
       rw (d, refuses)
 
   module _ (g : x ≡ checked.Whole) (before : List ℕ) (r : RecordIndex)
@@ -167,7 +166,7 @@ module _ (bytes : List ℕ) (start end rest : ℕ) (o : start ≤ end) (i : end 
     table : (m : Message) × (cut (restOf 0 (take end bytes) start) ≡ ok m)
     table = subst (CheckedTold (cut (restOf 0 (take end bytes) start))) g t
 
-    cuts : cut (wire.bodyOf 0 bytes start end) ≡ ok (table .0)
+    cuts : cut (partBetween 0 bytes start end) ≡ ok (table .0)
     cuts = ap cut (sym (part-is 0 bytes start end o)) ∙ table .1
 
     indexed : {y : RecordIndex} → r ≡ y → IndexTold (take end bytes) start (table .0) before y
@@ -230,11 +229,11 @@ pub payload-refused : (bytes notes : List ℕ) (x : parted.Split) → reader.Spl
     → {error err : WireError} → x ≡ parts.Refused error → err ≡ error → OpenedTold bytes notes (opened.Refused err)
 unfolding payload
 payload-refused bytes notes x t {error} {err} g e kind d2 =
-    let refuses : readDelimited (_from_ 0 bytes) ≡ refusal err = subst (reader.SplitTold bytes (readDelimited (_from_ 0 bytes))) g t ∙ ap refusal (sym e) in
+    let refuses : readDelimited (_from_ 0 bytes) ≡ wireRefused err = subst (reader.SplitTold bytes (readDelimited (_from_ 0 bytes))) g t ∙ ap wireRefused (sym e) in
     rw refuses
 
 pub payload-parts : (bytes : List ℕ) (x : parted.Split) → reader.SplitTold bytes (readDelimited (_from_ 0 bytes)) x → {a b c : ℕ} → x ≡ parts.Parts a b c
-    → (readDelimited (_from_ 0 bytes) ≡ got (wire.bodyOf 0 bytes a b) (restOf 0 bytes c)) × (a ≤ b) × (b ≤ c) × (c ≤ length bytes)
+    → (readDelimited (_from_ 0 bytes) ≡ got (partBetween 0 bytes a b) (restOf 0 bytes c)) × (a ≤ b) × (b ≤ c) × (c ≤ length bytes)
 payload-parts bytes x t g =
     let w = subst (reader.SplitTold bytes (readDelimited (_from_ 0 bytes))) g t in
     (w .0, w .2, w .3, w .4)

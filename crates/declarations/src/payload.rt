@@ -1,12 +1,12 @@
 // The decoded bytes opened: a length-delimited name table, its records noted, then the body and its type table. The definition:
-// specs/Payload.antt, `payload`; what the answers tell: specs/PayloadTold.antt.
+// specs/Payload.antt, `payload`; what the answers tell: specs/told/PayloadTold.antt.
 ghost use mathlib.Core.Path.{_≡_};
 ghost use Prim.Native.Nat.{_*_, _≤_, _<_};
 ghost use lib.ListN.{length};
 ghost use Rattle.foundation.specs.Results.{_from_, got};
 ghost use Rattle.wire.specs.Wire.{readDelimited};
-ghost use Rattle.wire.specs.Told.{bodyOf, restOf};
-ghost use Rattle.declarations.specs.PayloadTold.{BodyOpened, NotedOpened, OpenedTold, LentTold};
+ghost use Rattle.wire.specs.told.WireTold.{partBetween, restOf};
+ghost use Rattle.declarations.specs.told.PayloadTold.{BodyOpened, NotedOpened, OpenedTold, LentTold};
 use fields::CLASS_TYPE_TABLE;
 use lookup::codes::codes_from;
 use lookup::codes::note_codes;
@@ -71,7 +71,7 @@ fn open_noted(bytes: &[u8], rest: usize, count: usize, notes: &mut [u64]) -> Ope
 // The name table from a place to another is cut and its records noted; then the body from `rest` on.
 fn open_table(bytes: &[u8], start: usize, end: usize, rest: usize, notes: &mut [u64]) -> Opened
     requires { ⌜ (start ≤ end) × (end ≤ rest) × (rest ≤ length (now bytes)) × (length (now bytes) < 65536) ⌝ }
-    ensures { λ r. ⌜ (readDelimited (_from_ 0 (now (bytes .entry))) ≡ got (bodyOf 0 (now (bytes .entry)) start end) (restOf 0 (now (bytes .entry)) rest) → OpenedTold (now (bytes .entry)) (now (notes .exit)) r) ⌝ }
+    ensures { λ r. ⌜ (readDelimited (_from_ 0 (now (bytes .entry))) ≡ got (partBetween 0 (now (bytes .entry)) start end) (restOf 0 (now (bytes .entry)) rest) → OpenedTold (now (bytes .entry)) (now (notes .exit)) r) ⌝ }
 {
     let checked = check(&bytes[start..end], start as u32);
     let Checked::Whole = checked else {

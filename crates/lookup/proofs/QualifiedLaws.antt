@@ -14,17 +14,18 @@ use lib.Seq.{take-suc, getD-drop}
 use Rattle.foundation.specs.Choices.{if_then_else_}
 use Rattle.foundation.specs.Results.{Res, ok, _>>=_}
 use Rattle.foundation.specs.Texts.{Text}
-use Rattle.characters.specs.Characters.{utf8, fromUtf16, isHigh, isLow, lone, pair, partFrom}
+use Rattle.characters.specs.Characters.{utf8, fromUtf16, isHigh, isLow, lone, pair}
+use Rattle.characters.specs.told.Places.{partFrom}
 use Rattle.characters.proofs.SeamLaws.{units-seam}
 use Rattle.characters.proofs.UnitLaws.{units-ended, units-cons}
 use Rattle.names.specs.Records.{dotted, operated}
 use Rattle.names.specs.Names.{Names, string, qualifiedName, unwrapped, stringsFrom, d2String}
-use Rattle.names.specs.Name.{sourceText, sized, nameText, absentName}
-use Rattle.record_names.specs.Steps.{extentOf}
-use Rattle.lookup.specs.Qualified.{ClippedTold, WrappedTold, unitsName}
-use Rattle.record_names.specs.ClassNames.{classText}
-use Rattle.record_names.specs.Note.{classSize}
-use Rattle.lookup.specs.Strings.{SizeOf}
+use Rattle.names.specs.told.Name.{sourceText, sized, nameText, absentName}
+use Rattle.record_names.specs.told.Steps.{extentOf}
+use Rattle.lookup.specs.told.Qualified.{ClippedTold, WrappedTold, unitsName}
+use Rattle.record_names.specs.told.ClassNames.{classText}
+use Rattle.record_names.specs.told.Note.{classSize}
+use Rattle.lookup.specs.told.Strings.{SizeOf}
 use Rattle.names.specs.declared.name.Name.{Name}
 use Rattle.record_names.specs.declared.Extent.{Extent}
 use Rattle.record_names.specs.declared.Extent.the-variants as extent

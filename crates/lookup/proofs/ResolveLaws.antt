@@ -12,10 +12,10 @@ use lib.ListN.{length, take, getD, set, length-set}
 use lib.Seq.{getD-take, getD-set-same, getD-set-other}
 use Rattle.foundation.proofs.PresenceLaws.{elem-below}
 use Rattle.names.specs.Records.{Record}
-use Rattle.names.specs.Index.{startOf, endOf, RecordAt, firstOf, IndexOf}
-use Rattle.lookup.specs.Lookups.{PlaceTold, NotesOf}
-use Rattle.record_names.specs.Named.{NoteTold, RecordWords}
-use Rattle.lookup.specs.Resolved.{OneTold}
+use Rattle.names.specs.told.Index.{startOf, endOf, RecordAt, servedFrom, IndexOf}
+use Rattle.lookup.specs.told.Lookups.{PlaceTold, NotesOf}
+use Rattle.record_names.specs.told.Named.{NoteTold, RecordWords}
+use Rattle.lookup.specs.told.Resolved.{OneTold}
 use Rattle.record_names.specs.declared.note.Words.{Words}
 use Rattle.record_names.specs.declared.Extent.the-variants as extent
 
@@ -56,7 +56,7 @@ still-lower k i n h = go (ltb k i) refl
 
 -- All records before i.
 pub record Resolving (bytes before notes : List ℕ) (i : ℕ) : Type 0 where
-  pub sums : (k : ℕ) → firstOf notes k ≡ firstOf before k
+  pub sums : (k : ℕ) → servedFrom notes k ≡ servedFrom before k
   pub later : (k : ℕ) → i ≤ k → getD notes (3 * k) 0 ≡ getD before (3 * k) 0
   pub told : (k : ℕ) → k < i → 3 * k + 2 < length before → (r : Record)
       → RecordAt bytes (startOf (getD before (3 * k) 0)) (endOf (getD before (3 * k) 0)) r
@@ -66,14 +66,14 @@ pub resolving-start : (bytes notes : List ℕ) → Resolving bytes notes notes 0
 resolving-start bytes notes = record { sums = λ k. refl; later = λ k h. refl; told = λ k h. absurd (omega arith) }
 
 pub resolving-next : (bytes before notes after : List ℕ) (i : ℕ) → length notes ≡ length before → Resolving bytes before notes i → OneTold bytes notes after i → Resolving bytes before after (i + 1)
-unfolding firstOf
+unfolding servedFrom
 resolving-next bytes before notes after i z s o = record {
   sums = first;
   later = λ k h. o .others (3 * k) (λ e. omega arith) (λ e. omega arith) ∙ s .later k (omega arith);
   told = λ k h l r a. step k (eqb k i) refl h l r a;
 }
   where
-    first : (k : ℕ) → firstOf after k ≡ firstOf before k
+    first : (k : ℕ) → servedFrom after k ≡ servedFrom before k
     first zero = refl
     first (suc k) = o .others (3 * k + 2) (λ e. omega arith) (λ e. omega arith) ∙ s .sums (suc k)
 
@@ -103,8 +103,8 @@ module _ (a b : List ℕ) (n : ℕ) (e : take n a ≡ take n b) where
   same-at : (k : ℕ) → k < n → getD b k 0 ≡ getD a k 0
   same-at k h = sym (getD-take n b k 0 h) ∙ ap (λ (l : List ℕ). getD l k 0) (sym e) ∙ getD-take n a k 0 h
 
-  first-kept : (count : ℕ) → 3 * count ≤ n → (k : ℕ) → k ≤ count → firstOf b k ≡ firstOf a k
-  unfolding firstOf
+  first-kept : (count : ℕ) → 3 * count ≤ n → (k : ℕ) → k ≤ count → servedFrom b k ≡ servedFrom a k
+  unfolding servedFrom
   first-kept count h zero l = refl
   first-kept count h (suc k) l = same-at (3 * k + 2) (omega arith)
 

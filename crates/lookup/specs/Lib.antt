@@ -1,4 +1,1 @@
-pub mod Lookups
-pub mod Qualified
-pub mod Resolved
-pub mod Strings
+pub mod told

@@ -1,4 +1,4 @@
-// Names by their index. The definitions: names' specs/Names.antt and specs/Index.antt; what look-ups tell: specs/Lookups.antt.
+// Names by their index. The definitions: names' specs/Names.antt and specs/told/Index.antt; what look-ups tell: specs/told/Lookups.antt.
 ghost use mathlib.Core.Path.{_≡_};
 ghost use mathlib.Core.Bool.{true};
 ghost use mathlib.Core.List.{List};
@@ -6,11 +6,11 @@ ghost use Prim.Native.Nat.{ℕ, _*_, _≤_};
 ghost use lib.ListN.{length, getElem?};
 ghost use Rattle.names.specs.Records.{Record};
 ghost use Rattle.foundation.specs.Results.{ok};
-ghost use Rattle.names.specs.Name.{nameText};
+ghost use Rattle.names.specs.told.Name.{nameText};
 ghost use Rattle.names.specs.Names.{stringsFrom, endsFit, d2String, string};
-ghost use Rattle.lookup.specs.Lookups.{ServesTold, FindTold, PlaceTold, NotesOf, WordsAt, DecidedTold};
-ghost use Rattle.record_names.specs.Steps.{extentOf};
-ghost use Rattle.lookup.specs.Strings.{SizesOf};
+ghost use Rattle.lookup.specs.told.Lookups.{ServesTold, FindTold, PlaceTold, NotesOf, WordsAt, DecidedTold};
+ghost use Rattle.record_names.specs.told.Steps.{extentOf};
+ghost use Rattle.lookup.specs.told.Strings.{SizesOf};
 
 pub mod codes; // codes.rt: a code for each of the first indices
 pub mod strings; // strings.rt: the sizes of long strings of d2

@@ -1,5 +1,5 @@
 // Class names: without a leading L and a trailing ; if both are there, / and $ turned into dots. The definition: names' specs/Names.antt,
-// `qualifiedName`; how the answers tell it: specs/Qualified.antt.
+// `qualifiedName`; how the answers tell it: specs/told/Qualified.antt.
 ghost use mathlib.Core.Path.{_≡_};
 ghost use mathlib.Core.Bool.{true};
 ghost use mathlib.Core.List.{List};
@@ -8,10 +8,10 @@ ghost use lib.ListN.{length};
 ghost use Rattle.foundation.specs.Results.{ok};
 ghost use Rattle.names.specs.Records.{Record};
 ghost use Rattle.names.specs.Names.{stringsFrom, endsFit, d2String, qualifiedName};
-ghost use Rattle.names.specs.Name.{nameText};
-ghost use Rattle.lookup.specs.Lookups.{NotesOf};
-ghost use Rattle.lookup.specs.Qualified.{ClippedTold, WrappedTold, unitsName, QualifiedUnits};
-ghost use Rattle.lookup.specs.Strings.{SizesOf};
+ghost use Rattle.names.specs.told.Name.{nameText};
+ghost use Rattle.lookup.specs.told.Lookups.{NotesOf};
+ghost use Rattle.lookup.specs.told.Qualified.{ClippedTold, WrappedTold, unitsName, QualifiedUnits};
+ghost use Rattle.lookup.specs.told.Strings.{SizesOf};
 use crate::by_record;
 use crate::d2_extent;
 use crate::strings::size_at;

@@ -1,12 +1,12 @@
-// Works each record of an index out, once. The definition: specs/Lookups.antt, `NotesOf`; how the answers tell it: specs/Resolved.antt.
+// Works each record of an index out, once. The definition: specs/told/Lookups.antt, `NotesOf`; how the answers tell it: specs/told/Resolved.antt.
 ghost use mathlib.Core.Path.{_≡_};
 ghost use mathlib.Core.List.{List};
 ghost use Prim.Native.Nat.{ℕ, _+_, _*_, _<_, _≤_};
 ghost use lib.ListN.{length, set};
 ghost use Rattle.names.specs.Records.{Record};
-ghost use Rattle.names.specs.Index.{IndexOf};
-ghost use Rattle.lookup.specs.Lookups.{NotesOf};
-ghost use Rattle.lookup.specs.Resolved.{OneTold};
+ghost use Rattle.names.specs.told.Index.{IndexOf};
+ghost use Rattle.lookup.specs.told.Lookups.{NotesOf};
+ghost use Rattle.lookup.specs.told.Resolved.{OneTold};
 use crate::place_of;
 use names::records::RECORD_WORDS;
 use record_names::Extent;

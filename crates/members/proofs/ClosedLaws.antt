@@ -16,14 +16,14 @@ use Rattle.foundation.proofs.DigitLaws.{length-digits}
 use Rattle.foundation.proofs.OverlayLaws.{sets-front}
 use Rattle.wire.specs.Wire.{Message, cut}
 use Rattle.wire.specs.Messages.{messages}
-use Rattle.messages.specs.Asked.{CheckedTold, NextTold}
+use Rattle.messages.specs.told.Asked.{CheckedTold, NextBodyTold}
 use Rattle.messages.specs.declared.Checked.{Checked}
 use Rattle.wire.specs.declared.Piece.{Piece}
 use Rattle.wire.specs.declared.Piece.the-variants as piece
-use Rattle.characters.specs.Characters.{partFrom}
+use Rattle.characters.specs.told.Places.{partFrom}
 use Rattle.characters.proofs.PartLaws.{part-short, rest-is}
 use Rattle.sheet.specs.Rows.{ref, Row, row, bodyText, texts}
-use Rattle.sheet.specs.Put.{PutRows}
+use Rattle.sheet.specs.told.Put.{PutRows}
 use Rattle.sheet.specs.declared.State.{State}
 use Rattle.sheet.proofs.RowLaws.{bodyLength, rowsLength, sheet-length}
 use Rattle.sheet.proofs.PutLaws.{put-sheet, put-text, put-types, put-left, rows-then}
@@ -31,9 +31,9 @@ use Rattle.declaration_rows.specs.Declarations.{Constructor, Function}
 use Rattle.schema.specs.Reading.{Read, Scope}
 use Rattle.schema.specs.Members.{constructorIn, functionIn}
 use Rattle.declaration_rows.specs.Rows.{constructorRows, functionRows}
-use Rattle.schema.specs.Told.{Lent, Scoped, EntryAt, Stands, PickedTold}
-use Rattle.schema.specs.MembersTold.{Affords, Within, PickedWithin, memberCost, closedCost, MemberTold}
-use Rattle.schema.specs.ListsTold.{ListAtTold}
+use Rattle.schema.specs.told.SchemaTold.{Lent, Scoped, EntryAt, Stands, PickedTold}
+use Rattle.schema.specs.told.MembersTold.{Affords, Within, PickedWithin, memberCost, closedCost, MemberTold}
+use Rattle.schema.specs.told.ListsTold.{ListAtTold}
 use Rattle.schema.specs.declared.Listed.{Listed}
 use Rattle.schema.specs.declared.Listed.the-variants as listed
 use Rattle.schema.specs.declared.Picked.{Picked}
@@ -42,13 +42,13 @@ use Rattle.schema.proofs.Picked.{the-type}
 use Rattle.schema.proofs.CountLaws.{within-both, affords-less, affords-after, picked-within}
 use Rattle.schema.proofs.StandsLaws.{part-stands, stands-entry}
 use Rattle.schema.proofs.ListLaws.{Looping, loop-end, member-in, member-affords, loop-refused, loop-dropped, loop-kept}
-use Rattle.erasure.specs.Told.{PutText}
+use Rattle.erasure.specs.told.ErasureTold.{PutSized}
 use Rattle.erasure.specs.declared.Part.{Part}
 use Rattle.erasure.specs.declared.Part.the-variants as part
 use Rattle.descriptors.specs.Defaults.{Parts, constructorParts, functionParts, descriptor, defaultRow, closedConstructor, closedFunction}
-use Rattle.descriptors.specs.DefaultsTold.{partCost, PartTold, ConstructorDefault, FunctionDefault}
-use Rattle.descriptors.specs.PartsTold.{Gave, PartOf}
-use Rattle.members.specs.ClosedTold.{closeCost, CloseTold}
+use Rattle.descriptors.specs.told.DefaultsTold.{partCost, PartTold, ConstructorDefault, FunctionDefault}
+use Rattle.descriptors.specs.told.PartsTold.{Gave, PartOf}
+use Rattle.members.specs.told.ClosedTold.{closeCost, CloseTold}
 use Rattle.descriptors.proofs.JoinLaws.{part-answer, written-within}
 
 -- The descriptor of what a reading has kept.
@@ -88,7 +88,7 @@ text-known : (o : Option (List ℕ)) (at : ℕ) (r : Part) (A A₁ t : List ℕ)
 text-known o at (part.Written n) A A₁ t (u, e, p) f = let g : u ≡ t = cc in rw g at (p .area)
 text-known o at part.Absent A A₁ t e f = let z : _≡_ {A = ℕ} 0 1 = cc in absurd (omega arith)
 
-text-aside : (t A A₁ : List ℕ) (n : ℕ) → PutText t 0 n A A₁ → n ≤ length A → take n A₁ ≡ t
+text-aside : (t A A₁ : List ℕ) (n : ℕ) → PutSized t 0 n A A₁ → n ≤ length A → take n A₁ ≡ t
 text-aside t A A₁ n p h =
     let l : length t ≤ length A = omega (arith, p .size) in
     ap (λ (k : ℕ). take k A₁) (p .size)

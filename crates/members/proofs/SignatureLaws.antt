@@ -14,16 +14,16 @@ use Rattle.foundation.specs.Results.{ok, _from_}
 use Rattle.foundation.specs.Texts.{Text}
 use Rattle.fields.specs.Fields.{Property·property-signature, JvmMethodSignature·desc, JvmPropertySignature·field}
 use Rattle.wire.specs.Wire.{Message, cut}
-use Rattle.messages.specs.Asked.{EmbeddedIs, EmbeddedTold}
+use Rattle.messages.specs.told.Asked.{EmbeddedIs, EmbeddedTold}
 use Rattle.wire.specs.declared.WireError.{WireError}
 use Rattle.messages.specs.declared.Embedded.{Embedded}
 use Rattle.messages.specs.declared.Embedded.the-variants as embedded
-use Rattle.names.specs.Name.{nameText}
+use Rattle.names.specs.told.Name.{nameText}
 use Rattle.schema.specs.Reading.{pure, _>>=_, Scope, nameIn}
 use Rattle.schema.specs.Members.{signatureOf, signatureIn, fieldOf, fieldIn, ofSignature}
 use Rattle.declaration_rows.specs.Declarations.{signed}
-use Rattle.declaration_rows.specs.Written.{signatureBy}
-use Rattle.members.specs.SignaturesTold.{NamesTold, SignedTold, AccessorTold, ThreeTold, PropertySignedTold}
+use Rattle.declaration_rows.specs.told.Written.{signatureBy}
+use Rattle.members.specs.told.SignaturesTold.{NamesTold, SignedTold, AccessorTold, ThreeTold, PropertySignedTold}
 use Rattle.declaration_rows.specs.declared.SignatureNames.{SignatureNames}
 use Rattle.members.specs.declared.signatures.Signed.{Signed}
 use Rattle.members.specs.declared.signatures.Signed.the-variants as answer

@@ -1,12 +1,12 @@
-// Constructors and functions. The definitions: schema's specs/Members.antt; what the readers tell: specs/CallablesTold.antt, schema's specs/MembersTold.antt.
+// Constructors and functions. The definitions: schema's specs/Members.antt; what the readers tell: specs/told/CallablesTold.antt, schema's specs/told/MembersTold.antt.
 ghost use mathlib.Core.Path.{_≡_};
 ghost use Prim.Native.Nat.{_+_, _≤_};
 ghost use lib.ListN.{length};
 ghost use Rattle.schema.specs.Members.{constructorIn, functionIn};
 ghost use Rattle.declaration_rows.specs.Rows.{constructorRows, functionRows};
-ghost use Rattle.schema.specs.Told.{lent, Ready};
-ghost use Rattle.schema.specs.MembersTold.{Affords, memberCost, MemberTold};
-ghost use Rattle.members.specs.CallablesTold.{functionHeadCost, FunctionHead, FunctionTypesTold};
+ghost use Rattle.schema.specs.told.SchemaTold.{lent, Ready};
+ghost use Rattle.schema.specs.told.MembersTold.{Affords, memberCost, MemberTold};
+ghost use Rattle.members.specs.told.CallablesTold.{functionHeadCost, FunctionHead, FunctionTypesTold};
 ghost use Rattle.members.specs.declared.signatures.Signed.the-variants as answer;
 use crate::parameters::parameters_in;
 use crate::signatures::Signed;

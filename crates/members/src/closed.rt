@@ -1,16 +1,16 @@
 // Constructors and functions, each closed by the record of its default descriptor. The definitions: descriptors' specs/Defaults.antt; what
-// the writers tell: specs/ClosedTold.antt and schema's specs/MembersTold.antt.
+// the writers tell: specs/told/ClosedTold.antt and schema's specs/told/MembersTold.antt.
 ghost use mathlib.Core.List.{[], _∷_};
 ghost use mathlib.Core.Option.{some};
 ghost use Prim.Native.Nat.{_+_, _-_, _*_, _^_, _≤_};
 ghost use lib.ListN.{length, drop};
 ghost use Rattle.sheet.specs.Rows.{ref, row};
-ghost use Rattle.sheet.specs.Put.{PutRows};
+ghost use Rattle.sheet.specs.told.Put.{PutRows};
 ghost use Rattle.schema.specs.Members.{constructorIn, functionIn};
-ghost use Rattle.schema.specs.Told.{lent, Stands};
-ghost use Rattle.schema.specs.MembersTold.{Affords, closedCost, MemberTold};
+ghost use Rattle.schema.specs.told.SchemaTold.{lent, Stands};
+ghost use Rattle.schema.specs.told.MembersTold.{Affords, closedCost, MemberTold};
 ghost use Rattle.descriptors.specs.Defaults.{constructorParts, functionParts, closedConstructor, closedFunction};
-ghost use Rattle.members.specs.ClosedTold.{closeCost, CloseTold};
+ghost use Rattle.members.specs.told.ClosedTold.{closeCost, CloseTold};
 use crate::callables::constructor_in;
 use crate::callables::function_in;
 use declaration_rows::put_default;

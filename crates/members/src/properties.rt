@@ -1,4 +1,4 @@
-// Properties. The definition: schema's specs/Members.antt, `propertyIn`; what the readers tell: specs/PropertiesTold.antt, schema's specs/MembersTold.antt.
+// Properties. The definition: schema's specs/Members.antt, `propertyIn`; what the readers tell: specs/told/PropertiesTold.antt, schema's specs/told/MembersTold.antt.
 ghost use mathlib.Core.Path.{_≡_};
 ghost use Prim.Native.Nat.{_+_, _*_, _^_, _≤_};
 ghost use lib.ListN.{length};
@@ -6,10 +6,10 @@ ghost use Rattle.foundation.specs.Results.{ok, _from_};
 ghost use Rattle.wire.specs.Wire.{cut, Message};
 ghost use Rattle.schema.specs.Members.{accessorIsDefault, propertyIn};
 ghost use Rattle.declaration_rows.specs.Rows.{propertyRows};
-ghost use Rattle.schema.specs.Told.{lent};
-ghost use Rattle.declaration_rows.specs.Written.{RecordRoom};
-ghost use Rattle.schema.specs.MembersTold.{Affords, memberCost, MemberTold};
-ghost use Rattle.members.specs.PropertiesTold.{RecordTold, NamedPropertyTold};
+ghost use Rattle.schema.specs.told.SchemaTold.{lent};
+ghost use Rattle.declaration_rows.specs.told.Written.{RecordRoom};
+ghost use Rattle.schema.specs.told.MembersTold.{Affords, memberCost, MemberTold};
+ghost use Rattle.members.specs.told.PropertiesTold.{PropertyRecordTold, NamedPropertyTold};
 use crate::signatures::PropertyNames;
 use crate::signatures::PropertySigned;
 use crate::signatures::check_accessors;
@@ -68,7 +68,7 @@ fn put_record(
     text: &mut [u8],
 ) -> State
     requires { ⌜ RecordRoom (2 ^ 61) (now payload) (now d2) state ⌝ }
-    ensures { λ r. ⌜ RecordTold (now (payload .entry)) (now (d2 .entry)) (now (msg .entry)) base (own .name) (own .names) state r (now (sheet .entry)) (now (sheet .exit)) (now (text .entry)) (now (text .exit)) ⌝ }
+    ensures { λ r. ⌜ PropertyRecordTold (now (payload .entry)) (now (d2 .entry)) (now (msg .entry)) base (own .name) (own .names) state r (now (sheet .entry)) (now (sheet .exit)) (now (text .entry)) (now (text .exit)) ⌝ }
 {
     let flags = PropertyFlags {
         word: flags_in(msg, base, PROPERTY_FLAGS, OMITTED_FLAGS),

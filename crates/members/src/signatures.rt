@@ -1,5 +1,5 @@
 // Signatures: the two names by their indices in a message. The definitions: schema's specs/Members.antt, `signatureIn` and `fieldIn`; what
-// the readers tell: specs/SignaturesTold.antt.
+// the readers tell: specs/told/SignaturesTold.antt.
 ghost use mathlib.Core.Path.{_≡_};
 ghost use mathlib.Core.List.{List};
 ghost use mathlib.Core.Option.{none, some};
@@ -8,12 +8,12 @@ ghost use lib.ListN.{length};
 ghost use Rattle.foundation.specs.Choices.{orElse};
 ghost use Rattle.foundation.specs.Results.{ok, _from_};
 ghost use Rattle.wire.specs.Wire.{cut, Message};
-ghost use Rattle.names.specs.Name.{nameText};
+ghost use Rattle.names.specs.told.Name.{nameText};
 ghost use Rattle.schema.specs.Reading.{Scope};
 ghost use Rattle.schema.specs.Members.{fieldIn};
-ghost use Rattle.schema.specs.Told.{NamesOf};
-ghost use Rattle.declaration_rows.specs.Written.{signatureBy};
-ghost use Rattle.members.specs.SignaturesTold.{NamesTold, SignedTold, ThreeTold, PropertySignedTold, AccessorsDue};
+ghost use Rattle.schema.specs.told.SchemaTold.{NamesOf};
+ghost use Rattle.declaration_rows.specs.told.Written.{signatureBy};
+ghost use Rattle.members.specs.told.SignaturesTold.{NamesTold, SignedTold, ThreeTold, PropertySignedTold, AccessorsDue};
 use declaration_rows::SignatureNames;
 use fields::JVM_METHOD_SIGNATURE_DESC;
 use fields::JVM_METHOD_SIGNATURE_NAME;

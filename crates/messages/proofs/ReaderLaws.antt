@@ -7,8 +7,8 @@ use native.Mathlib.Omega.{arith}
 use lib.ListN.{length, drop, length-drop}
 use Rattle.foundation.specs.Results.{Res, Part, Got, got, _from_}
 use Rattle.wire.specs.Wire.{readDelimited}
-use Rattle.wire.specs.Told.{restOf, bodyOf, DelimitedTold}
-use Rattle.messages.specs.Reader.{afterDelimited, DelimitedRead, partsOf, SplitTold}
+use Rattle.wire.specs.told.WireTold.{restOf, partBetween, DelimitedTold}
+use Rattle.messages.specs.told.Reader.{afterDelimited, DelimitedRead, partsOf, SplitTold}
 use Rattle.wire.specs.declared.Delimited.{Delimited}
 use Rattle.wire.specs.declared.Delimited.the-variants as delimited
 use Rattle.messages.specs.declared.reader.Split.{Split}
@@ -30,7 +30,7 @@ module _ (s : List ℕ) where
   -- what a reader at the start of a payload reads opens it
   opened-by : (r : Res (Got Part)) (d : Delimited) (rest : ℕ) → rest ≡ afterDelimited 0 d → DelimitedTold 0 s r d → SplitTold s r (partsOf d rest)
   opened-by r (delimited.Body start end) rest e h =
-      (h .0 ∙ ap (λ (n : ℕ). got (bodyOf 0 s start end) (restOf 0 s n)) (sym e), h .3, h .1, omega (arith, e), omega (arith, e, h .2))
+      (h .0 ∙ ap (λ (n : ℕ). got (partBetween 0 s start end) (restOf 0 s n)) (sym e), h .3, h .1, omega (arith, e), omega (arith, e, h .2))
   opened-by r (delimited.Refused error) rest e h = h
 
   pub opened-told : (at next : ℕ) (d : Delimited) (rest : List ℕ) (o : Split) → at ≡ 0 → DelimitedRead s at d next → rest ≡ drop next s

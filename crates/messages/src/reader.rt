@@ -1,11 +1,11 @@
 // A reader over a payload: the lent bytes and the offset of the next one. Its methods leave the work to functions on a slice and a place, so
-// that each proof by hand has no branch. The definitions of what they tell: specs/Reader.antt.
+// that each proof by hand has no branch. The definitions of what they tell: specs/told/Reader.antt.
 ghost use mathlib.Core.Path.{_≡_};
 ghost use Prim.Native.Nat.{_-_, _≤_};
 ghost use lib.ListN.{length, drop};
 ghost use Rattle.foundation.specs.Results.{_from_};
 ghost use Rattle.wire.specs.Wire.{readDelimited};
-ghost use Rattle.messages.specs.Reader.{afterDelimited, DelimitedRead, partsOf, SplitTold};
+ghost use Rattle.messages.specs.told.Reader.{afterDelimited, DelimitedRead, partsOf, SplitTold};
 use wire::Delimited;
 use wire::WireError;
 use wire::delimited_at;

@@ -3,13 +3,13 @@
 ghost use mathlib.Core.Path.{_≡_};
 ghost use Prim.Native.Nat.{_≤_};
 ghost use lib.ListN.{length};
-ghost use Rattle.inputs.specs.Told.{input};
-ghost use Rattle.inputs.specs.Outcomes.{told};
+ghost use Rattle.inputs.specs.Inputs.{input};
+ghost use Rattle.inputs.specs.told.OutcomesTold.{told};
 ghost use Rattle.passes.specs.Answered.{nothingRead, answered};
-ghost use Rattle.passes.specs.AreaTold.{InLimits};
-ghost use Rattle.passes.specs.PassTold.{readingOf, readingBy};
+ghost use Rattle.passes.specs.told.AreaTold.{InLimits};
+ghost use Rattle.passes.specs.told.PassTold.{readingOf, readingBy};
 ghost use Rattle.metadata.specs.Read.{read};
-ghost use Rattle.metadata.specs.ReadTold.{toldBy};
+ghost use Rattle.metadata.specs.told.ReadTold.{toldBy};
 use declaration_rows::put_head;
 use declaration_rows::put_head_counts;
 use fields::OMITTED_FLAGS;

@@ -1,12 +1,12 @@
 // The two passes. d1 is decoded. The first pass walks the body into scratch areas, clipped, and finds refusals 7 to 10 and both lengths; only
-// then are 11 and 12 tested and the lent areas written (areas.rt). What the functions tell: specs/PassTold.antt.
+// then are 11 and 12 tested and the lent areas written (areas.rt). What the functions tell: specs/told/PassTold.antt.
 ghost use mathlib.Core.Path.{_≡_};
 ghost use Rattle.declarations.specs.Payload.{payload};
-ghost use Rattle.declarations.specs.PayloadTold.{LentAt, LentRoom};
-ghost use Rattle.declarations.specs.BodyTold.{BodyTold};
-ghost use Rattle.passes.specs.AreaTold as definition;
-ghost use Rattle.passes.specs.AreaTold.{strings, InLimits};
-ghost use Rattle.passes.specs.PassTold.{FirstTold, PassedTold, FrameRoom, readingOf};
+ghost use Rattle.declarations.specs.told.PayloadTold.{LentAt, LentRoom};
+ghost use Rattle.declarations.specs.told.BodyTold.{BodyTold};
+ghost use Rattle.passes.specs.told.AreaTold as definition;
+ghost use Rattle.passes.specs.told.AreaTold.{strings, InLimits};
+ghost use Rattle.passes.specs.told.PassTold.{FirstTold, PassedTold, FrameRoom, readingOf};
 use areas::write_in;
 use declarations::body::Body;
 use declarations::body::Sections;

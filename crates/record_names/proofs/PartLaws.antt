@@ -14,15 +14,16 @@ use lib.ListN.{length, drop, length-drop}
 use Rattle.foundation.specs.Choices.{if_then_else_, ifSome, isSome, mapOption, IfSome}
 use Rattle.foundation.specs.Texts.{Text, ascii}
 use Rattle.foundation.proofs.ChoiceLaws.{and-left, and-right}
-use Rattle.messages.specs.Asked.{pieceTold, PieceInside, indexTold}
+use Rattle.messages.specs.told.Asked.{pieceTold, PieceInside, indexTold}
 use Rattle.wire.specs.declared.Piece.{Piece}
 use Rattle.wire.specs.declared.Piece.the-variants as piece
 use Rattle.messages.specs.declared.Indexed.{Indexed}
 use Rattle.messages.specs.declared.Indexed.the-variants as indexed
 use Rattle.messages.specs.declared.repeated.Two.{Two}
 use Rattle.messages.specs.declared.repeated.Two.the-variants.{Neither, One, Both}
-use Rattle.characters.specs.Characters.{isScalar, fromUtf8, partFrom, placeOf}
-use Rattle.characters.specs.Told.{placeTold}
+use Rattle.characters.specs.Characters.{isScalar, fromUtf8}
+use Rattle.characters.specs.told.Places.{partFrom, placeOf}
+use Rattle.characters.specs.told.CharactersTold.{placeTold}
 use Rattle.characters.proofs.PartLaws.{part-part, part-short, rest-is}
 use Rattle.characters.specs.Splits.{substringOf}
 use Rattle.characters.specs.declared.Place.{Place}
@@ -31,10 +32,10 @@ use Rattle.characters.proofs.TestLaws.{under}
 use Rattle.characters.proofs.SplitLaws.{place-within, substring-source}
 use Rattle.names.specs.Records as definition
 use Rattle.names.specs.Records.{baseText, textOf, predefinedText, substituted, replaceOf, dotted, operated, stepped}
-use Rattle.names.specs.Name.{predefinedList, sourceText, nameText, plain, absentName}
-use Rattle.names.specs.RecordTold.{bothOf, recordTold}
-use Rattle.names.specs.Stream.{listedText, baseOf}
-use Rattle.record_names.specs.Steps.{SubstringTold, PieceFits, textIn, OfBytes, BaseTold, PartTold, known, withSteps}
+use Rattle.names.specs.told.Name.{predefinedList, sourceText, nameText, plain, absentName}
+use Rattle.names.specs.told.RecordTold.{bothNumbers, recordTold}
+use Rattle.names.specs.told.Stream.{listedText, baseOf}
+use Rattle.record_names.specs.told.Steps.{SubstringTold, PieceFits, textIn, OfBytes, BaseTold, StepTold, known, withSteps}
 use Rattle.names.specs.declared.name.Name.{Name}
 use Rattle.names.specs.declared.records.Record.{Record}
 use Rattle.names.specs.declared.name.PredefinedPart.{PredefinedPart}
@@ -162,10 +163,10 @@ module _ (payload s : List ℕ) (source start end first last : ℕ) (p : 0 < sou
       let l = baseOf source payload predefinedList in
       (t .inside .0, omega (arith, t .inside .1, ap length e, part-short l start end))
 
-  pub part-none : SubstringTold s first last extent.Nothing → PartTold payload (substringOf first last) source start end base.Nothing
+  pub part-none : SubstringTold s first last extent.Nothing → StepTold payload (substringOf first last) source start end base.Nothing
   part-none t = record { bytes = tt; is = λ d2. rw (source-is d2 start end, ← e) (t .is) }
 
-  pub part-some : {a b : ℕ} → SubstringTold s first last (extent.Part a b) → PartTold payload (substringOf first last) source start end (base.Part source (start + a) (start + b))
+  pub part-some : {a b : ℕ} → SubstringTold s first last (extent.Part a b) → StepTold payload (substringOf first last) source start end (base.Part source (start + a) (start + b))
   part-some {a} {b} t =
       let l = baseOf source payload predefinedList in
       let f : partFrom a b s ≡ partFrom (start + a) (start + b) l =
@@ -198,7 +199,7 @@ same-substituted (c ∷ t) = ap (λ (x : ℕ). x ∷ substituted 0 0 t) (go (eqb
     go true e = sym (eqb-true c 0 e)
     go false e = refl
 
-pub not-both : (two : Two) → OneOf (0 ∷ 1 ∷ []) (tagOf the-type two) → bothOf two ≡ none
+pub not-both : (two : Two) → OneOf (0 ∷ 1 ∷ []) (tagOf the-type two) → bothNumbers two ≡ none
 not-both Neither h = refl
 not-both (One a) h = refl
 not-both (Both a b) h = absurd (miss (0 ∷ 1 ∷ []) 2 tt h)
@@ -216,8 +217,8 @@ module _ (payload d2 : List ℕ) (source start end op : ℕ) where
       go none = refl
       go (some t) = ap some (operated-known op (substituted from to t))
 
-  pub steps-none : (two : Two) → bothOf two ≡ none → {k : ℕ} → k ≡ known op
-      → nameText payload d2 (stepsOf 0 0 k) ≡ withSteps (bothOf two) op (sourceText payload d2 (plain source start end))
+  pub steps-none : (two : Two) → bothNumbers two ≡ none → {k : ℕ} → k ≡ known op
+      → nameText payload d2 (stepsOf 0 0 k) ≡ withSteps (bothNumbers two) op (sourceText payload d2 (plain source start end))
   steps-none two q e = named-is 0 0 e ∙ rw q (go (sourceText payload d2 (plain source start end)))
     where
       go : (o : Option Text) → mapOption (λ t. operated op (substituted 0 0 t)) o ≡ withSteps none op o
@@ -226,7 +227,7 @@ module _ (payload d2 : List ℕ) (source start end op : ℕ) where
 
   module _ {two : Two} {a b : ℕ} (q : two ≡ Both a b) {scalars : Bool} (s : scalars ≡ isScalar a && isScalar b) where
     pub steps-both : scalars ≡ true → {k : ℕ} → k ≡ known op
-        → nameText payload d2 (stepsOf a b k) ≡ withSteps (bothOf two) op (sourceText payload d2 (plain source start end))
+        → nameText payload d2 (stepsOf a b k) ≡ withSteps (bothNumbers two) op (sourceText payload d2 (plain source start end))
     unfolding replaceOf
     steps-both t e = named-is a b e ∙ rw (q, ← s, t) (go (sourceText payload d2 (plain source start end)))
       where
@@ -235,7 +236,7 @@ module _ (payload d2 : List ℕ) (source start end op : ℕ) where
         go (some t) = refl
 
     pub steps-absent : scalars ≡ false → {n : Name} → n ≡ absentName
-        → nameText payload d2 n ≡ withSteps (bothOf two) op (sourceText payload d2 (plain source start end))
+        → nameText payload d2 n ≡ withSteps (bothNumbers two) op (sourceText payload d2 (plain source start end))
     unfolding replaceOf nameText sourceText
     steps-absent t e = rw (e, q, ← s, t) (go (sourceText payload d2 (plain source start end)))
       where
@@ -245,11 +246,11 @@ module _ (payload d2 : List ℕ) (source start end op : ℕ) where
 
 -- The substring of a record, if it has one.
 pub sub-both : (payload : List ℕ) (source start end : ℕ) {two : Two} {a b : ℕ} (r : Base) → two ≡ Both a b
-    → PartTold payload (substringOf a b) source start end r → PartTold payload (stepped substringOf (bothOf two)) source start end r
+    → StepTold payload (substringOf a b) source start end r → StepTold payload (stepped substringOf (bothNumbers two)) source start end r
 sub-both payload source start end r e t = rw e t
 
-pub sub-none : (payload : List ℕ) (source start end : ℕ) (two : Two) → bothOf two ≡ none → 0 < source → source ≤ 2
-    → PartTold payload (stepped substringOf (bothOf two)) source start end (base.Part source start end)
+pub sub-none : (payload : List ℕ) (source start end : ℕ) (two : Two) → bothNumbers two ≡ none → 0 < source → source ≤ 2
+    → StepTold payload (stepped substringOf (bothNumbers two)) source start end (base.Part source start end)
 sub-none payload source start end two e p q = record { bytes = (p, q); is = λ d2. rw e (go (sourceText payload d2 (plain source start end))) }
   where
     go : (o : Option Text) → ifSome o none some ≡ o
@@ -284,7 +285,7 @@ module _ (payload : List ℕ) (from : ℕ) (read : Record) (x : Base) (t : BaseT
     record-nothing g e = rw (e, text-is told, base-is, g)
 
     module _ {source start stop : ℕ} (g : x ≡ base.Part source start stop) (y : Base)
-        (u : PartTold payload (stepped substringOf (bothOf (read .substring))) source start stop y) where
+        (u : StepTold payload (stepped substringOf (bothNumbers (read .substring))) source start stop y) where
       part-is : ifSome (baseText told) none (stepped substringOf (told .substring)) ≡ textIn payload d2 y
       part-is = ap (λ (o : Option Text). ifSome o none (stepped substringOf (told .substring))) (base-is ∙ ap (textIn payload d2) g) ∙ u .is d2
 
@@ -293,7 +294,7 @@ module _ (payload : List ℕ) (from : ℕ) (read : Record) (x : Base) (t : BaseT
       record-cut q e = rw (e, text-is told, part-is, q)
 
       pub record-built : {of a b : ℕ} → y ≡ base.Part of a b
-          → nameText payload d2 n ≡ withSteps (bothOf (read .replaced)) (read .operation) (sourceText payload d2 (plain of a b))
+          → nameText payload d2 n ≡ withSteps (bothNumbers (read .replaced)) (read .operation) (sourceText payload d2 (plain of a b))
           → nameText payload d2 n ≡ textOf told
       record-built q e = e ∙ sym (text-is told ∙ ap (withSteps (told .replaced) (told .operation)) (part-is ∙ ap (textIn payload d2) q))
 

@@ -14,17 +14,17 @@ use Rattle.foundation.specs.Results.{ok, Part, _from_, got, mapGot}
 use Rattle.foundation.specs.Texts.{Text}
 use Rattle.wire.specs.Wire.{groupsFrom, readVarint, varint, field, readField, repeated, Message, cut}
 use Rattle.wire.specs.Messages.{values, firstOf, asBody, varintOf, index, bytesOf, joined, varints}
-use Rattle.messages.specs.Asked.{pieceTold, indexTold}
+use Rattle.messages.specs.told.Asked.{pieceTold, indexTold}
 use Rattle.wire.proofs.FieldLaws.{value-varint, field-value}
 use Rattle.wire.proofs.WalkLaws.{ok-same}
-use Rattle.characters.specs.Characters.{partFrom}
+use Rattle.characters.specs.told.Places.{partFrom}
 use Rattle.characters.proofs.UnitLaws.{units-ended, units-cons}
 use Rattle.names.specs.Records.{recordOf, decides, predefinedText, baseText, operated, textOf}
-use Rattle.names.specs.RecordTold.{RecordTold}
-use Rattle.names.specs.Name.{sourceText, nameText, plain, absentName}
-use Rattle.names.specs.Stream.{listedText}
-use Rattle.record_names.specs.Steps.{BuiltTold}
-use Rattle.record_names.specs.Named.{PredefinedTold, NamedTold}
+use Rattle.names.specs.told.RecordTold.{RecordTold}
+use Rattle.names.specs.told.Name.{sourceText, nameText, plain, absentName}
+use Rattle.names.specs.told.Stream.{listedText}
+use Rattle.record_names.specs.told.Steps.{BuiltTold}
+use Rattle.record_names.specs.told.Named.{PredefinedTold, NamedTold}
 use Rattle.names.specs.declared.name.Name.{Name}
 use Rattle.names.specs.declared.name.PredefinedPart.{PredefinedPart}
 use Rattle.names.specs.declared.name.PredefinedPart.the-variants as listed

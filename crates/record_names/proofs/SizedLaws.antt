@@ -12,20 +12,21 @@ use lib.Dec.{eqb, ltb}
 use lib.ListN.{length}
 use Rattle.foundation.specs.Choices.{if_then_else_, mapOption}
 use Rattle.foundation.specs.Texts.{Text}
-use Rattle.characters.specs.Characters.{utf8, fromUtf8, partFrom}
+use Rattle.characters.specs.Characters.{utf8, fromUtf8}
+use Rattle.characters.specs.told.Places.{partFrom}
 use Rattle.characters.proofs.UnitLaws.{units-ended}
 use Rattle.characters.proofs.TestLaws.{below}
 use Rattle.names.proofs.NameLaws.{part-rest, source-bytes, source-absent, absent-bytes}
 use Rattle.names.proofs.FittedLaws.{sized-is}
 use Rattle.names.specs.Records.{substituted, operated}
-use Rattle.names.specs.Name.{predefinedList, sourceText, steppedBy, nameText}
-use Rattle.names.specs.Stream.{baseOf, nameBytes}
+use Rattle.names.specs.told.Name.{predefinedList, sourceText, steppedBy, nameText}
+use Rattle.names.specs.told.Stream.{baseOf, nameBytes}
 use Rattle.names.specs.declared.name.Name.{Name}
-use Rattle.record_names.specs.Steps.{BytesName}
-use Rattle.record_names.specs.Note.{classSize, classOf, NameFits, WordsTold}
-use Rattle.record_names.specs.ClassNames.{qualifiedPart, classText, partSize, ClassTold}
-use Rattle.record_names.specs.Named.{NamedIs, ClassIs, NamedTold, WordsFor, RecordWords}
-use Rattle.record_names.specs.Sized.{least, limitOf, clippedName, SizeTold, withSize}
+use Rattle.record_names.specs.told.Steps.{BytesName}
+use Rattle.record_names.specs.told.Note.{classSize, classOf, NameFits, WordsTold}
+use Rattle.record_names.specs.told.ClassNames.{qualifiedPart, classText, partSize, ClassTold}
+use Rattle.record_names.specs.told.Named.{NamedIs, ClassIs, NamedTold, WordsFor, RecordWords}
+use Rattle.record_names.specs.told.Sized.{least, limitOf, clippedName, SizeTold, withSize}
 use Rattle.record_names.proofs.WordLaws.{noted-no, class-no}
 use Rattle.record_names.specs.declared.note.Words.{Words}
 use Rattle.record_names.specs.declared.Decided.{Decided}

@@ -12,9 +12,10 @@ use lib.Dec.{eqb}
 use lib.ListN.{length, take, drop, length-drop, drop-of-length-le}
 use Rattle.foundation.specs.Choices.{if_then_else_, ifSome, mapOption}
 use Rattle.foundation.specs.Texts.{Text}
-use Rattle.characters.specs.Characters.{width, utf8Of, utf8, fromUtf8After, fromUtf8, partFrom}
-use Rattle.characters.specs.Told.{utf8At}
-use Rattle.characters.specs.Plain.{instead}
+use Rattle.characters.specs.Characters.{width, utf8Of, utf8, fromUtf8After, fromUtf8}
+use Rattle.characters.specs.told.Places.{partFrom}
+use Rattle.characters.specs.told.CharactersTold.{utf8At}
+use Rattle.characters.specs.told.Plain.{instead}
 use Rattle.characters.specs.declared.Character.{Character}
 use Rattle.characters.specs.declared.Character.the-variants.{Read, End}
 use Rattle.characters.proofs.TestLaws.{below}
@@ -25,10 +26,10 @@ use Rattle.characters.proofs.LengthLaws.{bytes-cons, bytes-append}
 use Rattle.characters.proofs.PartLaws.{part-part, part-short, rest-is}
 use Rattle.names.specs.Records.{substituted, dotted, operated}
 use Rattle.names.specs.Names.{withoutLast, unwrapped}
-use Rattle.names.specs.Name.{predefinedList, sourceText, nameText, plain}
-use Rattle.names.specs.Stream.{baseOf}
-use Rattle.record_names.specs.Steps.{BytesName}
-use Rattle.record_names.specs.ClassNames.{LastTold, sizeWith, UnwrapTold, qualifiedPart, classText, ClassTold}
+use Rattle.names.specs.told.Name.{predefinedList, sourceText, nameText, plain}
+use Rattle.names.specs.told.Stream.{baseOf}
+use Rattle.record_names.specs.told.Steps.{BytesName}
+use Rattle.record_names.specs.told.ClassNames.{LastTold, sizeWith, UnwrapTold, qualifiedPart, classText, ClassTold}
 use Rattle.names.specs.declared.name.Name.{Name}
 use Rattle.record_names.specs.declared.class_name.Last.{Last}
 use Rattle.record_names.specs.declared.class_name.Last.the-variants as last

@@ -8,7 +8,7 @@ use native.Mathlib.Nat.{mod-eq-of-lt}
 use borrow.Author.Tests.{eq-eqb, ne-eqb}
 use lib.Dec.{eqb}
 use Rattle.foundation.specs.Choices.{if_then_else_}
-use Rattle.record_names.specs.Note.{notedName, noted, classSize, classOf, notedClass, notedAs, NameFits, WordsTold}
+use Rattle.record_names.specs.told.Note.{notedName, noted, classSize, classOf, notedClass, notedAs, NameFits, WordsTold}
 use Rattle.names.specs.declared.name.Name.{Name}
 use Rattle.record_names.specs.declared.note.Words.{Words}
 use Rattle.record_names.specs.declared.Decided.{Decided}

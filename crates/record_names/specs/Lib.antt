@@ -1,5 +1,1 @@
-pub mod Note
-pub mod Steps
-pub mod ClassNames
-pub mod Named
-pub mod Sized
+pub mod told

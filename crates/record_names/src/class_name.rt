@@ -1,8 +1,8 @@
 // A record's name as a class name: without a leading L and a trailing ; if both are there. The definition: names' specs/Names.antt,
-// `unwrapped`; how the answers tell it: specs/ClassNames.antt.
+// `unwrapped`; how the answers tell it: specs/told/ClassNames.antt.
 ghost use mathlib.Core.Path.{_≡_};
-ghost use Rattle.record_names.specs.Steps.{BytesName};
-ghost use Rattle.record_names.specs.ClassNames.{LastTold, UnwrapTold, qualifiedPart, ClassTold};
+ghost use Rattle.record_names.specs.told.Steps.{BytesName};
+ghost use Rattle.record_names.specs.told.ClassNames.{LastTold, UnwrapTold, qualifiedPart, ClassTold};
 use crate::Extent;
 use characters::Character;
 use characters::utf8_at;

@@ -1,9 +1,9 @@
 // What a record of the name table builds: its name and its class name, with the size of the text, in two words. The definitions of records and
-// names: names' specs/Records.antt, specs/Names.antt; what the answers tell: specs/Named.antt.
+// names: names' specs/Records.antt, specs/Names.antt; what the answers tell: specs/told/Named.antt.
 ghost use mathlib.Core.Path.{_≡_};
 ghost use Prim.Native.Nat.{_^_, _≤_, _<_};
 ghost use lib.ListN.{length};
-ghost use Rattle.record_names.specs.Named.{PredefinedTold, NamedTold, RecordWords};
+ghost use Rattle.record_names.specs.told.Named.{PredefinedTold, NamedTold, RecordWords};
 
 mod class_name; // class_name.rt: a record's class name
 pub mod note; // note.rt: what a record builds, in two words

@@ -1,7 +1,7 @@
-// What a record builds, in two words: worked out once, when the table is indexed. The definition: specs/Note.antt.
+// What a record builds, in two words: worked out once, when the table is indexed. The definition: specs/told/Note.antt.
 ghost use mathlib.Core.Path.{_≡_};
 ghost use Prim.Native.Nat.{_<_};
-ghost use Rattle.record_names.specs.Note.{noted, notedClass, notedAs, classSize, NameFits, WordsTold};
+ghost use Rattle.record_names.specs.told.Note.{noted, notedClass, notedAs, classSize, NameFits, WordsTold};
 use crate::Decided;
 use names::name::Name;
 

@@ -1,10 +1,10 @@
-// A record's name with its size, and the words for it. How the answers tell it: specs/Sized.antt.
+// A record's name with its size, and the words for it. How the answers tell it: specs/told/Sized.antt.
 ghost use mathlib.Core.Path.{_≡_};
 ghost use Prim.Native.Nat.{_<_};
 ghost use lib.ListN.{length};
-ghost use Rattle.record_names.specs.Steps.{BytesName};
-ghost use Rattle.record_names.specs.Named.{DecidedBytes, WordsFor};
-ghost use Rattle.record_names.specs.Sized.{least, limitOf, ClipTold, SizeTold, withSize};
+ghost use Rattle.record_names.specs.told.Steps.{BytesName};
+ghost use Rattle.record_names.specs.told.Named.{DecidedBytes, WordsFor};
+ghost use Rattle.record_names.specs.told.Sized.{least, limitOf, ClipTold, SizeTold, withSize};
 use crate::Decided;
 use crate::class_name::qualified_bytes;
 use crate::note::Words;

@@ -1,16 +1,16 @@
 // The name that a record builds: a part of what its text is made of, and what is done to its characters. The definitions:
-// names' specs/Records.antt; how the answers tell them: specs/Steps.antt.
+// names' specs/Records.antt; how the answers tell them: specs/told/Steps.antt.
 ghost use mathlib.Core.Bool.{_&&_, _||_};
 ghost use mathlib.Core.Path.{_≡_};
 ghost use mathlib.Core.List.{List};
 ghost use Prim.Native.Nat.{ℕ, _≤_, _<_};
-ghost use Rattle.messages.specs.Asked.{pieceTold, indexTold};
+ghost use Rattle.messages.specs.told.Asked.{pieceTold, indexTold};
 ghost use Rattle.foundation.specs.Choices.{isSome};
 ghost use Rattle.characters.specs.Characters.{isScalar};
 ghost use Rattle.characters.specs.Splits.{substringOf};
 ghost use Rattle.names.specs.Records.{stepped};
-ghost use Rattle.names.specs.RecordTold.{bothOf};
-ghost use Rattle.record_names.specs.Steps.{known, SubstringTold, PieceFits, BaseTold, PartTold, StepsTold, BuiltTold};
+ghost use Rattle.names.specs.told.RecordTold.{bothNumbers};
+ghost use Rattle.record_names.specs.told.Steps.{known, SubstringTold, PieceFits, BaseTold, StepTold, StepsTold, BuiltTold};
 use crate::Extent;
 use characters::Place;
 use characters::find_place;
@@ -86,7 +86,7 @@ fn base_of(string: Piece, index: Indexed, from: usize) -> Base
 // The substring from byte place `first` to `last` of a part's text.
 fn part_of(payload: &[u8], source: u8, start: usize, end: usize, first: u32, last: u32) -> Base
     requires { ⌜ (0 < source) × (source ≤ 2) ⌝ }
-    ensures { λ r. ⌜ PartTold (now (payload .entry)) (substringOf first last) source start end r ⌝ }
+    ensures { λ r. ⌜ StepTold (now (payload .entry)) (substringOf first last) source start end r ⌝ }
 {
     let s = base_part(&*payload, &PREDEFINED, source, start, end);
     let part = substring(s, wide(first), wide(last));
@@ -136,7 +136,7 @@ fn are_scalars(a: u32, b: u32) -> bool
 
 // A part with the replacement and the operation of a record. It is absent if either number is no character.
 fn with_steps(source: u8, start: usize, end: usize, replaced: Two, operation: u64) -> Name
-    ensures { λ r. ⌜ StepsTold source start end (bothOf replaced) operation r ⌝ }
+    ensures { λ r. ⌜ StepsTold source start end (bothNumbers replaced) operation r ⌝ }
 {
     let operation = known(operation);
     match replaced {
@@ -171,7 +171,7 @@ fn with_steps(source: u8, start: usize, end: usize, replaced: Two, operation: u6
 // The part that a record's substring leaves of what its text is made of.
 fn substring_of(payload: &[u8], source: u8, start: usize, end: usize, numbers: Two) -> Base
     requires { ⌜ (0 < source) × (source ≤ 2) ⌝ }
-    ensures { λ r. ⌜ PartTold (now (payload .entry)) (stepped substringOf (bothOf numbers)) source start end r ⌝ }
+    ensures { λ r. ⌜ StepTold (now (payload .entry)) (stepped substringOf (bothNumbers numbers)) source start end r ⌝ }
 {
     match numbers {
         Two::Both { first, second } => part_of(&*payload, source, start, end, first, second),

@@ -1,5 +1,5 @@
 // Declarations read from messages, in the specification's order. The definitions: specs/Types.antt, specs/Members.antt; how the answers
-// tell them: specs/Told.antt.
+// tell them: specs/told/SchemaTold.antt.
 ghost use mathlib.Core.Path.{_≡_};
 use sheet::State;
 use wire::WireError;

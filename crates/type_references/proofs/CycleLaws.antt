@@ -8,22 +8,33 @@ use native.Mathlib.Omega.{arith}
 use lib.ListN.{length, take, drop}
 use lib.Seq.{take-length}
 use Rattle.fields.specs.Fields.{Type·argument}
-use Rattle.messages.specs.Asked.{NextTold}
+use Rattle.messages.specs.told.Asked.{NextBodyTold}
 use Rattle.wire.specs.declared.Piece.{Piece}
 use Rattle.wire.specs.declared.Piece.the-variants as piece
 use Rattle.sheet.specs.declared.State.{State}
 use Rattle.schema.specs.Reading.{kept, allowance}
 use Rattle.schema.specs.Types.{argumentIn, typeAt}
-use Rattle.schema.specs.Told.{Lent, Ready, Spends, WalkedSpends}
-use Rattle.schema.specs.TypesTold.{orNullable, rowsIn, ParseTold}
+use Rattle.schema.specs.told.SchemaTold.{Lent, Ready, Spends, WalkedSpends}
+use Rattle.schema.specs.told.TypesTold.{orNullable, rowsIn, ParseTold}
 use Rattle.schema.specs.declared.Tables.{Tables}
 use Rattle.schema.specs.declared.Stop.{Stop}
 use Rattle.schema.specs.declared.Walked.{Walked}
 use Rattle.schema.specs.declared.Walked.the-variants as walked
 use Rattle.schema.proofs.TypeLaws.{spends-then, ready-after}
 use Rattle.schema.proofs.ParseLaws.{entry-inside}
-use Rattle.type_references.specs.Pending.{argumentRows}
-use Rattle.type_references.specs.ParseTold.{EnteredIs, EnterTold, ArgumentsTold, Fits, asTypes, asBytes, FitsEntry, roomy, nowhere, NestRoom}
+use Rattle.type_references.specs.told.Pending.{argumentRows}
+use Rattle.type_references.specs.told.ParseTold.{
+  EnteredIs,
+  EnterTold,
+  ArgumentsTold,
+  WaitingRoom,
+  asTypes,
+  asBytes,
+  FitsEntry,
+  roomy,
+  nowhere,
+  NestRoom,
+}
 use Rattle.type_references.proofs.PendingLaws.{walked-then}
 use Rattle.type_references.proofs.WalkLaws.{loop-start, loop-end}
 
@@ -74,7 +85,7 @@ module _ {e : Lent} {msg : List ℕ} {base left role : ℕ} {nullable : Bool} {s
       subst (λ (x : Walked). ParseTold e msg base left role nullable s x S S₁ T T₁) (sym q) told
 
   module _ {s₁ : State} (q : w ≡ walked.Done s₁) {less : ℕ} (f : less ≡ left - 1) where
-    entered-fits : {tables : Tables} {bytes room : ℕ} → Fits tables (s .types) bytes room → Fits tables (s₁ .types) bytes room
+    entered-fits : {tables : Tables} {bytes room : ℕ} → WaitingRoom tables (s .types) bytes room → WaitingRoom tables (s₁ .types) bytes room
     entered-fits (asTypes h) = let one = subst (WalkedSpends s) q (n .spends) in asTypes (omega (arith, one .types))
     entered-fits (asBytes z h) = asBytes z h
 
@@ -104,8 +115,8 @@ module _ {e : Lent} {msg : List ℕ} {base left role : ℕ} {nullable : Bool} {s
     }
 
     -- a type with no argument
-    pub parse-alone : {x : Piece} → NextTold base msg Type·argument 0 x → x ≡ piece.Nothing → ParseTold e msg base left role nullable s (walked.Done s₁) S S₁ T T₁
+    pub parse-alone : {x : Piece} → NextBodyTold base msg Type·argument 0 x → x ≡ piece.Nothing → ParseTold e msg base left role nullable s (walked.Done s₁) S S₁ T T₁
     parse-alone {x} t g =
-        let all : NextTold base (take (length msg) msg) Type·argument 0 x = subst (λ (l : List ℕ). NextTold base l Type·argument 0 x) (sym (take-length msg)) t in
+        let all : NextBodyTold base (take (length msg) msg) Type·argument 0 x = subst (λ (l : List ℕ). NextBodyTold base l Type·argument 0 x) (sym (take-length msg)) t in
         let none : ArgumentsTold e msg base less s₁ (walked.Done s₁) S₁ S₁ T₁ T₁ = loop-end (loop-start {nest = []}) all g refl in
         parse-entered none

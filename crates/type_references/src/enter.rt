@@ -1,4 +1,4 @@
-// A type is entered: its row, with how many of its arguments are kept. What is told: specs/ParseTold.antt.
+// A type is entered: its row, with how many of its arguments are kept. What is told: specs/told/ParseTold.antt.
 ghost use mathlib.Core.Path.{_≡_};
 ghost use mathlib.Core.Bool.{false};
 ghost use mathlib.Core.List.{[], _∷_};
@@ -7,13 +7,13 @@ ghost use lib.ListN.{length};
 ghost use Rattle.foundation.specs.Results.{ok, _from_};
 ghost use Rattle.fields.specs.Fields.{Type·argument};
 ghost use Rattle.wire.specs.Wire.{cut, Message};
-ghost use Rattle.messages.specs.Asked.{bodies};
-ghost use Rattle.names.specs.Name.{nameText};
+ghost use Rattle.messages.specs.told.Asked.{bodies};
+ghost use Rattle.names.specs.told.Name.{nameText};
 ghost use Rattle.sheet.specs.Rows.{row};
-ghost use Rattle.sheet.specs.Put.{PutRows};
+ghost use Rattle.sheet.specs.told.Put.{PutRows};
 ghost use Rattle.declaration_rows.specs.Rows.{typeCells};
-ghost use Rattle.schema.specs.Told.{lent, Ready};
-ghost use Rattle.type_references.specs.ParseTold.{CountedTold, EnterTold};
+ghost use Rattle.schema.specs.told.SchemaTold.{lent, Ready};
+ghost use Rattle.type_references.specs.told.ParseTold.{CountedTold, EnterTold};
 use crate::arguments::count_kept;
 use declaration_rows::put_named;
 use fields::TYPE_ARGUMENT;

@@ -1,5 +1,5 @@
 // The wire format: varints and fields in a slice `s` whose first byte has the offset `base` among the decoded bytes. A place in it is
-// `at`. The definitions: specs/Wire.antt; how the answers tell them: specs/Told.antt.
+// `at`. The definitions: specs/Wire.antt; how the answers tell them: specs/told/WireTold.antt.
 ghost use mathlib.Core.Path.{_≡_};
 ghost use mathlib.Core.List.{List};
 ghost use Prim.Native.Nat.{ℕ, _+_, _^_, _≤_, _<_};
@@ -7,7 +7,7 @@ ghost use lib.ListN.{length, take, drop};
 ghost use Rattle.foundation.specs.Results.{Res, Part, Got, got, mapGot};
 ghost use Rattle.foundation.specs.Digits.{number};
 ghost use Rattle.wire.specs.Wire.{groupsFrom, readVarint, readFixed, readValue, readField, varint, body};
-ghost use Rattle.wire.specs.Told.{restOf, numberOf, pieceOf, varintTold, VarintAt, joinedTo, DelimitedTold, DelimitedAt, ValueTold, FieldTold, FieldAt, ShortTold, ShortField, SkipTold};
+ghost use Rattle.wire.specs.told.WireTold.{restOf, valueNumber, pieceOf, varintTold, VarintAt, joinedTo, DelimitedTold, DelimitedAt, ValueTold, FieldTold, FieldAt, ShortTold, ShortField, SkipTold};
 
 // Why a part is refused, with the offset among the decoded bytes that is told.
 pub enum WireError {
@@ -142,7 +142,7 @@ pub enum Piece {
 
 impl WireValue {
     pub fn varint(self) -> Number
-        ensures { λ r. ⌜ r ≡ numberOf self ⌝ }
+        ensures { λ r. ⌜ r ≡ valueNumber self ⌝ }
     {
         match self {
             WireValue::Varint { value } => Number::Value { value },

@@ -1,6 +1,6 @@
 use mathlib.Core.Path.{refl}
 use native.Mathlib.Omega.{arith}
-use Rattle.passes.specs.PassTold.{readingOf}
+use Rattle.passes.specs.told.PassTold.{readingOf}
 use Rattle.metadata.proofs.ReadLaws.{notes-enough, pass-answered, pass-never}
 use borrow.Author.Needs.{needs}
 use Rattle.metadata.proofs.read_medium.Statement.{statement}

@@ -1,7 +1,7 @@
 use mathlib.Core.Path.{_∙_, ap, sym, subst}
 use Rattle.foundation.specs.Results.{mapGot}
 use Rattle.wire.specs.Wire.{body}
-use Rattle.wire.specs.Told.{DelimitedTold, refusal}
+use Rattle.wire.specs.told.WireTold.{DelimitedTold, wireRefused}
 use Rattle.wire.specs.declared.WireError.{WireError}
 use borrow.Author.Needs.{needs}
 use Rattle.wire.proofs.body_value.Statement.{statement}
@@ -24,7 +24,7 @@ error-requires c κs = search needs
 
 -- src/lib.rt:271:9
 returns : tie.Need-returns
-returns c = λ base s p e. ap (mapGot body) (subst (DelimitedTold base s p) (c .before .enum-told .given .1) e) ∙ ap (λ (x : WireError). refusal x) (sym (c .error .ensures _ (c .before .enum-told .given .1)))
+returns c = λ base s p e. ap (mapGot body) (subst (DelimitedTold base s p) (c .before .enum-told .given .1) e) ∙ ap (λ (x : WireError). wireRefused x) (sym (c .error .ensures _ (c .before .enum-told .given .1)))
 
 -- src/lib.rt:267:1
 returns-2 : tie.Need-returns-2

@@ -1,7 +1,7 @@
 use mathlib.Core.Path.{_∙_, ap, sym}
 use Rattle.foundation.specs.Results.{mapGot}
 use Rattle.wire.specs.Wire.{varint}
-use Rattle.wire.specs.Told.{varintTold, refusal}
+use Rattle.wire.specs.told.WireTold.{varintTold, wireRefused}
 use Rattle.wire.specs.declared.WireError.{WireError}
 use borrow.Author.Needs.{needs}
 use Rattle.wire.proofs.varint_value.Statement.{statement}
@@ -24,7 +24,7 @@ error-requires c κs = search needs
 
 -- src/lib.rt:257:9
 returns : tie.Need-returns
-returns c = λ base s p e. ap (mapGot varint) (e ∙ ap (varintTold base s) (c .before .enum-told .given .1)) ∙ ap (λ (x : WireError). refusal x) (sym (c .error .ensures _ (c .before .enum-told .given .1)))
+returns c = λ base s p e. ap (mapGot varint) (e ∙ ap (varintTold base s) (c .before .enum-told .given .1)) ∙ ap (λ (x : WireError). wireRefused x) (sym (c .error .ensures _ (c .before .enum-told .given .1)))
 
 -- src/lib.rt:253:1
 returns-2 : tie.Need-returns-2

@@ -1,7 +1,7 @@
 use mathlib.Core.Path.{ap, sym}
 use Prim.Native.Nat.{_^_}
 use native.Mathlib.Omega.{arith}
-use Rattle.descriptors.specs.PartsTold.{preceded}
+use Rattle.descriptors.specs.told.PartsTold.{preceded}
 use Rattle.descriptors.proofs.JoinLaws.{written-within}
 use borrow.Author.Needs.{needs}
 use Rattle.descriptors.proofs.defaults.preceded.Statement.{statement}

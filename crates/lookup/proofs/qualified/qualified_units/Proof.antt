@@ -1,7 +1,7 @@
 use mathlib.Core.Path.{subst}
 use mathlib.Core.Bool.{true, false}
 use native.Mathlib.Omega.{arith}
-use Rattle.lookup.specs.Qualified.{WrappedTold}
+use Rattle.lookup.specs.told.Qualified.{WrappedTold}
 use Rattle.lookup.proofs.QualifiedLaws.{class-none, class-whole, class-inner}
 use borrow.Author.Needs.{needs}
 use Rattle.lookup.proofs.qualified.qualified_units.Statement.{statement}

@@ -1,7 +1,7 @@
 use mathlib.Core.Path.{subst}
 use native.Mathlib.Omega.{arith}
 use lib.ListN.{length-set}
-use Rattle.lookup.specs.Lookups.{PlaceTold}
+use Rattle.lookup.specs.told.Lookups.{PlaceTold}
 use Rattle.lookup.proofs.ResolveLaws.{one-lost, one-told}
 use borrow.Author.Needs.{needs}
 use Rattle.lookup.proofs.resolve.resolve_one.Statement.{statement}

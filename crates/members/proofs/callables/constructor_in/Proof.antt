@@ -1,5 +1,5 @@
 use native.Mathlib.Omega.{arith}
-use Rattle.schema.specs.Told.{lent}
+use Rattle.schema.specs.told.SchemaTold.{lent}
 use Rattle.schema.specs.declared.Listed.the-variants as listed
 use Rattle.members.specs.declared.signatures.Signed.the-variants as answer
 use Rattle.schema.proofs.AnswerLaws.{refused-by}

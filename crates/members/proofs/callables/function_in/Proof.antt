@@ -1,7 +1,7 @@
 use mathlib.Core.Path.{_∙_}
 use native.Mathlib.Omega.{arith}
 use borrow.Author.Tests.{not-true, not-false}
-use Rattle.schema.specs.Told.{lent}
+use Rattle.schema.specs.told.SchemaTold.{lent}
 use Rattle.schema.specs.declared.Listed.the-variants as listed
 use Rattle.schema.specs.declared.Walked.the-variants as walked
 use Rattle.schema.proofs.AnswerLaws.{refused-by}

@@ -1,5 +1,5 @@
 use mathlib.Core.Path.{subst}
-use Rattle.schema.specs.Told.{WalkedSpends}
+use Rattle.schema.specs.told.SchemaTold.{WalkedSpends}
 use Rattle.members.specs.declared.signatures.Signed.the-variants as answer
 use Rattle.schema.proofs.AnswerLaws.{refused-by}
 use Rattle.schema.proofs.TypeLaws.{ready-after}

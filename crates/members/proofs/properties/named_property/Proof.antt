@@ -1,6 +1,6 @@
 use mathlib.Core.Path.{_∙_}
 use lib.ListN.{length}
-use Rattle.schema.specs.Told.{lent}
+use Rattle.schema.specs.told.SchemaTold.{lent}
 use Rattle.messages.specs.declared.Checked.the-variants as checked
 use Rattle.schema.specs.declared.Walked.the-variants as walked
 use Rattle.schema.proofs.AnswerLaws.{refused-by}

@@ -1,6 +1,6 @@
 use borrow.Author.Tests.{not-true, not-false}
 use mathlib.Core.Path.{_∙_}
-use Rattle.schema.specs.Told.{lent}
+use Rattle.schema.specs.told.SchemaTold.{lent}
 use Rattle.members.specs.declared.signatures.PropertySigned.the-variants as property
 use Rattle.schema.proofs.AnswerLaws.{refused-by}
 use Rattle.members.proofs.PropertyLaws.{property-dropped, property-unsigned, property-named}

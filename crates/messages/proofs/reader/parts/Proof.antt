@@ -1,7 +1,7 @@
 use mathlib.Core.Path.{_∙_, ap, sym}
 use Prim.Native.Nat.{_-_}
 use lib.ListN.{length}
-use Rattle.messages.specs.Reader.{partsOf}
+use Rattle.messages.specs.told.Reader.{partsOf}
 use Rattle.wire.specs.declared.Delimited.{Delimited}
 use Rattle.wire.specs.declared.WireError.{WireError}
 use Rattle.messages.specs.declared.reader.Split.the-variants as split

@@ -46,7 +46,7 @@ use denote.Exit.{yes}
 use denote.Triple.Clauses.{ensured, lasts}
 use Rattle.foundation.specs.Results as Results
 use Rattle.wire.specs.Wire.{readDelimited}
-use Rattle.messages.specs.Reader.{DelimitedRead, partsOf, SplitTold}
+use Rattle.messages.specs.told.Reader.{DelimitedRead, partsOf, SplitTold}
 use Rattle.messages.specs.declared.reader.WireReader.{WireReader}
 use Rattle.wire.specs.declared.Delimited.{Delimited}
 use Rattle.messages.specs.declared.reader.Split.{Split}

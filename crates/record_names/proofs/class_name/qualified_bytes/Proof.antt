@@ -1,7 +1,7 @@
 use mathlib.Core.Path.{subst}
 use native.Mathlib.Omega.{arith}
-use Rattle.names.specs.Name.{predefinedList}
-use Rattle.record_names.specs.ClassNames.{UnwrapTold}
+use Rattle.names.specs.told.Name.{predefinedList}
+use Rattle.record_names.specs.told.ClassNames.{UnwrapTold}
 use Rattle.record_names.proofs.UnwrapLaws.{class-prefixed, class-stays, class-ends, class-cut}
 use borrow.Author.Needs.{needs}
 use Rattle.record_names.proofs.class_name.qualified_bytes.Statement.{statement}

@@ -1,5 +1,5 @@
 use mathlib.Core.Path.{subst}
-use Rattle.record_names.specs.Named.{DecidedBytes}
+use Rattle.record_names.specs.told.Named.{DecidedBytes}
 use Rattle.record_names.proofs.SizedLaws.{clip-made, words-none, name-fits, class-fits, words-some}
 use Rattle.record_names.proofs.sized.words_for.Statement.{statement}
 use Rattle.record_names.proofs.sized.words_for.Tie as tie

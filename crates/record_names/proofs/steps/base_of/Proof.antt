@@ -1,6 +1,6 @@
 use mathlib.Core.Path.{subst}
 use native.Mathlib.Omega.{arith}
-use Rattle.record_names.specs.Steps.{PieceFits}
+use Rattle.record_names.specs.told.Steps.{PieceFits}
 use Rattle.record_names.proofs.PartLaws.{base-string, base-nothing, base-past, base-listed}
 use borrow.Author.Needs.{needs}
 use Rattle.record_names.proofs.steps.base_of.Statement.{statement}

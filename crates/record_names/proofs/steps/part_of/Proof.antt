@@ -1,7 +1,7 @@
 use mathlib.Core.Path.{subst}
 use native.Mathlib.Omega.{arith}
-use Rattle.names.specs.Name.{predefinedList}
-use Rattle.record_names.specs.Steps.{SubstringTold}
+use Rattle.names.specs.told.Name.{predefinedList}
+use Rattle.record_names.specs.told.Steps.{SubstringTold}
 use Rattle.record_names.proofs.PartLaws.{part-none, part-some, part-ends}
 use borrow.Author.Needs.{needs}
 use Rattle.record_names.proofs.steps.part_of.Statement.{statement}

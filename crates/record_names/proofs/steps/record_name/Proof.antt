@@ -1,6 +1,6 @@
 use mathlib.Core.Path.{refl, subst}
 use native.Mathlib.Omega.{arith}
-use Rattle.record_names.specs.Steps.{OfBytes}
+use Rattle.record_names.specs.told.Steps.{OfBytes}
 use Rattle.record_names.proofs.PartLaws.{of-bytes, record-nothing, record-cut, record-built}
 use borrow.Author.Needs.{needs}
 use Rattle.record_names.proofs.steps.record_name.Statement.{statement}

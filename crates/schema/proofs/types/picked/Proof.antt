@@ -1,5 +1,5 @@
 use mathlib.Core.Path.{ap, sym}
-use Rattle.schema.specs.TypesTold.{pickedOf}
+use Rattle.schema.specs.told.TypesTold.{pickedOf}
 use Rattle.schema.specs.declared.Walked.the-variants as walked
 use Rattle.schema.proofs.AnswerLaws.{refused-by}
 use borrow.Author.Needs.{needs}

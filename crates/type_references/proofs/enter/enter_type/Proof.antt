@@ -1,6 +1,6 @@
 use Rattle.schema.proofs.HeadLaws.{head-none}
 use native.Mathlib.Omega.{arith}
-use Rattle.schema.specs.Told.{lent}
+use Rattle.schema.specs.told.SchemaTold.{lent}
 use Rattle.type_references.proofs.EnterLaws.{enter-none, enter-uncut, enter-done}
 use borrow.Author.Needs.{needs}
 use Rattle.type_references.proofs.enter.enter_type.Statement.{statement}

@@ -1,10 +1,10 @@
-use Rattle.schema.specs.Told.{entriesIn, lent}
+use Rattle.schema.specs.told.SchemaTold.{entriesIn, lent}
 use mathlib.Core.Path.{_≡_, refl, sym, subst, _∙_}
 use Prim.Native.Nat.{_+_, _*_, _-_, _^_, _≤_, ℕ, _<_}
 use native.Mathlib.Omega.{arith}
 use lib.ListN.{length}
 use lib.Seq.{length-take-le}
-use Rattle.type_references.specs.ParseTold.{Fits}
+use Rattle.type_references.specs.told.ParseTold.{WaitingRoom}
 use Rattle.schema.proofs.TypeLaws.{resolve-none-left, resolve-nowhere, resolve-found}
 use Rattle.schema.proofs.EntryLaws.{entry-in, entry-below}
 use Rattle.schema.proofs.ParseLaws.{part-inside}
@@ -126,7 +126,7 @@ arguments-at-sub-height t c = pop-some (c .before .before .before .before .befor
 
 -- src/parse.rt:64:17
 arguments-at-waiting-at-requires : (t : ℕ) → arguments-at-lts.Need-waiting-at-requires (arguments-at-calls t) (arguments-at-at t) arguments-at.Post arguments-at-Inv-loop arguments-at-μ-loop
-arguments-at-waiting-at-requires t c κs = pop-room (c .before .before .before .before .before .before .loop .inv .0) (c .before .if1 .left) (subst (λ (n : ℕ). Fits (c .before .before .before .before .before .before .before .before .before .before .before .before .before .before .before .args .tables) (c .before .before .before .before .before .before .before .before .before .before .before .before .before .before .before .args .state .types) (length (c .before .before .before .before .before .before .before .before .before .before .before .before .before .before .before .args .msg .now)) n) (sym (c .before .before .before .before .before .before .loop .inv .1)) (c .before .before .before .before .before .before .before .before .before .before .before .before .before .before .before .pre .1 .room))
+arguments-at-waiting-at-requires t c κs = pop-room (c .before .before .before .before .before .before .loop .inv .0) (c .before .if1 .left) (subst (λ (n : ℕ). WaitingRoom (c .before .before .before .before .before .before .before .before .before .before .before .before .before .before .before .args .tables) (c .before .before .before .before .before .before .before .before .before .before .before .before .before .before .before .args .state .types) (length (c .before .before .before .before .before .before .before .before .before .before .before .before .before .before .before .args .msg .now)) n) (sym (c .before .before .before .before .before .before .loop .inv .1)) (c .before .before .before .before .before .before .before .before .before .before .before .before .before .before .before .pre .1 .room))
 
 -- src/parse.rt:53:5
 arguments-at-loop-less : (t : ℕ) → arguments-at-lts.Need-loop-less (arguments-at-calls t) (arguments-at-at t) arguments-at.Post arguments-at-Inv-loop arguments-at-μ-loop
@@ -194,7 +194,7 @@ arguments-at-returns-2 t c = loop-unentered (c .before .before .before .before .
 
 -- src/parse.rt:99:17
 arguments-at-push-requires : (t : ℕ) → arguments-at-lts.Need-push-requires (arguments-at-calls t) (arguments-at-at t) arguments-at.Post arguments-at-Inv-loop arguments-at-μ-loop
-arguments-at-push-requires t c κs = let h = body-in (c .before .before .before .before .before .before .before .before .before .before .before .before .before .before .before .before .before .before .before .before .before .loop .inv .0) (c .before .before .before .before .before .before .before .before .before .before .before .before .before .before .before .before .before .before .before .next-body .ensures) (c .before .before .before .before .before .before .before .before .before .before .before .before .before .before .before .before .before .piece .given .1) in ((push-room (c .before .before .before .before .before .before .before .before .before .before .before .before .before .before .before .before .before .before .before .before .before .loop .inv .0) (c .before .before .before .before .before .before .before .before .before .before .before .before .before .before .before .before .before .before .before .next-body .ensures) (c .before .before .before .before .before .before .before .before .before .before .before .before .before .before .before .before .before .piece .given .1) (c .before .before .before .before .before .before .before .before .before .before .before .before .before .before .before .argument-at .ensures) (c .before .before .before .before .before .before .before .before .before .before .before .before .before .argument .given .1) (c .before .before .before .before .before .before .before .before .enter-type .ensures) (c .before .before .entered .given .1) (subst (λ (n : ℕ). Fits (c .before .before .before .before .before .before .before .before .before .before .before .before .before .before .before .before .before .before .before .before .before .before .before .before .before .before .before .before .before .before .args .tables) (c .before .before .before .before .before .before .before .before .before .before .before .before .before .before .before .before .before .before .before .before .before .before .before .before .before .before .before .before .before .before .args .state .types) (length (c .before .before .before .before .before .before .before .before .before .before .before .before .before .before .before .before .before .before .before .before .before .before .before .before .before .before .before .before .before .before .args .msg .now)) n) (sym (c .before .before .before .before .before .before .before .before .before .before .before .before .before .before .before .before .before .before .before .before .before .loop .inv .1)) (c .before .before .before .before .before .before .before .before .before .before .before .before .before .before .before .before .before .before .before .before .before .before .before .before .before .before .before .before .before .before .pre .1 .room))), omega (arith, c .before .before .before .before .before .before .before .before .before .before .before .before .before .before .before .before .before .before .before .before .before .before .before .before .before .before .before .before .before .before .pre .1 .inside, c .before .before .before .before .before .before .before .before .before .before .before .before .before .before .before .before .before .before .before .before .before .before .before .before .before .before .before .before .before .before .pre .1 .ready .payload-short), omega (arith, (c .before .before .before .before .before .before .before .before .before .before .before .before .before .before .before .before .before .before .before .before .before .loop .inv .0) .short, c .before .before .before .before .before .before .before .before .before .before .before .before .before .before .before .before .before .before .before .before .before .before .before .before .before .before .before .before .before .before .pre .1 .inside, c .before .before .before .before .before .before .before .before .before .before .before .before .before .before .before .before .before .before .before .before .before .before .before .before .before .before .before .before .before .before .pre .1 .ready .payload-short), omega (arith, (c .before .before .before .before .before .before .before .before .before .before .before .before .before .before .before .before .before .before .before .before .before .loop .inv .0) .shallow, c .before .before .before .before .before .before .before .before .before .before .before .before .before .before .before .before .before .before .before .before .before .before .before .before .before .before .before .before .before .before .pre .1 .deep))
+arguments-at-push-requires t c κs = let h = body-in (c .before .before .before .before .before .before .before .before .before .before .before .before .before .before .before .before .before .before .before .before .before .loop .inv .0) (c .before .before .before .before .before .before .before .before .before .before .before .before .before .before .before .before .before .before .before .next-body .ensures) (c .before .before .before .before .before .before .before .before .before .before .before .before .before .before .before .before .before .piece .given .1) in ((push-room (c .before .before .before .before .before .before .before .before .before .before .before .before .before .before .before .before .before .before .before .before .before .loop .inv .0) (c .before .before .before .before .before .before .before .before .before .before .before .before .before .before .before .before .before .before .before .next-body .ensures) (c .before .before .before .before .before .before .before .before .before .before .before .before .before .before .before .before .before .piece .given .1) (c .before .before .before .before .before .before .before .before .before .before .before .before .before .before .before .argument-at .ensures) (c .before .before .before .before .before .before .before .before .before .before .before .before .before .argument .given .1) (c .before .before .before .before .before .before .before .before .enter-type .ensures) (c .before .before .entered .given .1) (subst (λ (n : ℕ). WaitingRoom (c .before .before .before .before .before .before .before .before .before .before .before .before .before .before .before .before .before .before .before .before .before .before .before .before .before .before .before .before .before .before .args .tables) (c .before .before .before .before .before .before .before .before .before .before .before .before .before .before .before .before .before .before .before .before .before .before .before .before .before .before .before .before .before .before .args .state .types) (length (c .before .before .before .before .before .before .before .before .before .before .before .before .before .before .before .before .before .before .before .before .before .before .before .before .before .before .before .before .before .before .args .msg .now)) n) (sym (c .before .before .before .before .before .before .before .before .before .before .before .before .before .before .before .before .before .before .before .before .before .loop .inv .1)) (c .before .before .before .before .before .before .before .before .before .before .before .before .before .before .before .before .before .before .before .before .before .before .before .before .before .before .before .before .before .before .pre .1 .room))), omega (arith, c .before .before .before .before .before .before .before .before .before .before .before .before .before .before .before .before .before .before .before .before .before .before .before .before .before .before .before .before .before .before .pre .1 .inside, c .before .before .before .before .before .before .before .before .before .before .before .before .before .before .before .before .before .before .before .before .before .before .before .before .before .before .before .before .before .before .pre .1 .ready .payload-short), omega (arith, (c .before .before .before .before .before .before .before .before .before .before .before .before .before .before .before .before .before .before .before .before .before .loop .inv .0) .short, c .before .before .before .before .before .before .before .before .before .before .before .before .before .before .before .before .before .before .before .before .before .before .before .before .before .before .before .before .before .before .pre .1 .inside, c .before .before .before .before .before .before .before .before .before .before .before .before .before .before .before .before .before .before .before .before .before .before .before .before .before .before .before .before .before .before .pre .1 .ready .payload-short), omega (arith, (c .before .before .before .before .before .before .before .before .before .before .before .before .before .before .before .before .before .before .before .before .before .loop .inv .0) .shallow, c .before .before .before .before .before .before .before .before .before .before .before .before .before .before .before .before .before .before .before .before .before .before .before .before .before .before .before .before .before .before .pre .1 .deep))
 
 -- src/parse.rt:100:17
 arguments-at-add-height : (t : ℕ) → arguments-at-lts.Need-add-height (arguments-at-calls t) (arguments-at-at t) arguments-at.Post arguments-at-Inv-loop arguments-at-μ-loop
@@ -206,11 +206,11 @@ arguments-at-less-requires t c κs = search needs
 
 -- src/parse.rt:53:5
 arguments-at-loop-less-2 : (t : ℕ) → arguments-at-lts.Need-loop-less-2 (arguments-at-calls t) (arguments-at-at t) arguments-at.Post arguments-at-Inv-loop arguments-at-μ-loop
-arguments-at-loop-less-2 t c = entered-falls (c .before .before .before .before .before .before .before .before .before .before .before .before .before .before .before .before .before .before .before .before .before .before .before .before .before .loop .inv .0) (c .before .before .before .before .before .before .before .before .before .before .before .before .before .before .before .before .before .before .before .before .before .before .before .next-body .ensures) (c .before .before .before .before .before .before .before .before .before .before .before .before .before .before .before .before .before .before .before .before .before .piece .given .1) (c .before .before .before .before .before .before .before .before .before .before .before .before .before .before .before .before .before .before .before .argument-at .ensures) (c .before .before .before .before .before .before .before .before .before .before .before .before .before .before .before .before .before .argument .given .1) (c .before .before .before .before .before .before .before .before .before .before .before .before .enter-type .ensures) (c .before .before .before .before .before .before .entered .given .1) (omega (arith, c .before .before .before .before .before .before .before .before .before .before .before .before .before .before .before .before .before .before .before .before .before .before .before .before .before .before .before .before .before .before .before .before .before .before .pre .1 .inside, c .before .before .before .before .before .before .before .before .before .before .before .before .before .before .before .before .before .before .before .before .before .before .before .before .before .before .before .before .before .before .before .before .before .before .pre .1 .ready .payload-short)) (push-room (c .before .before .before .before .before .before .before .before .before .before .before .before .before .before .before .before .before .before .before .before .before .before .before .before .before .loop .inv .0) (c .before .before .before .before .before .before .before .before .before .before .before .before .before .before .before .before .before .before .before .before .before .before .before .next-body .ensures) (c .before .before .before .before .before .before .before .before .before .before .before .before .before .before .before .before .before .before .before .before .before .piece .given .1) (c .before .before .before .before .before .before .before .before .before .before .before .before .before .before .before .before .before .before .before .argument-at .ensures) (c .before .before .before .before .before .before .before .before .before .before .before .before .before .before .before .before .before .argument .given .1) (c .before .before .before .before .before .before .before .before .before .before .before .before .enter-type .ensures) (c .before .before .before .before .before .before .entered .given .1) (subst (λ (n : ℕ). Fits (c .before .before .before .before .before .before .before .before .before .before .before .before .before .before .before .before .before .before .before .before .before .before .before .before .before .before .before .before .before .before .before .before .before .before .args .tables) (c .before .before .before .before .before .before .before .before .before .before .before .before .before .before .before .before .before .before .before .before .before .before .before .before .before .before .before .before .before .before .before .before .before .before .args .state .types) (length (c .before .before .before .before .before .before .before .before .before .before .before .before .before .before .before .before .before .before .before .before .before .before .before .before .before .before .before .before .before .before .before .before .before .before .args .msg .now)) n) (sym (c .before .before .before .before .before .before .before .before .before .before .before .before .before .before .before .before .before .before .before .before .before .before .before .before .before .loop .inv .1)) (c .before .before .before .before .before .before .before .before .before .before .before .before .before .before .before .before .before .before .before .before .before .before .before .before .before .before .before .before .before .before .before .before .before .before .pre .1 .room))) (c .before .before .before .push .ensures)
+arguments-at-loop-less-2 t c = entered-falls (c .before .before .before .before .before .before .before .before .before .before .before .before .before .before .before .before .before .before .before .before .before .before .before .before .before .loop .inv .0) (c .before .before .before .before .before .before .before .before .before .before .before .before .before .before .before .before .before .before .before .before .before .before .before .next-body .ensures) (c .before .before .before .before .before .before .before .before .before .before .before .before .before .before .before .before .before .before .before .before .before .piece .given .1) (c .before .before .before .before .before .before .before .before .before .before .before .before .before .before .before .before .before .before .before .argument-at .ensures) (c .before .before .before .before .before .before .before .before .before .before .before .before .before .before .before .before .before .argument .given .1) (c .before .before .before .before .before .before .before .before .before .before .before .before .enter-type .ensures) (c .before .before .before .before .before .before .entered .given .1) (omega (arith, c .before .before .before .before .before .before .before .before .before .before .before .before .before .before .before .before .before .before .before .before .before .before .before .before .before .before .before .before .before .before .before .before .before .before .pre .1 .inside, c .before .before .before .before .before .before .before .before .before .before .before .before .before .before .before .before .before .before .before .before .before .before .before .before .before .before .before .before .before .before .before .before .before .before .pre .1 .ready .payload-short)) (push-room (c .before .before .before .before .before .before .before .before .before .before .before .before .before .before .before .before .before .before .before .before .before .before .before .before .before .loop .inv .0) (c .before .before .before .before .before .before .before .before .before .before .before .before .before .before .before .before .before .before .before .before .before .before .before .next-body .ensures) (c .before .before .before .before .before .before .before .before .before .before .before .before .before .before .before .before .before .before .before .before .before .piece .given .1) (c .before .before .before .before .before .before .before .before .before .before .before .before .before .before .before .before .before .before .before .argument-at .ensures) (c .before .before .before .before .before .before .before .before .before .before .before .before .before .before .before .before .before .argument .given .1) (c .before .before .before .before .before .before .before .before .before .before .before .before .enter-type .ensures) (c .before .before .before .before .before .before .entered .given .1) (subst (λ (n : ℕ). WaitingRoom (c .before .before .before .before .before .before .before .before .before .before .before .before .before .before .before .before .before .before .before .before .before .before .before .before .before .before .before .before .before .before .before .before .before .before .args .tables) (c .before .before .before .before .before .before .before .before .before .before .before .before .before .before .before .before .before .before .before .before .before .before .before .before .before .before .before .before .before .before .before .before .before .before .args .state .types) (length (c .before .before .before .before .before .before .before .before .before .before .before .before .before .before .before .before .before .before .before .before .before .before .before .before .before .before .before .before .before .before .before .before .before .before .args .msg .now)) n) (sym (c .before .before .before .before .before .before .before .before .before .before .before .before .before .before .before .before .before .before .before .before .before .before .before .before .before .loop .inv .1)) (c .before .before .before .before .before .before .before .before .before .before .before .before .before .before .before .before .before .before .before .before .before .before .before .before .before .before .before .before .before .before .before .before .before .before .pre .1 .room))) (c .before .before .before .push .ensures)
 
 -- src/parse.rt:53:5
 arguments-at-loop-again-2 : (t : ℕ) → arguments-at-lts.Need-loop-again-2 (arguments-at-calls t) (arguments-at-at t) arguments-at.Post arguments-at-Inv-loop arguments-at-μ-loop
-arguments-at-loop-again-2 t c = (loop-entered (c .before .before .before .before .before .before .before .before .before .before .before .before .before .before .before .before .before .before .before .before .before .before .before .before .before .loop .inv .0) (c .before .before .before .before .before .before .before .before .before .before .before .before .before .before .before .before .before .before .before .before .before .before .before .next-body .ensures) (c .before .before .before .before .before .before .before .before .before .before .before .before .before .before .before .before .before .before .before .before .before .piece .given .1) (c .before .before .before .before .before .before .before .before .before .before .before .before .before .before .before .before .before .before .before .argument-at .ensures) (c .before .before .before .before .before .before .before .before .before .before .before .before .before .before .before .before .before .argument .given .1) (c .before .before .before .before .before .before .before .before .before .before .before .before .enter-type .ensures) (c .before .before .before .before .before .before .entered .given .1) (omega (arith, c .before .before .before .before .before .before .before .before .before .before .before .before .before .before .before .before .before .before .before .before .before .before .before .before .before .before .before .before .before .before .before .before .before .before .pre .1 .inside, c .before .before .before .before .before .before .before .before .before .before .before .before .before .before .before .before .before .before .before .before .before .before .before .before .before .before .before .before .before .before .before .before .before .before .pre .1 .ready .payload-short)) (push-room (c .before .before .before .before .before .before .before .before .before .before .before .before .before .before .before .before .before .before .before .before .before .before .before .before .before .loop .inv .0) (c .before .before .before .before .before .before .before .before .before .before .before .before .before .before .before .before .before .before .before .before .before .before .before .next-body .ensures) (c .before .before .before .before .before .before .before .before .before .before .before .before .before .before .before .before .before .before .before .before .before .piece .given .1) (c .before .before .before .before .before .before .before .before .before .before .before .before .before .before .before .before .before .before .before .argument-at .ensures) (c .before .before .before .before .before .before .before .before .before .before .before .before .before .before .before .before .before .argument .given .1) (c .before .before .before .before .before .before .before .before .before .before .before .before .enter-type .ensures) (c .before .before .before .before .before .before .entered .given .1) (subst (λ (n : ℕ). Fits (c .before .before .before .before .before .before .before .before .before .before .before .before .before .before .before .before .before .before .before .before .before .before .before .before .before .before .before .before .before .before .before .before .before .before .args .tables) (c .before .before .before .before .before .before .before .before .before .before .before .before .before .before .before .before .before .before .before .before .before .before .before .before .before .before .before .before .before .before .before .before .before .before .args .state .types) (length (c .before .before .before .before .before .before .before .before .before .before .before .before .before .before .before .before .before .before .before .before .before .before .before .before .before .before .before .before .before .before .before .before .before .before .args .msg .now)) n) (sym (c .before .before .before .before .before .before .before .before .before .before .before .before .before .before .before .before .before .before .before .before .before .before .before .before .before .loop .inv .1)) (c .before .before .before .before .before .before .before .before .before .before .before .before .before .before .before .before .before .before .before .before .before .before .before .before .before .before .before .before .before .before .before .before .before .before .pre .1 .room))) (c .before .before .before .push .ensures) (c .less .ensures), c .before .before .before .push .kept .0 ∙ c .before .before .before .before .before .before .before .before .before .before .before .before .before .before .before .before .before .before .before .before .before .before .before .before .before .loop .inv .1, c .before .before .before .before .before .before .before .before .before .before .before .before .enter-type .kept .1 .1 .1 .1 .1 .1 .1 .1 .1 .0 ∙ c .before .before .before .before .before .before .before .before .before .before .before .before .before .before .before .before .before .before .before .before .before .before .before .before .before .loop .inv .2, c .before .before .before .before .before .before .before .before .before .before .before .before .enter-type .kept .1 .1 .1 .1 .1 .1 .1 .1 .1 .1 .0 ∙ c .before .before .before .before .before .before .before .before .before .before .before .before .before .before .before .before .before .before .before .before .before .before .before .before .before .loop .inv .3)
+arguments-at-loop-again-2 t c = (loop-entered (c .before .before .before .before .before .before .before .before .before .before .before .before .before .before .before .before .before .before .before .before .before .before .before .before .before .loop .inv .0) (c .before .before .before .before .before .before .before .before .before .before .before .before .before .before .before .before .before .before .before .before .before .before .before .next-body .ensures) (c .before .before .before .before .before .before .before .before .before .before .before .before .before .before .before .before .before .before .before .before .before .piece .given .1) (c .before .before .before .before .before .before .before .before .before .before .before .before .before .before .before .before .before .before .before .argument-at .ensures) (c .before .before .before .before .before .before .before .before .before .before .before .before .before .before .before .before .before .argument .given .1) (c .before .before .before .before .before .before .before .before .before .before .before .before .enter-type .ensures) (c .before .before .before .before .before .before .entered .given .1) (omega (arith, c .before .before .before .before .before .before .before .before .before .before .before .before .before .before .before .before .before .before .before .before .before .before .before .before .before .before .before .before .before .before .before .before .before .before .pre .1 .inside, c .before .before .before .before .before .before .before .before .before .before .before .before .before .before .before .before .before .before .before .before .before .before .before .before .before .before .before .before .before .before .before .before .before .before .pre .1 .ready .payload-short)) (push-room (c .before .before .before .before .before .before .before .before .before .before .before .before .before .before .before .before .before .before .before .before .before .before .before .before .before .loop .inv .0) (c .before .before .before .before .before .before .before .before .before .before .before .before .before .before .before .before .before .before .before .before .before .before .before .next-body .ensures) (c .before .before .before .before .before .before .before .before .before .before .before .before .before .before .before .before .before .before .before .before .before .piece .given .1) (c .before .before .before .before .before .before .before .before .before .before .before .before .before .before .before .before .before .before .before .argument-at .ensures) (c .before .before .before .before .before .before .before .before .before .before .before .before .before .before .before .before .before .argument .given .1) (c .before .before .before .before .before .before .before .before .before .before .before .before .enter-type .ensures) (c .before .before .before .before .before .before .entered .given .1) (subst (λ (n : ℕ). WaitingRoom (c .before .before .before .before .before .before .before .before .before .before .before .before .before .before .before .before .before .before .before .before .before .before .before .before .before .before .before .before .before .before .before .before .before .before .args .tables) (c .before .before .before .before .before .before .before .before .before .before .before .before .before .before .before .before .before .before .before .before .before .before .before .before .before .before .before .before .before .before .before .before .before .before .args .state .types) (length (c .before .before .before .before .before .before .before .before .before .before .before .before .before .before .before .before .before .before .before .before .before .before .before .before .before .before .before .before .before .before .before .before .before .before .args .msg .now)) n) (sym (c .before .before .before .before .before .before .before .before .before .before .before .before .before .before .before .before .before .before .before .before .before .before .before .before .before .loop .inv .1)) (c .before .before .before .before .before .before .before .before .before .before .before .before .before .before .before .before .before .before .before .before .before .before .before .before .before .before .before .before .before .before .before .before .before .before .pre .1 .room))) (c .before .before .before .push .ensures) (c .less .ensures), c .before .before .before .push .kept .0 ∙ c .before .before .before .before .before .before .before .before .before .before .before .before .before .before .before .before .before .before .before .before .before .before .before .before .before .loop .inv .1, c .before .before .before .before .before .before .before .before .before .before .before .before .enter-type .kept .1 .1 .1 .1 .1 .1 .1 .1 .1 .0 ∙ c .before .before .before .before .before .before .before .before .before .before .before .before .before .before .before .before .before .before .before .before .before .before .before .before .before .loop .inv .2, c .before .before .before .before .before .before .before .before .before .before .before .before .enter-type .kept .1 .1 .1 .1 .1 .1 .1 .1 .1 .1 .0 ∙ c .before .before .before .before .before .before .before .before .before .before .before .before .before .before .before .before .before .before .before .before .before .before .before .before .before .loop .inv .3)
 
 -- src/parse.rt:105:33
 arguments-at-enum-known-argument-2 : (t : ℕ) → arguments-at-lts.Need-enum-known-argument-2 (arguments-at-calls t) (arguments-at-at t) arguments-at.Post arguments-at-Inv-loop arguments-at-μ-loop
@@ -222,11 +222,11 @@ arguments-at-mul-resolve-at t c = let h : c .before .before .before .before .bef
 
 -- src/parse.rt:116:21
 arguments-at-sub-resolve-at : (t : ℕ) → arguments-at-lts.Need-sub-resolve-at (arguments-at-calls t) (arguments-at-at t) arguments-at.Post arguments-at-Inv-loop arguments-at-μ-loop
-arguments-at-sub-resolve-at t c = loop-height (c .before .before .before .before .before .before .before .before .before .loop .inv .0) (subst (λ (n : ℕ). Fits (c .before .before .before .before .before .before .before .before .before .before .before .before .before .before .before .before .before .before .args .tables) (c .before .before .before .before .before .before .before .before .before .before .before .before .before .before .before .before .before .before .args .state .types) (length (c .before .before .before .before .before .before .before .before .before .before .before .before .before .before .before .before .before .before .args .msg .now)) n) (sym (c .before .before .before .before .before .before .before .before .before .loop .inv .1)) (c .before .before .before .before .before .before .before .before .before .before .before .before .before .before .before .before .before .before .pre .1 .room))
+arguments-at-sub-resolve-at t c = loop-height (c .before .before .before .before .before .before .before .before .before .loop .inv .0) (subst (λ (n : ℕ). WaitingRoom (c .before .before .before .before .before .before .before .before .before .before .before .before .before .before .before .before .before .before .args .tables) (c .before .before .before .before .before .before .before .before .before .before .before .before .before .before .before .before .before .before .args .state .types) (length (c .before .before .before .before .before .before .before .before .before .before .before .before .before .before .before .before .before .before .args .msg .now)) n) (sym (c .before .before .before .before .before .before .before .before .before .loop .inv .1)) (c .before .before .before .before .before .before .before .before .before .before .before .before .before .before .before .before .before .before .pre .1 .room))
 
 -- src/parse.rt:116:21
 arguments-at-part-resolve-at-start : (t : ℕ) → arguments-at-lts.Need-part-resolve-at-start (arguments-at-calls t) (arguments-at-at t) arguments-at.Post arguments-at-Inv-loop arguments-at-μ-loop
-arguments-at-part-resolve-at-start t c = loop-height (c .before .before .before .before .before .before .before .before .before .loop .inv .0) (subst (λ (n : ℕ). Fits (c .before .before .before .before .before .before .before .before .before .before .before .before .before .before .before .before .before .before .args .tables) (c .before .before .before .before .before .before .before .before .before .before .before .before .before .before .before .before .before .before .args .state .types) (length (c .before .before .before .before .before .before .before .before .before .before .before .before .before .before .before .before .before .before .args .msg .now)) n) (sym (c .before .before .before .before .before .before .before .before .before .loop .inv .1)) (c .before .before .before .before .before .before .before .before .before .before .before .before .before .before .before .before .before .before .pre .1 .room))
+arguments-at-part-resolve-at-start t c = loop-height (c .before .before .before .before .before .before .before .before .before .loop .inv .0) (subst (λ (n : ℕ). WaitingRoom (c .before .before .before .before .before .before .before .before .before .before .before .before .before .before .before .before .before .before .args .tables) (c .before .before .before .before .before .before .before .before .before .before .before .before .before .before .before .before .before .before .args .state .types) (length (c .before .before .before .before .before .before .before .before .before .before .before .before .before .before .before .before .before .before .args .msg .now)) n) (sym (c .before .before .before .before .before .before .before .before .before .loop .inv .1)) (c .before .before .before .before .before .before .before .before .before .before .before .before .before .before .before .before .before .before .pre .1 .room))
 
 -- src/parse.rt:116:21
 arguments-at-part-resolve-at-end : (t : ℕ) → arguments-at-lts.Need-part-resolve-at-end (arguments-at-calls t) (arguments-at-at t) arguments-at.Post arguments-at-Inv-loop arguments-at-μ-loop
@@ -234,7 +234,7 @@ arguments-at-part-resolve-at-end t c = search needs
 
 -- src/parse.rt:106:21
 arguments-at-resolve-at-requires : (t : ℕ) → arguments-at-lts.Need-resolve-at-requires (arguments-at-calls t) (arguments-at-at t) arguments-at.Post arguments-at-Inv-loop arguments-at-μ-loop
-arguments-at-resolve-at-requires t c κs = (falls-look-up (c .before .before .before .before .before .before .before .before .before .before .before .before .before .before .before .before .before .before .before .before .before .args .left) (length (c .before .before .before .before .before .before .before .before .before .before .before .before .before .before .before .before .before .before .before .before .before .args .msg .now)) (c .before .before .before .before .before .before .before .before .before .before .before .before .before .before .before .before .before .before .before .before .before .pre .0) ((c .before .before .before .before .before .before .before .before .before .before .before .before .loop .inv .0) .shallow), (loop-ready (c .before .before .before .before .before .before .before .before .before .before .before .before .loop .inv .0) (c .before .before .before .before .before .before .before .before .before .before .before .before .before .before .before .before .before .before .before .before .before .pre .1 .ready), omega (arith, (c .before .before .before .before .before .before .before .before .before .before .before .before .loop .inv .0) .shallow, c .before .before .before .before .before .before .before .before .before .before .before .before .before .before .before .before .before .before .before .before .before .pre .1 .deep), loop-room (c .before .before .before .before .before .before .before .before .before .before .before .before .loop .inv .0) (subst (λ (n : ℕ). Fits (c .before .before .before .before .before .before .before .before .before .before .before .before .before .before .before .before .before .before .before .before .before .args .tables) (c .before .before .before .before .before .before .before .before .before .before .before .before .before .before .before .before .before .before .before .before .before .args .state .types) (length (c .before .before .before .before .before .before .before .before .before .before .before .before .before .before .before .before .before .before .before .before .before .args .msg .now)) n) (sym (c .before .before .before .before .before .before .before .before .before .before .before .before .loop .inv .1)) (c .before .before .before .before .before .before .before .before .before .before .before .before .before .before .before .before .before .before .before .before .before .pre .1 .room))))
+arguments-at-resolve-at-requires t c κs = (falls-look-up (c .before .before .before .before .before .before .before .before .before .before .before .before .before .before .before .before .before .before .before .before .before .args .left) (length (c .before .before .before .before .before .before .before .before .before .before .before .before .before .before .before .before .before .before .before .before .before .args .msg .now)) (c .before .before .before .before .before .before .before .before .before .before .before .before .before .before .before .before .before .before .before .before .before .pre .0) ((c .before .before .before .before .before .before .before .before .before .before .before .before .loop .inv .0) .shallow), (loop-ready (c .before .before .before .before .before .before .before .before .before .before .before .before .loop .inv .0) (c .before .before .before .before .before .before .before .before .before .before .before .before .before .before .before .before .before .before .before .before .before .pre .1 .ready), omega (arith, (c .before .before .before .before .before .before .before .before .before .before .before .before .loop .inv .0) .shallow, c .before .before .before .before .before .before .before .before .before .before .before .before .before .before .before .before .before .before .before .before .before .pre .1 .deep), loop-room (c .before .before .before .before .before .before .before .before .before .before .before .before .loop .inv .0) (subst (λ (n : ℕ). WaitingRoom (c .before .before .before .before .before .before .before .before .before .before .before .before .before .before .before .before .before .before .before .before .before .args .tables) (c .before .before .before .before .before .before .before .before .before .before .before .before .before .before .before .before .before .before .before .before .before .args .state .types) (length (c .before .before .before .before .before .before .before .before .before .before .before .before .before .before .before .before .before .before .before .before .before .args .msg .now)) n) (sym (c .before .before .before .before .before .before .before .before .before .before .before .before .loop .inv .1)) (c .before .before .before .before .before .before .before .before .before .before .before .before .before .before .before .before .before .before .before .before .before .pre .1 .room))))
 
 -- src/parse.rt:121:43
 arguments-at-enum-known-found : (t : ℕ) → arguments-at-lts.Need-enum-known-found (arguments-at-calls t) (arguments-at-at t) arguments-at.Post arguments-at-Inv-loop arguments-at-μ-loop
@@ -242,22 +242,22 @@ arguments-at-enum-known-found t c = search needs
 
 -- src/parse.rt:53:5
 arguments-at-loop-less-3 : (t : ℕ) → arguments-at-lts.Need-loop-less-3 (arguments-at-calls t) (arguments-at-at t) arguments-at.Post arguments-at-Inv-loop arguments-at-μ-loop
-arguments-at-loop-less-3 t c = passed-falls (c .before .before .before .before .before .before .before .before .before .before .before .before .before .before .before .before .before .before .before .before .before .before .loop .inv .0) (c .before .before .before .before .before .before .before .before .before .before .before .before .before .before .before .before .before .before .before .before .next-body .ensures) (c .before .before .before .before .before .before .before .before .before .before .before .before .before .before .before .before .before .before .piece .given .1) _ (waits-kept (c .before .before .before .before .before .before .before .before .before .before .before .before .before .before .before .before .before .before .before .before .before .before .loop .inv .0) (subst (λ (n : ℕ). Fits (c .before .before .before .before .before .before .before .before .before .before .before .before .before .before .before .before .before .before .before .before .before .before .before .before .before .before .before .before .before .before .before .args .tables) (c .before .before .before .before .before .before .before .before .before .before .before .before .before .before .before .before .before .before .before .before .before .before .before .before .before .before .before .before .before .before .before .args .state .types) (length (c .before .before .before .before .before .before .before .before .before .before .before .before .before .before .before .before .before .before .before .before .before .before .before .before .before .before .before .before .before .before .before .args .msg .now)) n) (sym (c .before .before .before .before .before .before .before .before .before .before .before .before .before .before .before .before .before .before .before .before .before .before .loop .inv .1)) (c .before .before .before .before .before .before .before .before .before .before .before .before .before .before .before .before .before .before .before .before .before .before .before .before .before .before .before .before .before .before .before .pre .1 .room)) (c .before .before .before .before .before .before .before .before .before .resolve-at .last .1 .1 .1 .1 .1 .1 .1 .1 .1 .0))
+arguments-at-loop-less-3 t c = passed-falls (c .before .before .before .before .before .before .before .before .before .before .before .before .before .before .before .before .before .before .before .before .before .before .loop .inv .0) (c .before .before .before .before .before .before .before .before .before .before .before .before .before .before .before .before .before .before .before .before .next-body .ensures) (c .before .before .before .before .before .before .before .before .before .before .before .before .before .before .before .before .before .before .piece .given .1) _ (waits-kept (c .before .before .before .before .before .before .before .before .before .before .before .before .before .before .before .before .before .before .before .before .before .before .loop .inv .0) (subst (λ (n : ℕ). WaitingRoom (c .before .before .before .before .before .before .before .before .before .before .before .before .before .before .before .before .before .before .before .before .before .before .before .before .before .before .before .before .before .before .before .args .tables) (c .before .before .before .before .before .before .before .before .before .before .before .before .before .before .before .before .before .before .before .before .before .before .before .before .before .before .before .before .before .before .before .args .state .types) (length (c .before .before .before .before .before .before .before .before .before .before .before .before .before .before .before .before .before .before .before .before .before .before .before .before .before .before .before .before .before .before .before .args .msg .now)) n) (sym (c .before .before .before .before .before .before .before .before .before .before .before .before .before .before .before .before .before .before .before .before .before .before .loop .inv .1)) (c .before .before .before .before .before .before .before .before .before .before .before .before .before .before .before .before .before .before .before .before .before .before .before .before .before .before .before .before .before .before .before .pre .1 .room)) (c .before .before .before .before .before .before .before .before .before .resolve-at .last .1 .1 .1 .1 .1 .1 .1 .1 .1 .0))
 
 -- src/parse.rt:53:5
 arguments-at-loop-again-3 : (t : ℕ) → arguments-at-lts.Need-loop-again-3 (arguments-at-calls t) (arguments-at-at t) arguments-at.Post arguments-at-Inv-loop arguments-at-μ-loop
-arguments-at-loop-again-3 t c = (loop-kept (c .before .before .before .before .before .before .before .before .before .before .before .before .before .before .before .before .before .before .before .before .before .before .loop .inv .0) (c .before .before .before .before .before .before .before .before .before .before .before .before .before .before .before .before .before .before .before .before .next-body .ensures) (c .before .before .before .before .before .before .before .before .before .before .before .before .before .before .before .before .before .before .piece .given .1) (c .before .before .before .before .before .before .before .before .before .before .before .before .before .before .before .before .argument-at .ensures) (c .before .before .before .before .before .before .before .before .before .before .before .before .before .before .argument2 .given .1) (c .before .before .before .before .before .before .before .before .before .resolve-at .ensures) (waits-kept (c .before .before .before .before .before .before .before .before .before .before .before .before .before .before .before .before .before .before .before .before .before .before .loop .inv .0) (subst (λ (n : ℕ). Fits (c .before .before .before .before .before .before .before .before .before .before .before .before .before .before .before .before .before .before .before .before .before .before .before .before .before .before .before .before .before .before .before .args .tables) (c .before .before .before .before .before .before .before .before .before .before .before .before .before .before .before .before .before .before .before .before .before .before .before .before .before .before .before .before .before .before .before .args .state .types) (length (c .before .before .before .before .before .before .before .before .before .before .before .before .before .before .before .before .before .before .before .before .before .before .before .before .before .before .before .before .before .before .before .args .msg .now)) n) (sym (c .before .before .before .before .before .before .before .before .before .before .before .before .before .before .before .before .before .before .before .before .before .before .loop .inv .1)) (c .before .before .before .before .before .before .before .before .before .before .before .before .before .before .before .before .before .before .before .before .before .before .before .before .before .before .before .before .before .before .before .pre .1 .room)) (c .before .before .before .before .before .before .before .before .before .resolve-at .last .1 .1 .1 .1 .1 .1 .1 .1 .1 .0)) (c .before .found .given .1), lent-length (c .before .before .before .before .before .before .before .before .before .before .before .before .before .before .before .before .before .before .before .before .before .before .loop .inv .0) (c .before .before .before .before .before .before .before .before .before .resolve-at .last .1 .1 .1 .1 .1 .1 .1 .1 .1 .0) (c .before .before .before .before .before .before .before .before .before .resolve-at .kept .1 .1 .1 .1 .1 .1 .1 .1 .1 .0) ∙ c .before .before .before .before .before .before .before .before .before .before .before .before .before .before .before .before .before .before .before .before .before .before .loop .inv .1, c .before .before .before .before .before .before .before .before .before .resolve-at .kept .1 .1 .1 .1 .1 .1 .1 .1 .1 .1 .0 ∙ c .before .before .before .before .before .before .before .before .before .before .before .before .before .before .before .before .before .before .before .before .before .before .loop .inv .2, c .before .before .before .before .before .before .before .before .before .resolve-at .kept .1 .1 .1 .1 .1 .1 .1 .1 .1 .1 .1 .0 ∙ c .before .before .before .before .before .before .before .before .before .before .before .before .before .before .before .before .before .before .before .before .before .before .loop .inv .3)
+arguments-at-loop-again-3 t c = (loop-kept (c .before .before .before .before .before .before .before .before .before .before .before .before .before .before .before .before .before .before .before .before .before .before .loop .inv .0) (c .before .before .before .before .before .before .before .before .before .before .before .before .before .before .before .before .before .before .before .before .next-body .ensures) (c .before .before .before .before .before .before .before .before .before .before .before .before .before .before .before .before .before .before .piece .given .1) (c .before .before .before .before .before .before .before .before .before .before .before .before .before .before .before .before .argument-at .ensures) (c .before .before .before .before .before .before .before .before .before .before .before .before .before .before .argument2 .given .1) (c .before .before .before .before .before .before .before .before .before .resolve-at .ensures) (waits-kept (c .before .before .before .before .before .before .before .before .before .before .before .before .before .before .before .before .before .before .before .before .before .before .loop .inv .0) (subst (λ (n : ℕ). WaitingRoom (c .before .before .before .before .before .before .before .before .before .before .before .before .before .before .before .before .before .before .before .before .before .before .before .before .before .before .before .before .before .before .before .args .tables) (c .before .before .before .before .before .before .before .before .before .before .before .before .before .before .before .before .before .before .before .before .before .before .before .before .before .before .before .before .before .before .before .args .state .types) (length (c .before .before .before .before .before .before .before .before .before .before .before .before .before .before .before .before .before .before .before .before .before .before .before .before .before .before .before .before .before .before .before .args .msg .now)) n) (sym (c .before .before .before .before .before .before .before .before .before .before .before .before .before .before .before .before .before .before .before .before .before .before .loop .inv .1)) (c .before .before .before .before .before .before .before .before .before .before .before .before .before .before .before .before .before .before .before .before .before .before .before .before .before .before .before .before .before .before .before .pre .1 .room)) (c .before .before .before .before .before .before .before .before .before .resolve-at .last .1 .1 .1 .1 .1 .1 .1 .1 .1 .0)) (c .before .found .given .1), lent-length (c .before .before .before .before .before .before .before .before .before .before .before .before .before .before .before .before .before .before .before .before .before .before .loop .inv .0) (c .before .before .before .before .before .before .before .before .before .resolve-at .last .1 .1 .1 .1 .1 .1 .1 .1 .1 .0) (c .before .before .before .before .before .before .before .before .before .resolve-at .kept .1 .1 .1 .1 .1 .1 .1 .1 .1 .0) ∙ c .before .before .before .before .before .before .before .before .before .before .before .before .before .before .before .before .before .before .before .before .before .before .loop .inv .1, c .before .before .before .before .before .before .before .before .before .resolve-at .kept .1 .1 .1 .1 .1 .1 .1 .1 .1 .1 .0 ∙ c .before .before .before .before .before .before .before .before .before .before .before .before .before .before .before .before .before .before .before .before .before .before .loop .inv .2, c .before .before .before .before .before .before .before .before .before .resolve-at .kept .1 .1 .1 .1 .1 .1 .1 .1 .1 .1 .1 .0 ∙ c .before .before .before .before .before .before .before .before .before .before .before .before .before .before .before .before .before .before .before .before .before .before .loop .inv .3)
 
 arguments-at-enum-told-3 : (t : ℕ) → arguments-at-lts.Need-enum-told-3 (arguments-at-calls t) (arguments-at-at t) arguments-at.Post arguments-at-Inv-loop arguments-at-μ-loop
 arguments-at-enum-told-3 t c = search needs
 
 -- src/parse.rt:53:5
 arguments-at-loop-less-4 : (t : ℕ) → arguments-at-lts.Need-loop-less-4 (arguments-at-calls t) (arguments-at-at t) arguments-at.Post arguments-at-Inv-loop arguments-at-μ-loop
-arguments-at-loop-less-4 t c = passed-falls (c .before .before .before .before .before .before .before .before .before .before .before .before .before .before .before .before .before .before .before .before .before .loop .inv .0) (c .before .before .before .before .before .before .before .before .before .before .before .before .before .before .before .before .before .before .before .next-body .ensures) (c .before .before .before .before .before .before .before .before .before .before .before .before .before .before .before .before .before .piece .given .1) _ (waits-kept (c .before .before .before .before .before .before .before .before .before .before .before .before .before .before .before .before .before .before .before .before .before .loop .inv .0) (subst (λ (n : ℕ). Fits (c .before .before .before .before .before .before .before .before .before .before .before .before .before .before .before .before .before .before .before .before .before .before .before .before .before .before .before .before .before .before .args .tables) (c .before .before .before .before .before .before .before .before .before .before .before .before .before .before .before .before .before .before .before .before .before .before .before .before .before .before .before .before .before .before .args .state .types) (length (c .before .before .before .before .before .before .before .before .before .before .before .before .before .before .before .before .before .before .before .before .before .before .before .before .before .before .before .before .before .before .args .msg .now)) n) (sym (c .before .before .before .before .before .before .before .before .before .before .before .before .before .before .before .before .before .before .before .before .before .loop .inv .1)) (c .before .before .before .before .before .before .before .before .before .before .before .before .before .before .before .before .before .before .before .before .before .before .before .before .before .before .before .before .before .before .pre .1 .room)) (c .before .before .before .before .before .before .before .before .resolve-at .last .1 .1 .1 .1 .1 .1 .1 .1 .1 .0))
+arguments-at-loop-less-4 t c = passed-falls (c .before .before .before .before .before .before .before .before .before .before .before .before .before .before .before .before .before .before .before .before .before .loop .inv .0) (c .before .before .before .before .before .before .before .before .before .before .before .before .before .before .before .before .before .before .before .next-body .ensures) (c .before .before .before .before .before .before .before .before .before .before .before .before .before .before .before .before .before .piece .given .1) _ (waits-kept (c .before .before .before .before .before .before .before .before .before .before .before .before .before .before .before .before .before .before .before .before .before .loop .inv .0) (subst (λ (n : ℕ). WaitingRoom (c .before .before .before .before .before .before .before .before .before .before .before .before .before .before .before .before .before .before .before .before .before .before .before .before .before .before .before .before .before .before .args .tables) (c .before .before .before .before .before .before .before .before .before .before .before .before .before .before .before .before .before .before .before .before .before .before .before .before .before .before .before .before .before .before .args .state .types) (length (c .before .before .before .before .before .before .before .before .before .before .before .before .before .before .before .before .before .before .before .before .before .before .before .before .before .before .before .before .before .before .args .msg .now)) n) (sym (c .before .before .before .before .before .before .before .before .before .before .before .before .before .before .before .before .before .before .before .before .before .loop .inv .1)) (c .before .before .before .before .before .before .before .before .before .before .before .before .before .before .before .before .before .before .before .before .before .before .before .before .before .before .before .before .before .before .pre .1 .room)) (c .before .before .before .before .before .before .before .before .resolve-at .last .1 .1 .1 .1 .1 .1 .1 .1 .1 .0))
 
 -- src/parse.rt:53:5
 arguments-at-loop-again-4 : (t : ℕ) → arguments-at-lts.Need-loop-again-4 (arguments-at-calls t) (arguments-at-at t) arguments-at.Post arguments-at-Inv-loop arguments-at-μ-loop
-arguments-at-loop-again-4 t c = (loop-dropped (c .before .before .before .before .before .before .before .before .before .before .before .before .before .before .before .before .before .before .before .before .before .loop .inv .0) (c .before .before .before .before .before .before .before .before .before .before .before .before .before .before .before .before .before .before .before .next-body .ensures) (c .before .before .before .before .before .before .before .before .before .before .before .before .before .before .before .before .before .piece .given .1) (c .before .before .before .before .before .before .before .before .before .before .before .before .before .before .before .argument-at .ensures) (c .before .before .before .before .before .before .before .before .before .before .before .before .before .argument2 .given .1) (c .before .before .before .before .before .before .before .before .resolve-at .ensures) (waits-kept (c .before .before .before .before .before .before .before .before .before .before .before .before .before .before .before .before .before .before .before .before .before .loop .inv .0) (subst (λ (n : ℕ). Fits (c .before .before .before .before .before .before .before .before .before .before .before .before .before .before .before .before .before .before .before .before .before .before .before .before .before .before .before .before .before .before .args .tables) (c .before .before .before .before .before .before .before .before .before .before .before .before .before .before .before .before .before .before .before .before .before .before .before .before .before .before .before .before .before .before .args .state .types) (length (c .before .before .before .before .before .before .before .before .before .before .before .before .before .before .before .before .before .before .before .before .before .before .before .before .before .before .before .before .before .before .args .msg .now)) n) (sym (c .before .before .before .before .before .before .before .before .before .before .before .before .before .before .before .before .before .before .before .before .before .loop .inv .1)) (c .before .before .before .before .before .before .before .before .before .before .before .before .before .before .before .before .before .before .before .before .before .before .before .before .before .before .before .before .before .before .pre .1 .room)) (c .before .before .before .before .before .before .before .before .resolve-at .last .1 .1 .1 .1 .1 .1 .1 .1 .1 .0)) (c .enum-told3 .given .1), lent-length (c .before .before .before .before .before .before .before .before .before .before .before .before .before .before .before .before .before .before .before .before .before .loop .inv .0) (c .before .before .before .before .before .before .before .before .resolve-at .last .1 .1 .1 .1 .1 .1 .1 .1 .1 .0) (c .before .before .before .before .before .before .before .before .resolve-at .kept .1 .1 .1 .1 .1 .1 .1 .1 .1 .0) ∙ c .before .before .before .before .before .before .before .before .before .before .before .before .before .before .before .before .before .before .before .before .before .loop .inv .1, c .before .before .before .before .before .before .before .before .resolve-at .kept .1 .1 .1 .1 .1 .1 .1 .1 .1 .1 .0 ∙ c .before .before .before .before .before .before .before .before .before .before .before .before .before .before .before .before .before .before .before .before .before .loop .inv .2, c .before .before .before .before .before .before .before .before .resolve-at .kept .1 .1 .1 .1 .1 .1 .1 .1 .1 .1 .1 .0 ∙ c .before .before .before .before .before .before .before .before .before .before .before .before .before .before .before .before .before .before .before .before .before .loop .inv .3)
+arguments-at-loop-again-4 t c = (loop-dropped (c .before .before .before .before .before .before .before .before .before .before .before .before .before .before .before .before .before .before .before .before .before .loop .inv .0) (c .before .before .before .before .before .before .before .before .before .before .before .before .before .before .before .before .before .before .before .next-body .ensures) (c .before .before .before .before .before .before .before .before .before .before .before .before .before .before .before .before .before .piece .given .1) (c .before .before .before .before .before .before .before .before .before .before .before .before .before .before .before .argument-at .ensures) (c .before .before .before .before .before .before .before .before .before .before .before .before .before .argument2 .given .1) (c .before .before .before .before .before .before .before .before .resolve-at .ensures) (waits-kept (c .before .before .before .before .before .before .before .before .before .before .before .before .before .before .before .before .before .before .before .before .before .loop .inv .0) (subst (λ (n : ℕ). WaitingRoom (c .before .before .before .before .before .before .before .before .before .before .before .before .before .before .before .before .before .before .before .before .before .before .before .before .before .before .before .before .before .before .args .tables) (c .before .before .before .before .before .before .before .before .before .before .before .before .before .before .before .before .before .before .before .before .before .before .before .before .before .before .before .before .before .before .args .state .types) (length (c .before .before .before .before .before .before .before .before .before .before .before .before .before .before .before .before .before .before .before .before .before .before .before .before .before .before .before .before .before .before .args .msg .now)) n) (sym (c .before .before .before .before .before .before .before .before .before .before .before .before .before .before .before .before .before .before .before .before .before .loop .inv .1)) (c .before .before .before .before .before .before .before .before .before .before .before .before .before .before .before .before .before .before .before .before .before .before .before .before .before .before .before .before .before .before .pre .1 .room)) (c .before .before .before .before .before .before .before .before .resolve-at .last .1 .1 .1 .1 .1 .1 .1 .1 .1 .0)) (c .enum-told3 .given .1), lent-length (c .before .before .before .before .before .before .before .before .before .before .before .before .before .before .before .before .before .before .before .before .before .loop .inv .0) (c .before .before .before .before .before .before .before .before .resolve-at .last .1 .1 .1 .1 .1 .1 .1 .1 .1 .0) (c .before .before .before .before .before .before .before .before .resolve-at .kept .1 .1 .1 .1 .1 .1 .1 .1 .1 .0) ∙ c .before .before .before .before .before .before .before .before .before .before .before .before .before .before .before .before .before .before .before .before .before .loop .inv .1, c .before .before .before .before .before .before .before .before .resolve-at .kept .1 .1 .1 .1 .1 .1 .1 .1 .1 .1 .0 ∙ c .before .before .before .before .before .before .before .before .before .before .before .before .before .before .before .before .before .before .before .before .before .loop .inv .2, c .before .before .before .before .before .before .before .before .resolve-at .kept .1 .1 .1 .1 .1 .1 .1 .1 .1 .1 .1 .0 ∙ c .before .before .before .before .before .before .before .before .before .before .before .before .before .before .before .before .before .before .before .before .before .loop .inv .3)
 
 -- src/parse.rt:123:39
 arguments-at-enum-known-found-2 : (t : ℕ) → arguments-at-lts.Need-enum-known-found-2 (arguments-at-calls t) (arguments-at-at t) arguments-at.Post arguments-at-Inv-loop arguments-at-μ-loop
