@@ -46,19 +46,34 @@ refused 'no crate' "$here/none"
 refused 'No such file' "$here/nothing"
 
 python3 -B tools/trusted.py --check || failed=1
-mkdir "$here/copy"
-cp -r --parents README.md crates.txt crates/*/specs crates/sheet_calls/src tools/trusted.py "$here/copy"
-differs() { # what
-    if python3 -B "$here/copy/tools/trusted.py" --check > "$here/out" 2>&1; then echo "trusted: not found, $1"; failed=1; fi
-    python3 -B "$here/copy/tools/trusted.py" --write
-    python3 -B "$here/copy/tools/trusted.py" --check > "$here/out" 2>&1 || { echo "trusted: --write does not mend it, $1"; failed=1; }
+copied() {
+    rm -rf "$here/copy"
+    mkdir "$here/copy"
+    cp -r --parents README.md crates/*/specs crates/sheet_calls/src tools/trusted.py "$here/copy"
 }
-sed -i 's/^| `wire` | `Messages`, `Wire`/| `wire` | `Wire`/' "$here/copy/README.md"
-differs 'README has a file fewer'
+believes() { # words that must be said
+    if python3 -B "$here/copy/tools/trusted.py" --check > "$here/out" 2>&1 || ! grep -q "$1" "$here/out"; then
+        echo "trusted: not found, '$1'"
+        failed=1
+    fi
+    copied
+}
+copied
+sed -i 's/`wire`: `Wire`, `Messages`/`wire`: `Wire`/' "$here/copy/README.md"
+if python3 -B "$here/copy/tools/trusted.py" --check > "$here/out" 2>&1; then echo 'trusted: not found, README has a file fewer'; failed=1; fi
+python3 -B "$here/copy/tools/trusted.py" --write
 cmp README.md "$here/copy/README.md" || failed=1
-echo 'use Rattle.lookup.specs.Strings.{codesIn}' >> "$here/copy/crates/metadata/specs/Read.antt"
-differs 'a definition rests on a file more'
-grep -q '^| `lookup` | `Strings` |' "$here/copy/README.md" || { echo 'trusted: the new file is not named'; failed=1; }
+echo 'use Rattle.lookup.specs.told.Strings.{codesIn}' >> "$here/copy/crates/metadata/specs/Read.antt"
+believes 'lookup/specs/told/Strings.antt: crates/metadata/specs/Read.antt rests on it'
+mv "$here/copy/crates/wire/specs/told/WireTold.antt" "$here/copy/crates/wire/specs/WireTold.antt"
+believes 'wire/specs/WireTold.antt: nothing to be believed rests on it'
+echo 'use Rattle.promises.specs.Walk.{refText}' >> "$here/copy/crates/wire/specs/Wire.antt"
+believes 'wire/specs/Wire.antt: it is read before crates/promises/specs/Walk.antt'
+echo 'use Rattle.wire.specs.More.{more}' >> "$here/copy/crates/wire/specs/Messages.antt"
+echo '-- more' > "$here/copy/crates/wire/specs/More.antt"
+believes 'wire/specs/More.antt: it has no place in ORDER'
+printf 'abbrev pub bodyIn : ℕ\nbodyIn = 0\n' >> "$here/copy/crates/wire/specs/told/WireTold.antt"
+believes 'bodyIn is defined in crates/schema/specs/Members.antt and in crates/wire/specs/told/WireTold.antt'
 
 # the lines that README shows of ./sheet are those that it prints
 grep '^    public ' README.md | sed 's/^    //' > "$here/shown"

@@ -116,7 +116,7 @@ def cells(expression, text):
         given = dict(zip(parameters, map(meant, arguments(called[2]))))
         return [(given.get(name, name), width) for name, width in cells(body, text)]
     found = []
-    for form, argument in re.findall(r'\b(num \d+|bit|named|ref|signatureCells) ' + ARGUMENT, expression):
+    for form, argument in re.findall(r'\b(num \d+|bit|nameCell|ref|signatureCells) ' + ARGUMENT, expression):
         if form == 'signatureCells':
             found += [(f'{meant(argument)} {part}', 4) for part, _ in cells(definition(text, 'signatureCells')[1], text)]
         else:

@@ -25,22 +25,22 @@ use Rattle.foundation.specs.Texts.{ascii}
 use Rattle.sheet.specs.Rows.{Row, sheetFrom, texts}
 use Rattle.declaration_rows.specs.Declarations.{Declarations}
 use Rattle.schema.specs.Reading.{allowance}
-use Rattle.inputs.specs.Inputs.{Input, kindOf}
+use Rattle.inputs.specs.Inputs.{Input, kindOf, input}
 use Rattle.inputs.specs.Outcomes as R
 use Rattle.inputs.specs.Outcomes.{refusal}
-use Rattle.inputs.specs.Told.{input}
 use Rattle.declarations.specs.Payload.{declarationRows}
 use Rattle.passes.specs.Answered.{answered, written, sheetWritten, accepted, textLimit}
 use Rattle.metadata.specs.Read.{read, reading}
 use Rattle.metadata.specs.declared.Answer.{Answer}
-use Rattle.metadata.specs.ReadTold.{toldBy}
+use Rattle.metadata.specs.told.ReadTold.{toldBy}
 use Rattle.line.specs.declared.input.Counts.{Counts}
 use Rattle.line.specs.declared.stream.Taken.{Taken}
-use Rattle.line.specs.Input.{d1Place, d2Place, endsPlace, numberAt, numbersAt, signedOf, countsOf, inputEnd, inputOf, given}
+use Rattle.line.specs.Input.{d1Place, d2Place, endsPlace, numberAt, numbersAt, signedOf, countsOf, inputEnd, inputOf, wholeInput}
 use Rattle.line.specs.Line.{decimal, partOf, lineOf}
 use Rattle.line.specs.Wrote.{Wrote}
-use Rattle.line.specs.Taken.{SoFar, keptLimit, TookSome}
-use Rattle.answer_lines.specs.Program.{answerLine, printed, keptInput, inputWith, versionAt, zeros, WroteRead, WroteKept, WrotePrinted, WroteLine}
+use Rattle.line.specs.told.Taken.{SoFar, keptLimit, TookSome}
+use Rattle.answer_lines.specs.Program.{answerLine, printed, zeros, WroteLine}
+use Rattle.answer_lines.specs.told.LineTold.{keptInput, inputWith, versionAt, WroteRead, WroteKept, WrotePrinted}
 use Rattle.answer_lines.proofs.KeptLaws.{length-numbers, read-kept}
 
 -- the lengths that an answer tells lie in its areas, and in those that were lent
@@ -104,8 +104,8 @@ stored-length w bs at n r S S′ e f =
 
 -- what is printed
 module _ (S T bs : List ℕ) (t : Taken) (s : SoFar bs t) where
-  given-short : t .total < inputEnd (t .counts) → given bs ≡ none
-  unfolding given
+  given-short : t .total < inputEnd (t .counts) → wholeInput bs ≡ none
+  unfolding wholeInput
   given-short h =
       let k : length bs < inputEnd (countsOf bs) = let e : inputEnd (t .counts) ≡ inputEnd (countsOf bs) = ap inputEnd (s .counts) in omega (arith, e, s .total) in
       rw (lt-leb (inputEnd (countsOf bs)) (length bs) k)
@@ -114,8 +114,8 @@ module _ (S T bs : List ℕ) (t : Taken) (s : SoFar bs t) where
   unfolding printed
   printed-short h = rw (given-short h)
 
-  given-whole : inputEnd (t .counts) ≤ t .total → given bs ≡ some (inputOf bs)
-  unfolding given
+  given-whole : inputEnd (t .counts) ≤ t .total → wholeInput bs ≡ some (inputOf bs)
+  unfolding wholeInput
   given-whole h =
       let k : inputEnd (countsOf bs) ≤ length bs = let e : inputEnd (t .counts) ≡ inputEnd (countsOf bs) = ap inputEnd (s .counts) in omega (arith, e, s .total) in
       rw (le-leb (inputEnd (countsOf bs)) (length bs) k)
@@ -220,7 +220,7 @@ answer-length i =
 
 printed-length : (bs : List ℕ) → length (printed zeros zeros bs) ≤ 262190
 unfolding printed
-printed-length bs = go (given bs)
+printed-length bs = go (wholeInput bs)
   where
     go : (o : Option Input) → length (ifSome o (ascii "input\n") λ i. answerLine (read zeros zeros i)) ≤ 262190
     go none = omega arith

@@ -14,8 +14,8 @@ use Rattle.inputs.specs.Inputs.{Input, laterFault, faultOf}
 use Rattle.inputs.specs.Outcomes.{refusal}
 use Rattle.metadata.specs.Read.{reading, read}
 use Rattle.line.specs.Input.{numberAt, numbersAt, signedOf, d1Count, d2Count, endsCount, countsOf, inputOf, d1Place, d2Place, endsPlace}
-use Rattle.line.specs.Taken.{keptLimit}
-use Rattle.answer_lines.specs.Program.{keptInput}
+use Rattle.line.specs.told.Taken.{keptLimit}
+use Rattle.answer_lines.specs.told.LineTold.{keptInput}
 
 pub length-numbers : (w : ℕ) (bs : List ℕ) (at n : ℕ) → length (numbersAt w bs at n) ≡ n
 length-numbers w bs at zero = refl

@@ -1,7 +1,8 @@
 // The line for an input that was read: what is kept of it goes to the reader, with areas of 65,536 bytes.
 ghost use Prim.Native.Nat.{_<_, _≤_, _^_};
-ghost use Rattle.line.specs.Pieces.{CountsFit};
-ghost use Rattle.answer_lines.specs.Program.{WroteRead, WroteKept, WrotePrinted, WroteLine};
+ghost use Rattle.line.specs.told.Pieces.{CountsFit};
+ghost use Rattle.answer_lines.specs.Program.{WroteLine};
+ghost use Rattle.answer_lines.specs.told.LineTold.{WroteRead, WroteKept, WrotePrinted};
 use line::input::Counts;
 use line::input::ends_at;
 use line::input::input_end;

@@ -14,7 +14,7 @@ use lib.Seq.{sets, drop-cons}
 use Rattle.foundation.specs.Choices.{All}
 use Rattle.foundation.specs.Texts.{Text}
 use Rattle.characters.specs.Characters.{fromUtf16}
-use Rattle.characters.specs.Plain.{instead, isAscii}
+use Rattle.characters.specs.told.Plain.{instead, isAscii}
 use Rattle.characters.proofs.TestLaws.{below, under}
 
 -- The bits of several numbers together are below 128 if those of each are.

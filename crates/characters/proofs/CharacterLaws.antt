@@ -9,7 +9,7 @@ use lib.ListN.{length, drop, length-drop}
 use lib.Seq.{drop-nil, drop-drop}
 use Rattle.foundation.specs.Texts.{Text}
 use Rattle.characters.specs.Characters.{isScalar, step, fromUtf8After, fromUtf8}
-use Rattle.characters.specs.Told.{utf8At}
+use Rattle.characters.specs.told.CharactersTold.{utf8At}
 use Rattle.characters.specs.declared.Character.{Character}
 use Rattle.characters.specs.declared.Character.the-variants.{Read, End}
 use Rattle.characters.proofs.ScalarLaws.{step-scalar}

@@ -7,7 +7,7 @@ use native.Mathlib.Nat.{le-refl}
 use native.Mathlib.Omega.{arith}
 use lib.ListN.{length, take, drop, length-take, length-drop}
 use lib.Seq.{take-take, drop-drop, take-all, length-take-le}
-use Rattle.characters.specs.Characters.{partFrom}
+use Rattle.characters.specs.told.Places.{partFrom}
 use Rattle.foundation.proofs.ChoiceLaws.{drop-take}
 
 -- A part of a part is a part of the whole.

@@ -14,7 +14,7 @@ use lib.ListN.{length, drop, getD, replicate, length-replicate, drop-of-length-l
 use lib.Seq.{drop-cons}
 use Rattle.foundation.specs.Choices.{if_then_else_, All, IfSome, mapOption, ifSome}
 use Rattle.characters.specs.Characters.{between, Range, _to_, inRange, trail, Lead, _then_, leads, leadOf, run, leading, step, stepBy, replacement}
-use Rattle.characters.specs.Told.{Row, row, rowOf, ranges, goOn, utf8At}
+use Rattle.characters.specs.told.CharactersTold.{LeadByte, leadByte, leadByteOf, ranges, goOn, utf8At}
 use Rattle.characters.specs.declared.Character.the-variants.{Read, End}
 use Rattle.characters.proofs.TestLaws.{in-between, bounds, above, under}
 use Rattle.foundation.proofs.EveryLaws.{every, every-all, some-map}
@@ -31,8 +31,8 @@ member-at (l ∷ ls) zero d h = List·Memᴰ·head refl
 member-at (l ∷ ls) (suc k) d h = List·Memᴰ·tail (member-at ls k d (omega arith))
 
 pub row-is : (k : ℕ) {b n : ℕ} → k < 9 → n ≡ b → (rowAt k .first .low ≤ b) × (b ≤ rowAt k .first .high)
-    → some (row (leading (length (rowAt k .following)) n) (rowAt k .following)) ≡ rowOf b
-unfolding rowOf
+    → some (leadByte (leading (length (rowAt k .following)) n) (rowAt k .following)) ≡ leadByteOf b
+unfolding leadByteOf
 row-is k {b} {n} h e r =
     rw (e, lead-of b (member-at leads k (_then_ (_to_ 0 0) []) h) (in-between (rowAt k .first .low) (rowAt k .first .high) b r))
 
@@ -52,18 +52,18 @@ unfolding leadOf
 lead-none low high b [] t h k = refl
 lead-none low high b (l ∷ ls) t h k = rw (not-in low high b (l .first) (t .0) h k) (lead-none low high b ls (t .1) h k)
 
-pub stray : (low high : ℕ) {b : ℕ} → T (every (λ l. apart low high (l .first)) leads) → low ≤ b → b ≤ high → none ≡ rowOf b
-unfolding rowOf
+pub stray : (low high : ℕ) {b : ℕ} → T (every (λ l. apart low high (l .first)) leads) → low ≤ b → b ≤ high → none ≡ leadByteOf b
+unfolding leadByteOf
 stray low high {b} t h k = rw (lead-none low high b leads (every-all (λ l. apart low high (l .first)) leads t) h k)
 
 -- What a row says leaves the character's number below 2^24.
 abbrev small : Lead → Bool
 small l = let w = length (l .following) in leb ((if eqb w 0 then l .first .high + 1 else 2 ^ (6 - w)) * 64 ^ w) (2 ^ 24)
 
-abbrev Small : Row → Type 0
+abbrev Small : LeadByte → Type 0
 Small r = (r .bits + 1) * 64 ^ length (r .following) ≤ 2 ^ 24
 
-leading-small : (l : Lead) (b : ℕ) → T (small l) → T (inRange (l .first) b) → Small (row (leading (length (l .following)) b) (l .following))
+leading-small : (l : Lead) (b : ℕ) → T (small l) → T (inRange (l .first) b) → Small (leadByte (leading (length (l .following)) b) (l .following))
 leading-small l b t r =
     let w = length (l .following) in
     let top : leading w b + 1 ≤ (if eqb w 0 then l .first .high + 1 else 2 ^ (6 - w)) = go (eqb w 0) in
@@ -73,40 +73,40 @@ leading-small l b t r =
     go true = omega (arith, bounds (l .first .low) (l .first .high) b r)
     go false = omega (arith, mod-lt b (one-le-pow (6 - length (l .following)) 2 (omega arith)))
 
-row-small : (b : ℕ) → IfSome Small (rowOf b)
-unfolding rowOf
+row-small : (b : ℕ) → IfSome Small (leadByteOf b)
+unfolding leadByteOf
 row-small b =
-    some-map (λ l. T (small l) × T (inRange (l .first) b)) Small (λ l. row (leading (length (l .following)) b) (l .following)) (leadOf b leads)
+    some-map (λ l. T (small l) × T (inRange (l .first) b)) Small (λ l. leadByte (leading (length (l .following)) b) (l .following)) (leadOf b leads)
     (lead-found (λ l. T (small l)) b leads (every-all small leads tt)) λ l p. leading-small l b (p .0) (p .1)
 
 length-ranges : (k low high : ℕ) → length (ranges k low high) ≡ k
 length-ranges zero low high = refl
 length-ranges (suc k) low high = ap suc (length-replicate k trail)
 
-pub leads-small : (bits k low high b : ℕ) → some (row bits (ranges k low high)) ≡ rowOf b → (bits + 1) * 64 ^ k ≤ 2 ^ 24
+pub leads-small : (bits k low high b : ℕ) → some (leadByte bits (ranges k low high)) ≡ leadByteOf b → (bits + 1) * 64 ^ k ≤ 2 ^ 24
 leads-small bits k low high b e =
-    let p : Small (row bits (ranges k low high)) = subst (IfSome Small) (sym e) (row-small b) in
+    let p : Small (leadByte bits (ranges k low high)) = subst (IfSome Small) (sym e) (row-small b) in
     subst (λ (n : ℕ). (bits + 1) * 64 ^ n ≤ 2 ^ 24) (length-ranges k low high) p
 
 -- The first character of some bytes, by what their first says.
-first-row : (at b : ℕ) (bs : List ℕ) {n : ℕ} {rs : List Range} → some (row n rs) ≡ rowOf b → goOn rs n (at + 1) bs ≡ utf8At at (b ∷ bs)
-unfolding rowOf utf8At goOn step
+first-row : (at b : ℕ) (bs : List ℕ) {n : ℕ} {rs : List Range} → some (leadByte n rs) ≡ leadByteOf b → goOn rs n (at + 1) bs ≡ utf8At at (b ∷ bs)
+unfolding leadByteOf utf8At goOn step
 first-row at b bs {n} {rs} e = go (leadOf b leads) e
   where
-    go : (o : Option Lead) → some (row n rs) ≡ mapOption (λ l. row (leading (length (l .following)) b) (l .following)) o
+    go : (o : Option Lead) → some (leadByte n rs) ≡ mapOption (λ l. leadByte (leading (length (l .following)) b) (l .following)) o
         → goOn rs n (at + 1) bs ≡ (let s = ifSome o alone λ l. stepBy l b bs in Read (s .character) (at + 1 + s .after))
     go none e = let z : _≡_ {A = ℕ} 0 1 = cc in absurd (omega arith)
     go (some l) e =
-        let g : row n rs ≡ row (leading (length (l .following)) b) (l .following) = cc in
-        let p : n ≡ leading (length (l .following)) b = ap (λ (r : Row). r .bits) g in
-        let q : rs ≡ l .following = ap (λ (r : Row). r .following) g in
+        let g : leadByte n rs ≡ leadByte (leading (length (l .following)) b) (l .following) = cc in
+        let p : n ≡ leading (length (l .following)) b = ap (λ (r : LeadByte). r .bits) g in
+        let q : rs ≡ l .following = ap (λ (r : LeadByte). r .following) g in
         rw (p, q)
 
-first-stray : (at b : ℕ) (bs : List ℕ) → none ≡ rowOf b → Read replacement (at + 1) ≡ utf8At at (b ∷ bs)
-unfolding rowOf utf8At step
+first-stray : (at b : ℕ) (bs : List ℕ) → none ≡ leadByteOf b → Read replacement (at + 1) ≡ utf8At at (b ∷ bs)
+unfolding leadByteOf utf8At step
 first-stray at b bs e = go (leadOf b leads) e
   where
-    go : (o : Option Lead) → none ≡ mapOption (λ l. row (leading (length (l .following)) b) (l .following)) o
+    go : (o : Option Lead) → none ≡ mapOption (λ l. leadByte (leading (length (l .following)) b) (l .following)) o
         → Read replacement (at + 1) ≡ (let s = ifSome o alone λ l. stepBy l b bs in Read (s .character) (at + 1 + s .after))
     go none e = ap (Read replacement) (sym (add-zero (at + 1)))
     go (some l) e = let z : _≡_ {A = ℕ} 0 1 = cc in absurd (omega arith)
@@ -118,13 +118,13 @@ module _ (s : List ℕ) (at : ℕ) where
   at-end h = rw (drop-of-length-le s h)
 
   module _ (h : at < length s) where
-    pub at-row : {n : ℕ} {rs : List Range} → some (row n rs) ≡ rowOf (getD s at 0) → goOn rs n (at + 1) (drop (at + 1) s) ≡ utf8At at (drop at s)
+    pub at-row : {n : ℕ} {rs : List Range} → some (leadByte n rs) ≡ leadByteOf (getD s at 0) → goOn rs n (at + 1) (drop (at + 1) s) ≡ utf8At at (drop at s)
     at-row {n} {rs} e =
         ap (λ (k : ℕ). goOn rs n (at + 1) (drop k s)) (add-one at)
         ∙ first-row at (getD s at 0) (drop (suc at) s) e
         ∙ ap (utf8At at) (sym (drop-cons s at 0 h))
 
-    pub at-stray : none ≡ rowOf (getD s at 0) → Read replacement (at + 1) ≡ utf8At at (drop at s)
+    pub at-stray : none ≡ leadByteOf (getD s at 0) → Read replacement (at + 1) ≡ utf8At at (drop at s)
     at-stray e = rw (drop-cons s at 0 h) (first-stray at (getD s at 0) (drop (suc at) s) e)
 
     pub at-one : {b : ℕ} → b ≡ getD s at 0 → getD s at 0 < 128 → Read b (at + 1) ≡ utf8At at (drop at s)

@@ -12,7 +12,8 @@ use lib.ListN.{length, take}
 use Rattle.foundation.specs.Choices.{if_then_else_, All}
 use Rattle.foundation.proofs.ChoiceLaws.{if-ind}
 use Rattle.characters.specs.Characters.{isScalar, Range, inRange, Lead, leads, run, sixes, leading, step, replacement, fromUtf8After, isHigh, isLow, lone, pair, fromUtf16}
-use Rattle.characters.specs.WellFormed.{Characters, Units, Fits, complete, fits}
+use Rattle.characters.specs.WellFormed.{Units, Fits, complete, fits}
+use Rattle.characters.specs.told.CharactersTold.{Characters}
 use Rattle.characters.proofs.TestLaws.{neither, below, bounds, outside, scalar-below, scalar-above}
 use Rattle.foundation.proofs.EveryLaws.{each, every, every-all}
 use Rattle.characters.proofs.Utf8Laws.{decoded}

@@ -11,8 +11,9 @@ use lib.Dec.{T, eqb}
 use lib.ListN.{length, getD}
 use Rattle.foundation.specs.Choices.{if_then_else_}
 use Rattle.foundation.proofs.ChoiceLaws.{if-ind, and-right}
-use Rattle.characters.specs.Characters.{between, width, utf8, isHigh, isLow, lone, pair, replacement, fromUtf16, partFrom}
-use Rattle.characters.specs.Sizes.{unitSize, sizeOf}
+use Rattle.characters.specs.Characters.{between, width, utf8, isHigh, isLow, lone, pair, replacement, fromUtf16}
+use Rattle.characters.specs.told.Places.{partFrom}
+use Rattle.characters.specs.told.Sizes.{unitSize, unitsSize}
 use Rattle.characters.proofs.TestLaws.{below, bounds, under, above, within}
 use Rattle.characters.proofs.Utf8Laws.{by-width}
 use Rattle.characters.proofs.LengthLaws.{bytes-cons}
@@ -86,8 +87,8 @@ lone-width u =
     high-or-low false e f = let b = in-range 0xdc00 0xdfff u f in width-three u (omega arith) (omega arith)
 
 -- the other half of a pair is the first of none
-low-size : (v : ℕ) (us : List ℕ) → isLow v ≡ true → sizeOf (v ∷ us) ≡ 3 + sizeOf us
-unfolding sizeOf unitSize
+low-size : (v : ℕ) (us : List ℕ) → isLow v ≡ true → unitsSize (v ∷ us) ≡ 3 + unitsSize us
+unfolding unitsSize unitSize
 low-size v [] e = let b = in-range 0xdc00 0xdfff v e in width-three v (omega arith) (omega arith)
 low-size v (w ∷ us) e =
     let b = in-range 0xdc00 0xdfff v e in
@@ -97,14 +98,14 @@ pair-width : (u v : ℕ) → width (pair u v) ≡ 4
 pair-width u v = width-four (pair u v) (omega arith)
 
 -- The units of a text tell how long it is.
-pub size-is : (us : List ℕ) → sizeOf us ≡ length (utf8 (fromUtf16 us))
-unfolding fromUtf16 sizeOf utf8 unitSize
+pub size-is : (us : List ℕ) → unitsSize us ≡ length (utf8 (fromUtf16 us))
+unfolding fromUtf16 unitsSize utf8 unitSize
 size-is [] = refl
 size-is (u ∷ []) = omega (arith, bytes-cons (lone u) [], lone-width u)
 size-is (u ∷ v ∷ us) = go (isHigh u && isLow v) refl (size-is (v ∷ us)) (size-is us)
   where
-    go : (t : Bool) → (isHigh u && isLow v) ≡ t → sizeOf (v ∷ us) ≡ length (utf8 (fromUtf16 (v ∷ us))) → sizeOf us ≡ length (utf8 (fromUtf16 us))
-        → (if t then 1 else width u) + sizeOf (v ∷ us) ≡ length (utf8 (if t then pair u v ∷ fromUtf16 us else lone u ∷ fromUtf16 (v ∷ us)))
+    go : (t : Bool) → (isHigh u && isLow v) ≡ t → unitsSize (v ∷ us) ≡ length (utf8 (fromUtf16 (v ∷ us))) → unitsSize us ≡ length (utf8 (fromUtf16 us))
+        → (if t then 1 else width u) + unitsSize (v ∷ us) ≡ length (utf8 (if t then pair u v ∷ fromUtf16 us else lone u ∷ fromUtf16 (v ∷ us)))
     go true e p q =
         let l = low-size v us (and-right (isHigh u) (isLow v) e) in
         omega (arith, bytes-cons (pair u v) (fromUtf16 us), pair-width u v)
@@ -117,19 +118,19 @@ ends u = rw (and-false (isHigh u))
 -- The sums of the loops: of the unit at a place, and of the last.
 module _ (s : List ℕ) (i end : ℕ) where
   pub size-step : i + 1 < end → end ≤ length s
-      → sizeOf (partFrom i end s) ≡ unitSize (getD s i 0) (getD s (i + 1) 0) + sizeOf (partFrom (i + 1) end s)
-  unfolding sizeOf
+      → unitsSize (partFrom i end s) ≡ unitSize (getD s i 0) (getD s (i + 1) 0) + unitsSize (partFrom (i + 1) end s)
+  unfolding unitsSize
   size-step h k =
       let p = units-cons s i end (omega arith) (omega arith) in
       let q = units-cons s (i + 1) end h (omega arith) in
-      ap sizeOf (p ∙ ap (λ (l : List ℕ). getD s i 0 ∷ l) q)
-      ∙ ap (λ (l : List ℕ). unitSize (getD s i 0) (getD s (i + 1) 0) + sizeOf l) (sym q)
+      ap unitsSize (p ∙ ap (λ (l : List ℕ). getD s i 0 ∷ l) q)
+      ∙ ap (λ (l : List ℕ). unitSize (getD s i 0) (getD s (i + 1) 0) + unitsSize l) (sym q)
 
-  pub size-last : i + 1 ≡ end → end ≤ length s → sizeOf (partFrom i end s) ≡ unitSize (getD s i 0) 0
-  unfolding sizeOf
+  pub size-last : i + 1 ≡ end → end ≤ length s → unitsSize (partFrom i end s) ≡ unitSize (getD s i 0) 0
+  unfolding unitsSize
   size-last h k =
       let p = units-cons s i end (omega arith) (omega arith) in
-      ap sizeOf (p ∙ ap (λ (l : List ℕ). getD s i 0 ∷ l) (units-ended s (i + 1) end (omega arith)))
+      ap unitsSize (p ∙ ap (λ (l : List ℕ). getD s i 0 ∷ l) (units-ended s (i + 1) end (omega arith)))
       ∙ ends (getD s i 0)
 
 -- Some units were summed up, so that what they add and what the rest adds is the whole, wherever the text ends.
@@ -137,16 +138,16 @@ pub record Summing (s : List ℕ) (from to i size : ℕ) : Type 0 where
   pub reached : from ≤ i
   pub inside : i ≤ to
   pub most : size ≤ 3 * (i - from)
-  pub sums : (end : ℕ) → to < end → end ≤ length s → size + sizeOf (partFrom i end s) ≡ sizeOf (partFrom from end s)
+  pub sums : (end : ℕ) → to < end → end ≤ length s → size + unitsSize (partFrom i end s) ≡ unitsSize (partFrom from end s)
 
 pub summing-start : (s : List ℕ) (from to : ℕ) → from ≤ to → Summing s from to from 0
-summing-start s from to h = record { reached = le-refl from; inside = h; most = omega arith; sums = λ end k l. zero-add (sizeOf (partFrom from end s)) }
+summing-start s from to h = record { reached = le-refl from; inside = h; most = omega arith; sums = λ end k l. zero-add (unitsSize (partFrom from end s)) }
 
 module _ {s : List ℕ} {from to i size : ℕ} (g : Summing s from to i size) where
-  pub summing-end : to ≤ i → (end : ℕ) → to < end → end ≤ length s → size + sizeOf (partFrom to end s) ≡ sizeOf (partFrom from end s)
+  pub summing-end : to ≤ i → (end : ℕ) → to < end → end ≤ length s → size + unitsSize (partFrom to end s) ≡ unitsSize (partFrom from end s)
   summing-end h end k l =
       let e : to ≡ i = omega (arith, g .inside) in
-      ap (λ (n : ℕ). size + sizeOf (partFrom n end s)) e ∙ g .sums end k l
+      ap (λ (n : ℕ). size + unitsSize (partFrom n end s)) e ∙ g .sums end k l
 
   module _ {r : ℕ} (h : i < to) (a : (r ≡ unitSize (getD s i 0) (getD s (i + 1) 0)) × (r ≤ 3)) where
     pub summing-fits : to - from ≤ 16384 → size + r < 65536
@@ -163,14 +164,14 @@ module _ {s : List ℕ} {from to i size : ℕ} (g : Summing s from to i size) wh
 -- The same up to a text's last unit.
 pub record Measuring (s : List ℕ) (start end i size : ℕ) : Type 0 where
   pub inside : i < end
-  pub sums : size + sizeOf (partFrom i end s) ≡ sizeOf (partFrom start end s)
+  pub sums : size + unitsSize (partFrom i end s) ≡ unitsSize (partFrom start end s)
 
 pub measuring-start : (s : List ℕ) (start end : ℕ) → start < end → Measuring s start end start 0
-measuring-start s start end h = record { inside = h; sums = zero-add (sizeOf (partFrom start end s)) }
+measuring-start s start end h = record { inside = h; sums = zero-add (unitsSize (partFrom start end s)) }
 
 module _ {s : List ℕ} {start end i size : ℕ} (g : Measuring s start end i size) where
   module _ (to r : ℕ) {w : ℕ} (h : to < end) (l : end ≤ length s)
-      (a : (e : ℕ) → to < e → e ≤ length s → r + sizeOf (partFrom to e s) ≡ sizeOf (partFrom i e s)) (b : w ≡ r) where
+      (a : (e : ℕ) → to < e → e ≤ length s → r + unitsSize (partFrom to e s) ≡ unitsSize (partFrom i e s)) (b : w ≡ r) where
     pub measuring-next : Measuring s start end to (size + w)
     measuring-next = record { inside = h; sums = let f = a end h l in omega (arith, g .sums) }
 

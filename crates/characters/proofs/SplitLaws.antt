@@ -14,9 +14,10 @@ use lib.Seq.{take-take, drop-drop}
 use Rattle.foundation.specs.Choices.{if_then_else_, ifSome, mapOption, IfSome}
 use Rattle.foundation.specs.Texts.{Text}
 use Rattle.foundation.proofs.ChoiceLaws.{if-ind, drop-take}
-use Rattle.characters.specs.Characters.{width, utf8, Range, inRange, Lead, leads, leadOf, run, step, stepBy, fromUtf8After, fromUtf8, placeAfter, placeOf}
+use Rattle.characters.specs.Characters.{width, utf8, Range, inRange, Lead, leads, leadOf, run, step, stepBy, fromUtf8After, fromUtf8}
+use Rattle.characters.specs.told.Places.{placeAfter, placeOf}
 use Rattle.characters.specs.Splits.{Halves, halves, splitAt, substringOf}
-use Rattle.characters.specs.Told.{utf8At}
+use Rattle.characters.specs.told.CharactersTold.{utf8At}
 use Rattle.characters.specs.declared.Character.the-variants.{Read, End}
 use Rattle.characters.proofs.TestLaws.{below}
 use Rattle.foundation.proofs.EveryLaws.{map-same, map-twice, some-map}

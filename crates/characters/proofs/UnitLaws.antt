@@ -10,9 +10,10 @@ use lib.Dec.{T}
 use lib.ListN.{length, drop, getD, length-take, length-drop, drop-of-length-le}
 use lib.Seq.{take-nil, drop-cons, drop-drop}
 use Rattle.foundation.proofs.ChoiceLaws.{if-ind, drop-take}
-use Rattle.characters.specs.Characters.{isScalar, isHigh, isLow, lone, pair, replacement, fromUtf16, partFrom}
+use Rattle.characters.specs.Characters.{isScalar, isHigh, isLow, lone, pair, replacement, fromUtf16}
+use Rattle.characters.specs.told.Places.{partFrom}
 use Rattle.characters.specs.WellFormed.{Units}
-use Rattle.characters.specs.Told.{pairedAt, utf16At}
+use Rattle.characters.specs.told.CharactersTold.{pairedAt, utf16At}
 use Rattle.characters.specs.declared.Character.{Character}
 use Rattle.characters.specs.declared.Character.the-variants.{Read, End}
 use Rattle.characters.proofs.ScalarLaws.{lone-scalar, pair-scalar, replacement-scalar}

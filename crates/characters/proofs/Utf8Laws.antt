@@ -15,7 +15,8 @@ use Rattle.foundation.proofs.ChoiceLaws.{all-append}
 use Rattle.characters.specs.Characters.{isScalar, between, width, utf8Of, utf8, continuation, Range, _to_, inRange, trail, Lead, _then_, leads, leadOf, run, sixes, leading, step, fromUtf8After, fromUtf8}
 use Rattle.foundation.proofs.EveryLaws.{each}
 use Rattle.characters.proofs.TestLaws.{holds, below, in-between, bounds, above, scalar-bounds}
-use Rattle.characters.specs.WellFormed.{Characters, Fits, complete, fits, WellFormed, empty, character}
+use Rattle.characters.specs.WellFormed.{Fits, complete, fits, WellFormed, empty, character}
+use Rattle.characters.specs.told.CharactersTold.{Characters}
 
 in-range : (r : Range) (b : ℕ) → (r .low ≤ b) × (b ≤ r .high) → T (inRange r b)
 in-range r b = in-between (r .low) (r .high) b

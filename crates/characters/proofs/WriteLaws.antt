@@ -10,7 +10,7 @@ use lib.Seq.{sets}
 use Rattle.foundation.specs.Texts.{Text}
 use Rattle.foundation.proofs.OverlayLaws.{sets-append}
 use Rattle.characters.specs.Characters.{width, utf8Of, utf8}
-use Rattle.characters.specs.Told.{PutCharacter}
+use Rattle.characters.specs.told.CharactersTold.{PutCharacter}
 use Rattle.characters.proofs.Utf8Laws.{utf8-length, by-width, bytes2, bytes3, bytes4}
 
 -- A byte, and from the next place on more.

@@ -5,8 +5,8 @@ use mathlib.Core.List.{List, [], _∷_, _++_}
 use mathlib.Core.Option.{Option, none, some}
 use Prim.Native.Nat.{ℕ, zero, suc, _+_, _-_, _*_, _/_, _%_, _^_}
 use lib.Dec.{eqb, leb, ltb}
-use lib.ListN.{length, take, drop}
-use Rattle.foundation.specs.Choices.{if_then_else_, ifSome, mapOption}
+use lib.ListN.{length, take}
+use Rattle.foundation.specs.Choices.{if_then_else_, ifSome}
 use Rattle.foundation.specs.Texts.{Text}
 
 -- U+FFFD
@@ -119,19 +119,6 @@ fromUtf8After zero (b ∷ bs) = step b bs .character ∷ fromUtf8After (step b b
 abbrev pub fromUtf8 : List ℕ → Text
 fromUtf8 = fromUtf8After 0
 
--- How many of the bytes stand before byte place n of their replaced text; none past its end or inside a character. The first j bytes
--- belong to the character before.
-unfoldable pub placeAfter : ℕ → ℕ → List ℕ → Option ℕ
-placeAfter j n [] = if eqb n 0 then some 0 else none
-placeAfter (suc j) n (b ∷ bs) = mapOption suc (placeAfter j n bs)
-placeAfter zero n (b ∷ bs) =
-    let c = step b bs .character in
-    let later = mapOption suc (placeAfter (step b bs .after) (n - width c) bs) in
-    if eqb n 0 then some 0 else if ltb n (width c) then none else later
-
-abbrev pub placeOf : ℕ → List ℕ → Option ℕ
-placeOf = placeAfter 0
-
 abbrev pub isHigh : ℕ → Bool
 isHigh = between 0xd800 0xdbff
 
@@ -153,7 +140,3 @@ fromUtf16 (u ∷ v ∷ us) =
     let joined = pair u v ∷ fromUtf16 us in
     let alone = lone u ∷ fromUtf16 (v ∷ us) in
     if isHigh u && isLow v then joined else alone
-
--- what stands from a place on to an end
-abbrev pub partFrom : ℕ → ℕ → List ℕ → List ℕ
-partFrom start end s = take (end - start) (drop start s)

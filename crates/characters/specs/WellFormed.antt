@@ -1,14 +1,10 @@
--- Texts that are made of characters, and well-formed UTF-8 by Unicode's table 3-7, whatever writes it.
+-- Well-formed UTF-8 by Unicode's table 3-7, whatever writes it.
 -- Assumes nothing.
 use mathlib.Core.List.{List, [], _∷_, _++_, List·Memᴰ}
 use Prim.Native.Nat.{ℕ, _<_}
 use lib.Dec.{T}
 use Rattle.foundation.specs.Choices.{All}
-use Rattle.foundation.specs.Texts.{Text}
-use Rattle.characters.specs.Characters.{isScalar, Range, inRange, Lead, leads}
-
-abbrev pub Characters : Text → Type 0
-Characters = All λ c. T (isScalar c)
+use Rattle.characters.specs.Characters.{Range, inRange, Lead, leads}
 
 -- UTF-16 code units: 16-bit numbers
 abbrev pub Units : List ℕ → Type 0

@@ -5,8 +5,8 @@ ghost use mathlib.Core.List.{map};
 ghost use Prim.Native.Nat.{_+_, _-_, _≤_};
 ghost use lib.ListN.{length};
 ghost use lib.Seq.{sets};
-ghost use Rattle.characters.specs.Characters.{partFrom};
-ghost use Rattle.characters.specs.Plain.{instead, withDots, isAscii, shown};
+ghost use Rattle.characters.specs.told.Places.{partFrom};
+ghost use Rattle.characters.specs.told.Plain.{instead, withDots, isAscii, shown};
 
 // Is every unit from `start` to `end` below 128? No unit is tested for being there.
 // Callers show that `end` isn't past the units: names::stream compares it with their number first.

@@ -1,12 +1,13 @@
 // Characters: UTF-8 and UTF-16 read with replacement, UTF-8 written. The definitions: specs/Characters.antt; how the answers tell them:
-// specs/Told.antt.
+// specs/told/CharactersTold.antt.
 ghost use mathlib.Core.Path.{_≡_};
 ghost use mathlib.Core.List.{[], _∷_};
 ghost use Prim.Native.Nat.{_+_, _*_, _^_, _≤_, _<_};
 ghost use lib.ListN.{length, drop};
 ghost use lib.Seq.{sets};
-ghost use Rattle.characters.specs.Characters.{width, placeOf, partFrom};
-ghost use Rattle.characters.specs.Told.{rowOf, rowTold, ranges, goOn, utf8At, pairedAt, utf16At, placeTold, PutCharacter};
+ghost use Rattle.characters.specs.Characters.{width};
+ghost use Rattle.characters.specs.told.Places.{placeOf, partFrom};
+ghost use Rattle.characters.specs.told.CharactersTold.{leadByteOf, leadByteTold, ranges, goOn, utf8At, pairedAt, utf16At, placeTold, PutCharacter};
 
 pub mod ascii; // ascii.rt: texts of characters below 128
 pub mod measure; // measure.rt: how long texts of 16-bit units are in UTF-8
@@ -39,7 +40,7 @@ enum FirstByte {
 // Unicode's table 3-7.
 fn first_byte(byte: u8) -> FirstByte
     requires { ⌜ 0x80 ≤ byte ⌝ }
-    ensures { λ r. ⌜ rowTold r ≡ rowOf byte ⌝ }
+    ensures { λ r. ⌜ leadByteTold r ≡ leadByteOf byte ⌝ }
 {
     let n = wide(byte);
     match byte {

@@ -4,8 +4,9 @@ ghost use mathlib.Core.Path.{_≡_};
 ghost use mathlib.Core.Bool.{_&&_};
 ghost use Prim.Native.Nat.{ℕ, _+_, _-_, _^_, _≤_, _<_};
 ghost use lib.ListN.{length};
-ghost use Rattle.characters.specs.Characters.{isHigh, isLow, fromUtf16, utf8, partFrom};
-ghost use Rattle.characters.specs.Sizes.{unitSize, sizeOf};
+ghost use Rattle.characters.specs.Characters.{isHigh, isLow, fromUtf16, utf8};
+ghost use Rattle.characters.specs.told.Places.{partFrom};
+ghost use Rattle.characters.specs.told.Sizes.{unitSize, unitsSize};
 
 fn wide(size: u16) -> usize
     ensures { λ r. ⌜ r ≡ size ⌝ }
@@ -42,7 +43,7 @@ fn unit_size(unit: u16, next: u16) -> u16
 // How many bytes some units add, by 16-bit sums, which their number leaves room for.
 fn block_size(units: &[u16], from: usize, to: usize) -> u16
     requires { ⌜ (from ≤ to) × (to < length (now units)) × (to - from ≤ 16384) ⌝ }
-    ensures { λ r. ⌜ ((end : ℕ) → to < end → end ≤ length (now (units .entry)) → r + sizeOf (partFrom to end (now (units .entry))) ≡ sizeOf (partFrom from end (now (units .entry)))) ⌝ }
+    ensures { λ r. ⌜ ((end : ℕ) → to < end → end ≤ length (now (units .entry)) → r + unitsSize (partFrom to end (now (units .entry))) ≡ unitsSize (partFrom from end (now (units .entry)))) ⌝ }
 {
     let mut size: u16 = 0;
     let mut i = from;

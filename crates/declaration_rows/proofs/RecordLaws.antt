@@ -9,7 +9,7 @@ use lib.Seq.{sets}
 use Rattle.foundation.specs.Digits.{little}
 use Rattle.foundation.specs.Texts.{Text}
 use Rattle.sheet.specs.Rows.{Row, row, bodyBytes, bodyText}
-use Rattle.sheet.specs.Put.{PutHead, PutRows, past}
+use Rattle.sheet.specs.told.Put.{PutHead, PutRows, past}
 use Rattle.sheet.specs.declared.State.{State}
 use Rattle.sheet.proofs.PutLaws.{rows-then, row-patch, row-counted}
 use Rattle.declaration_rows.specs.Declarations.{Parameter, Constructor, Function, Property}
@@ -25,7 +25,7 @@ use Rattle.declaration_rows.specs.Rows.{
   functionRows,
   propertyRows,
 }
-use Rattle.declaration_rows.specs.Written.{headCells, headCounts, constructorCells, functionCells, propertyCells, parameterCells}
+use Rattle.declaration_rows.specs.told.Written.{headCells, headCounts, constructorCells, functionCells, propertyCells, parameterCells}
 
 module _ {b b′ : ℕ} {s s₁ s₂ : State} {S S₁ S₂ T T₁ T₂ : List ℕ} where
   pub parameter-put : (p : Parameter) → PutRows (row 5 (parameterCells (p .name) (p .declaresDefault)) ∷ []) b s s₁ S S₁ T T₁

@@ -14,63 +14,63 @@ use Rattle.foundation.specs.Digits.{little}
 use Rattle.foundation.specs.Texts.{Text, ascii}
 use Rattle.foundation.proofs.OverlayLaws.{sets-then}
 use Rattle.characters.specs.Characters.{utf8, utf8Of}
-use Rattle.names.specs.Name.{nameText}
-use Rattle.names.specs.Stream.{PutText, nameBytes}
+use Rattle.names.specs.told.Name.{nameText}
+use Rattle.names.specs.told.Stream.{PutText, nameBytes}
 use Rattle.names.specs.declared.name.Name.{Name}
 use Rattle.names.proofs.PresentLaws.{name-most}
 use Rattle.sheet.specs.Rows.{Cell, num, ref, row, presentBytes, absentBytes, cellBytes, cellText, bodyBytes, bodyText, texts, sheetFrom}
-use Rattle.sheet.specs.Put.{PutCells, PutHead, PutRows}
+use Rattle.sheet.specs.told.Put.{PutCells, PutHead, PutRows}
 use Rattle.sheet.specs.declared.State.{State}
 use Rattle.sheet.proofs.RowLaws.{cellLength, cell-length}
 use Rattle.sheet.proofs.PutLaws.{put-sheet, put-text, put-types, put-same, put-left, cell-put, cells-then, head-then, row-done}
 use Rattle.declaration_rows.specs.Declarations.{signed}
-use Rattle.declaration_rows.specs.Rows.{named, signatureCells}
-use Rattle.declaration_rows.specs.Written.{RecordRoom, cellLimit, signatureBy, initBy, headCells, headCounts, constructorCells, functionCells, propertyCells}
+use Rattle.declaration_rows.specs.Rows.{nameCell, signatureCells}
+use Rattle.declaration_rows.specs.told.Written.{RecordRoom, cellLimit, signatureBy, initBy, headCells, headCounts, constructorCells, functionCells, propertyCells}
 use Rattle.declaration_rows.specs.declared.SignatureNames.{SignatureNames}
 
 -- A name's text is what is written of it.
-pub name-text : (payload d2 : List ℕ) (n : Name) → nameBytes payload d2 n false ≡ cellText (named (nameText payload d2 n))
+pub name-text : (payload d2 : List ℕ) (n : Name) → nameBytes payload d2 n false ≡ cellText (nameCell (nameText payload d2 n))
 unfolding nameBytes
 name-text payload d2 n = go (nameText payload d2 n)
   where
-    go : (o : Option Text) → (ifSome o [] λ t. utf8 t) ≡ cellText (named o)
+    go : (o : Option Text) → (ifSome o [] λ t. utf8 t) ≡ cellText (nameCell o)
     go none = refl
     go (some t) = refl
 
-absent-text : (o : Option Text) → isSome o ≡ false → cellText (named o) ≡ []
+absent-text : (o : Option Text) → isSome o ≡ false → cellText (nameCell o) ≡ []
 absent-text none e = refl
 absent-text (some t) e =
     let z : _≡_ {A = ℕ} 0 1 = cc in
     absurd (omega arith)
 
-absent-ref : (at : ℕ) (o : Option Text) → isSome o ≡ false → cellBytes at (named o) ≡ absentBytes
+absent-ref : (at : ℕ) (o : Option Text) → isSome o ≡ false → cellBytes at (nameCell o) ≡ absentBytes
 absent-ref at none e = refl
 absent-ref at (some t) e =
     let z : _≡_ {A = ℕ} 0 1 = cc in
     absurd (omega arith)
 
-present-ref : (at : ℕ) (o : Option Text) → isSome o ≡ true → cellBytes at (named o) ≡ presentBytes at (length (cellText (named o)))
+present-ref : (at : ℕ) (o : Option Text) → isSome o ≡ true → cellBytes at (nameCell o) ≡ presentBytes at (length (cellText (nameCell o)))
 present-ref at none e =
     let z : _≡_ {A = ℕ} 0 1 = cc in
     absurd (omega arith)
 present-ref at (some t) e = refl
 
 pub named-absent : (o : Option Text) (s : State) (S T : List ℕ) {S′ : List ℕ} → isSome o ≡ false → S′ ≡ sets S (s .sheet) absentBytes
-    → PutCells (named o ∷ []) (s .types) s (record { sheet = s .sheet + 4; text = s .text; types = s .types }) S S′ T T
+    → PutCells (nameCell o ∷ []) (s .types) s (record { sheet = s .sheet + 4; text = s .text; types = s .types }) S S′ T T
 named-absent o s S T e p =
     let f = absent-text o e in
-    cell-put (named o) S T (simp (f, add-zero)) (rw (absent-ref (s .text) o e) p) (rw f)
+    cell-put (nameCell o) S T (simp (f, add-zero)) (rw (absent-ref (s .text) o e) p) (rw f)
 
 module _ (payload d2 : List ℕ) (n : Name) where
   pub named-present : (s : State) (S T : List ℕ) {S′ T′ : List ℕ} {next : ℕ} → isSome (nameText payload d2 n) ≡ true
       → PutText (nameBytes payload d2 n false) (s .text) next T T′ → S′ ≡ sets S (s .sheet) (presentBytes (s .text) (next - s .text))
-      → PutCells (named (nameText payload d2 n) ∷ []) (s .types) s (record { sheet = s .sheet + 4; text = next; types = s .types }) S S′ T T′
+      → PutCells (nameCell (nameText payload d2 n) ∷ []) (s .types) s (record { sheet = s .sheet + 4; text = next; types = s .types }) S S′ T T′
   named-present s S T {next = next} e w p =
       let o = nameText payload d2 n in
       let f = name-text payload d2 n in
-      let g : next ≡ s .text + length (cellText (named o)) = w .place ∙ ap (λ (l : List ℕ). s .text + length l) f in
-      let h : next - s .text ≡ length (cellText (named o)) = omega arith in
-      cell-put (named o) S T (rw g)
+      let g : next ≡ s .text + length (cellText (nameCell o)) = w .place ∙ ap (λ (l : List ℕ). s .text + length l) f in
+      let h : next - s .text ≡ length (cellText (nameCell o)) = omega arith in
+      cell-put (nameCell o) S T (rw g)
       (p ∙ rw h (ap (sets S (s .sheet)) (sym (present-ref (s .text) o e))))
       (w .written ∙ ap (sets T (s .text)) f)
 
@@ -128,7 +128,7 @@ unsigned-right (some t) (some u) e =
     let z : _≡_ {A = ℕ} 0 1 = cc in
     absurd (omega arith)
 
-both-signed : (a b : Option Text) → isSome a ≡ true → isSome b ≡ true → named a ∷ named b ∷ [] ≡ signatureCells (bothOf signed a b)
+both-signed : (a b : Option Text) → isSome a ≡ true → isSome b ≡ true → nameCell a ∷ nameCell b ∷ [] ≡ signatureCells (bothOf signed a b)
 both-signed none b e f =
     let z : _≡_ {A = ℕ} 0 1 = cc in
     absurd (omega arith)
@@ -149,9 +149,9 @@ module _ {b : ℕ} {s s′ : State} {S S′ T T′ : List ℕ} where
     signature-right e = cells-same (unsigned-right x y e)
 
     pub signature-both : {s₁ : State} {S₁ T₁ : List ℕ} → isSome x ≡ true → isSome y ≡ true
-        → PutCells (named x ∷ []) b s s₁ S S₁ T T₁ → PutCells (named y ∷ []) (s₁ .types) s₁ s′ S₁ S′ T₁ T′
+        → PutCells (nameCell x ∷ []) b s s₁ S S₁ T T₁ → PutCells (nameCell y ∷ []) (s₁ .types) s₁ s′ S₁ S′ T₁ T′
         → PutCells (signatureCells (bothOf signed x y)) b s s′ S S′ T T′
-    signature-both e f p q = cells-same (both-signed x y e f) (cells-next (named x ∷ []) (named y ∷ []) p q)
+    signature-both e f p q = cells-same (both-signed x y e f) (cells-next (nameCell x ∷ []) (nameCell y ∷ []) p q)
 
 -- A constructor's signature, its own name or the one that it falls back to.
 own-else : {A : Type 0} (x : Option A) (i : A) → isSome x ≡ true → orElse x (some i) ≡ x
@@ -172,14 +172,14 @@ module _ {b : ℕ} {s s′ : State} {S S′ T T′ : List ℕ} (x y : Option Tex
   init-own e = cells-same (ap (λ (o : Option Text). signatureCells (bothOf signed o y)) (sym (own-else x i e)))
 
   pub init-fallen : {s₁ : State} {S₁ T₁ : List ℕ} → isSome x ≡ false → isSome y ≡ true
-      → PutCells (named (some i) ∷ []) b s s₁ S S₁ T T₁ → PutCells (named y ∷ []) (s₁ .types) s₁ s′ S₁ S′ T₁ T′
+      → PutCells (nameCell (some i) ∷ []) b s s₁ S S₁ T T₁ → PutCells (nameCell y ∷ []) (s₁ .types) s₁ s′ S₁ S′ T₁ T′
       → PutCells (signatureCells (bothOf signed (orElse x (some i)) y)) b s s′ S S′ T T′
   init-fallen e f p q =
       cells-same (ap (λ (o : Option Text). signatureCells (bothOf signed o y)) (sym (fallen-else x i e))) (signature-both (some i) y refl f p q)
 
 pub init-put : (s : State) (S T : List ℕ) {S′ T′ : List ℕ}
     → T′ ≡ sets T (s .text) (ascii "<init>") → S′ ≡ sets S (s .sheet) (presentBytes (s .text) 6)
-    → PutCells (named (some (ascii "<init>")) ∷ []) (s .types) s (record { sheet = s .sheet + 4; text = s .text + 6; types = s .types }) S S′ T T′
+    → PutCells (nameCell (some (ascii "<init>")) ∷ []) (s .types) s (record { sheet = s .sheet + 4; text = s .text + 6; types = s .types }) S S′ T T′
 unfolding utf8 utf8Of
 init-put s S T p q = cell-put (ref (some (ascii "<init>"))) S T refl q p
 
@@ -232,12 +232,12 @@ cells-most (c ∷ cs) o h =
       length-append (cellText c) (bodyText cs),
     )
 
-both-small : (x y : Option Text) → Small (named x) → Small (named y) → All Small (signatureCells (bothOf signed x y))
+both-small : (x y : Option Text) → Small (nameCell x) → Small (nameCell y) → All Small (signatureCells (bothOf signed x y))
 both-small none y f g = (omega arith, (omega arith, tt))
 both-small (some t) none f g = (omega arith, (omega arith, tt))
 both-small (some t) (some u) f g = (f, (g, tt))
 
-pub init-name-small : Small (named (some (ascii "<init>")))
+pub init-name-small : Small (nameCell (some (ascii "<init>")))
 unfolding utf8 utf8Of
 init-name-small = omega arith
 
@@ -266,7 +266,7 @@ module _ {payload d2 : List ℕ} where
     row-room k p = head-room k (put-same p (rw append-nil) (rw append-nil))
 
   -- A name's cell is small.
-  pub name-small : {m : ℕ} {s : State} → RecordRoom m payload d2 s → (n : Name) → Small (named (nameText payload d2 n))
+  pub name-small : {m : ℕ} {s : State} → RecordRoom m payload d2 s → (n : Name) → Small (nameCell (nameText payload d2 n))
   name-small r n = omega (arith, name-most payload d2 n 32768 (r .payload) (r .d2) (omega arith) false, ap length (name-text payload d2 n))
 
   pub signature-small : {m : ℕ} {s : State} → RecordRoom m payload d2 s → (n : SignatureNames) → All Small (signatureCells (signatureBy payload d2 n))
@@ -279,7 +279,7 @@ module _ {payload d2 : List ℕ} where
       both-small (orElse x (some (ascii "<init>"))) (nameText payload d2 (n .descriptor)) (go x (name-small r (n .name)))
       (name-small r (n .descriptor))
     where
-      go : (x : Option Text) → Small (named x) → Small (named (orElse x (some (ascii "<init>"))))
+      go : (x : Option Text) → Small (nameCell x) → Small (nameCell (orElse x (some (ascii "<init>"))))
       go none h = init-name-small
       go (some t) h = h
 

@@ -1,3 +1,3 @@
 pub mod Declarations
 pub mod Rows
-pub mod Written
+pub mod told

@@ -11,8 +11,8 @@ use Rattle.characters.specs.Characters.{utf8}
 use Rattle.sheet.specs.Rows.{Cell, num, ref, bit, Row, row}
 use Rattle.declaration_rows.specs.Declarations.{Types, noTypes, andType, Ty, countOf, Signature, Parameter, Constructor, Function, Property}
 
-abbrev pub named : Option Text → Cell
-named name = ref (mapOption utf8 name)
+abbrev pub nameCell : Option Text → Cell
+nameCell name = ref (mapOption utf8 name)
 
 -- roles: 1 return or property type, 2 receiver, 3 parameter, 4 vararg element, 5 argument
 abbrev pub returnRole : ℕ
@@ -32,7 +32,7 @@ argumentRole = 5
 
 -- the cells of a type's record: its role, whether it is nullable, its name, and how many arguments follow it
 abbrev pub typeCells : ℕ → Bool → Option Text → ℕ → List Cell
-typeCells role nullable name count = num 1 role ∷ bit nullable ∷ named name ∷ num 2 count ∷ []
+typeCells role nullable name count = num 1 role ∷ bit nullable ∷ nameCell name ∷ num 2 count ∷ []
 
 -- a type's arguments follow it, depth first
 unfoldable pub typesRows : ℕ → Types → List Row
@@ -47,7 +47,7 @@ typeRows role (some t) = typesRows role (andType (t .nullable) (t .name) (t .arg
 
 unfoldable pub parameterRows : Parameter → List Row
 parameterRows p =
-    row 5 (named (p .name) ∷ bit (p .declaresDefault) ∷ [])
+    row 5 (nameCell (p .name) ∷ bit (p .declaresDefault) ∷ [])
     ∷ (typeRows parameterRole (p .type) ++ typeRows varargRole (p .varargElement))
 
 abbrev pub parametersRows : List Parameter → List Row
@@ -55,7 +55,7 @@ parametersRows ps = concat (map parameterRows ps)
 
 -- name and descriptor, absent together
 abbrev pub signatureCells : Option Signature → List Cell
-signatureCells s = named (mapOption (λ t. t .name) s) ∷ named (mapOption (λ t. t .descriptor) s) ∷ []
+signatureCells s = nameCell (mapOption (λ t. t .name) s) ∷ nameCell (mapOption (λ t. t .descriptor) s) ∷ []
 
 unfoldable pub constructorRows : Constructor → List Row
 constructorRows c =
@@ -64,13 +64,13 @@ constructorRows c =
 unfoldable pub functionRows : Function → List Row
 functionRows f =
     row 3 (
-    named (some (f .name)) ∷ num 8 (f .flags)
+    nameCell (some (f .name)) ∷ num 8 (f .flags)
     ∷ (signatureCells (f .signature) ++ (bit (f .hasReceiver) ∷ num 2 (length (f .parameters)) ∷ [])))
     ∷ (parametersRows (f .parameters) ++ (typeRows receiverRole (f .receiver) ++ typeRows returnRole (f .returned)))
 
 unfoldable pub propertyRows : Property → List Row
 propertyRows p =
     row 4 (
-    named (some (p .name)) ∷ num 8 (p .flags) ∷ bit (p .hasReceiver) ∷ bit (p .getterIsDefault) ∷ bit (p .setterIsDefault)
+    nameCell (some (p .name)) ∷ num 8 (p .flags) ∷ bit (p .hasReceiver) ∷ bit (p .getterIsDefault) ∷ bit (p .setterIsDefault)
     ∷ (signatureCells (p .field) ++ (signatureCells (p .getter) ++ signatureCells (p .setter))))
     ∷ (typeRows receiverRole (p .receiver) ++ typeRows returnRole (p .type))

@@ -1,5 +1,5 @@
 // Records written from values that are looked up, kinds 1 to 5 and 7. A count stands last in its record and is left out here: it is
-// written once what it counts is (sheet's `row-counted`, `row-patch`). The cells: specs/Written.antt.
+// written once what it counts is (sheet's `row-counted`, `row-patch`). The cells: specs/told/Written.antt.
 use names::name::Name;
 use names::name::is_there;
 use names::stream::put_name;
@@ -18,11 +18,11 @@ ghost use lib.ListN.{length};
 ghost use lib.Seq.{sets};
 ghost use Rattle.foundation.specs.Digits.{little};
 ghost use Rattle.foundation.specs.Texts.{ascii};
-ghost use Rattle.names.specs.Name.{nameText};
+ghost use Rattle.names.specs.told.Name.{nameText};
 ghost use Rattle.sheet.specs.Rows.{num, ref, bit, row, bodyBytes};
-ghost use Rattle.sheet.specs.Put.{PutCells, PutHead, PutRows};
-ghost use Rattle.declaration_rows.specs.Rows.{named, signatureCells};
-ghost use Rattle.declaration_rows.specs.Written.{RecordRoom, signatureBy, initBy, headCells, headCounts, constructorCells, functionCells, propertyFlags, propertySignatures, propertyCells, parameterCells};
+ghost use Rattle.sheet.specs.told.Put.{PutCells, PutHead, PutRows};
+ghost use Rattle.declaration_rows.specs.Rows.{nameCell, signatureCells};
+ghost use Rattle.declaration_rows.specs.told.Written.{RecordRoom, signatureBy, initBy, headCells, headCounts, constructorCells, functionCells, propertyFlags, propertySignatures, propertyCells, parameterCells};
 
 // Roles of types: a return or property type, a receiver, a parameter, a vararg element, an argument. As in specs/Rows.antt.
 pub const RETURN_ROLE: u8 = 1;
@@ -60,7 +60,7 @@ pub fn put_named(
     text: &mut [u8],
 ) -> State
     requires { ⌜ RecordRoom (2 ^ 63) (now payload) (now d2) state ⌝ }
-    ensures { λ r. ⌜ PutCells (named (nameText (now (payload .entry)) (now (d2 .entry)) name) ∷ []) (state .types) state r (now (sheet .entry)) (now (sheet .exit)) (now (text .entry)) (now (text .exit)) ⌝ }
+    ensures { λ r. ⌜ PutCells (nameCell (nameText (now (payload .entry)) (now (d2 .entry)) name) ∷ []) (state .types) state r (now (sheet .entry)) (now (sheet .exit)) (now (text .entry)) (now (text .exit)) ⌝ }
 {
     let at = state.sheet;
     let offset = state.text;
@@ -165,7 +165,7 @@ fn put_signature(
 // The name of a constructor whose signature has none.
 fn put_init(state: State, sheet: &mut [u8], text: &mut [u8]) -> State
     requires { ⌜ state .sheet + state .text ≤ 2 ^ 63 ⌝ }
-    ensures { λ r. ⌜ PutCells (named (some (ascii "<init>")) ∷ []) (state .types) state r (now (sheet .entry)) (now (sheet .exit)) (now (text .entry)) (now (text .exit)) ⌝ }
+    ensures { λ r. ⌜ PutCells (nameCell (some (ascii "<init>")) ∷ []) (state .types) state r (now (sheet .entry)) (now (sheet .exit)) (now (text .entry)) (now (text .exit)) ⌝ }
 {
     let at = state.sheet;
     let offset = state.text;

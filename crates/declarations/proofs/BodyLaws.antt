@@ -16,22 +16,22 @@ use Rattle.foundation.specs.Results.{ok, _from_}
 use Rattle.foundation.specs.Texts.{Text}
 use Rattle.fields.specs.Fields.{Class·flags, Class·fq-name, Class·constructor}
 use Rattle.wire.specs.Wire.{Message, cut}
-use Rattle.names.specs.Name.{sourceText, nameText, absentName}
+use Rattle.names.specs.told.Name.{sourceText, nameText, absentName}
 use Rattle.names.specs.declared.name.Name.{Name}
 use Rattle.sheet.specs.Rows.{Row, row, sheetFrom, texts, bodyBytes}
-use Rattle.sheet.specs.Put.{PutHead, PutRows, past}
+use Rattle.sheet.specs.told.Put.{PutHead, PutRows, past}
 use Rattle.sheet.specs.declared.State.{State}
 use Rattle.sheet.proofs.RowLaws.{sheet-append, texts-append}
 use Rattle.sheet.proofs.PutLaws.{put-sheet, put-text, put-types, put-none, rows-then}
 use Rattle.declaration_rows.specs.Declarations.{Constructor, Declarations}
 use Rattle.declaration_rows.specs.Rows.{propertyRows}
-use Rattle.declaration_rows.specs.Written.{headCells, headCounts}
+use Rattle.declaration_rows.specs.told.Written.{headCells, headCounts}
 use Rattle.declaration_rows.proofs.WrittenLaws.{head-small}
 use Rattle.declaration_rows.proofs.RecordLaws.{head-put}
 use Rattle.schema.specs.Reading.{Scope, classNameIn}
 use Rattle.schema.specs.Members.{flagsIn, listIn, constructorIn, functionIn, propertyIn, head, constructorsIn, functionField, propertyField, listsIn, afterTable}
-use Rattle.schema.specs.Told.{Lent, NamesOf, Scoped}
-use Rattle.schema.specs.MembersTold.{Affords, Within, ListedTold, ListTold}
+use Rattle.schema.specs.told.SchemaTold.{Lent, NamesOf, Scoped}
+use Rattle.schema.specs.told.MembersTold.{Affords, Within, ListedTold, ListTold}
 use Rattle.schema.specs.declared.Listed.{Listed}
 use Rattle.schema.specs.declared.Listed.the-variants as listed
 use Rattle.schema.specs.declared.Stop.{Stop}
@@ -40,7 +40,7 @@ use Rattle.descriptors.specs.Defaults.{closedConstructor, closedFunction}
 use Rattle.members.specs.Lists.{sectionRows}
 use Rattle.members.specs.declared.list.Member.the-variants as member
 use Rattle.declarations.specs.Payload.{headRow, declarationRows}
-use Rattle.declarations.specs.BodyTold.{
+use Rattle.declarations.specs.told.BodyTold.{
   headCost,
   listCost,
   listsCost,

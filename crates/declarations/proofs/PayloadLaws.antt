@@ -2,37 +2,39 @@
 -- Assumes nothing.
 use mathlib.Core.Path.{_≡_, refl, ap, sym, subst, _∙_}
 use mathlib.Core.Bool.{Bool, true, false}
-use mathlib.Core.List.{List, _++_, append-nil}
+use mathlib.Core.List.{List, [], _∷_, _++_, append-nil}
 use mathlib.Core.Option.{Option}
 use Prim.Native.Nat.{ℕ, _+_, _-_, _*_, _^_, _≤_, _<_}
 use native.Mathlib.Nat.{zero-add}
 use native.Mathlib.Omega.{arith}
 use borrow.Rule.Slice.PartMut.{putMid, midOf, postOf, post-is, take-put, same-len-mid}
+use package.types.Run.{OneOf, miss}
+use denote.Enum.Declared.{tagOf}
 use lib.Dec.{eqb}
 use lib.ListN.{length, take, drop, getD, length-append, length-take, length-drop}
-use lib.Seq.{length-take-le, drop-append-seam, drop-length, getD-take, getD-drop, take-take, take-append-seam}
+use lib.Seq.{length-take-le, take-all, drop-append-seam, drop-length, getD-take, getD-drop, take-take, take-append-seam}
 use Rattle.foundation.specs.Results as Results
-use Rattle.foundation.specs.Results.{Res, ok, refused, _from_, got}
+use Rattle.foundation.specs.Results.{Res, ok, refused, Part, _from_, got}
 use Rattle.foundation.specs.Texts.{Text}
 use Rattle.fields.specs.Fields.{StringTableTypes·record, TypeTable·type, Class·type-table}
 use Rattle.wire.specs.Wire.{Message, cut, readDelimited}
-use Rattle.wire.specs.Told.{refusal, restOf}
-use Rattle.wire.specs.Told as wire
-use Rattle.messages.specs.Asked.{CheckedTold, bodies}
+use Rattle.wire.specs.told.WireTold.{wireRefused, restOf, partBetween}
+use Rattle.messages.specs.told.Asked.{CheckedTold, bodies}
 use Rattle.wire.specs.declared.WireError.{WireError}
-use Rattle.messages.specs.Reader as reader
+use Rattle.messages.specs.told.Reader as reader
 use Rattle.messages.specs.declared.reader.Split as parted
 use Rattle.messages.specs.declared.reader.Split.the-variants as parts
 use Rattle.messages.specs.declared.Checked.{Checked}
 use Rattle.messages.specs.declared.Checked.the-variants as checked
-use Rattle.messages.proofs.BodyLaws.{part-is}
+use Rattle.messages.proofs.BodyLaws.{part-is, checked-at}
 use Rattle.names.specs.Records.{Record}
 use Rattle.names.specs.Names.{Names, endsFit}
-use Rattle.names.specs.Index.{IndexOf, IndexTold}
+use Rattle.names.specs.told.Index.{IndexOf, IndexTold}
 use Rattle.names.specs.declared.records.RecordIndex.{RecordIndex}
 use Rattle.names.specs.declared.records.RecordIndex.the-variants as records
-use Rattle.lookup.specs.Lookups.{NotesOf}
-use Rattle.lookup.specs.Strings.{codesFrom, sizesFrom, Keeps, SizesOf}
+use Rattle.names.proofs.records.RecordIndex as record-index
+use Rattle.lookup.specs.told.Lookups.{NotesOf}
+use Rattle.lookup.specs.told.Strings.{codesFrom, sizesFrom, Keeps, SizesOf}
 use Rattle.lookup.proofs.LookupLaws.{index-longer}
 use Rattle.lookup.proofs.ResolveLaws.{notes-kept}
 use Rattle.lookup.proofs.StringLaws.{codes-inside, codes-before, keeps-less}
@@ -40,15 +42,17 @@ use Rattle.foundation.proofs.PresenceLaws.{elem-below}
 use Rattle.schema.specs.Reading.{TypeTable, scope, allowance}
 use Rattle.schema.specs.Types.{typeTableIn}
 use Rattle.schema.specs.Members.{afterTable, bodyIn}
-use Rattle.schema.specs.TableTold.{TypeIndexTold}
+use Rattle.schema.specs.told.TableTold.{TypeIndexTold}
 use Rattle.schema.specs.declared.table.TypeIndex.{TypeIndex}
 use Rattle.schema.specs.declared.table.TypeIndex.the-variants as types
+use Rattle.schema.proofs.table.TypeIndex as type-index
 use Rattle.declarations.specs.Payload.{bodyOf, payload}
-use Rattle.declarations.specs.PayloadTold.{bodyFrom, BodyAt, BodyOpened, NotedOpened, OpenedAt, OpenedTold, LentTold}
-use Rattle.schema.specs.Told.{EntriesOf}
+use Rattle.declarations.specs.told.PayloadTold.{bodyFrom, BodyAt, BodyOpened, NotedOpened, OpenedAt, OpenedTold, LentTold}
+use Rattle.schema.specs.told.SchemaTold.{EntriesOf}
 use Rattle.schema.specs.declared.Tables.{Tables}
 use Rattle.declarations.specs.declared.payload.Opened.{Opened}
 use Rattle.declarations.specs.declared.payload.Opened.the-variants as opened
+use Rattle.declarations.proofs.payload.Opened as opened-told
 use Rattle.declarations.proofs.RoomLaws.{bodies-few, inner-few, records-many}
 
 -- A body by its type table, of a class and of a package.
@@ -59,7 +63,7 @@ module _ (names : Names) (m : Message) (l : ℕ) where
   table-then true e = rw e
   table-then false e = rw e
 
-  table-refuses : (class : Bool) (error : WireError) → typeTableIn Class·type-table m l ≡ refusal error → bodyIn class names m l ≡ refusal error
+  table-refuses : (class : Bool) (error : WireError) → typeTableIn Class·type-table m l ≡ wireRefused error → bodyIn class names m l ≡ wireRefused error
   unfolding bodyIn
   table-refuses true error e = rw e
   table-refuses false error e = rw e
@@ -68,20 +72,31 @@ pub body-after : (kind : ℕ) (names : Names) (m : Message) (l : ℕ) {table : T
     → bodyOf kind names m l ≡ afterTable (eqb kind 1) (scope names table) m l
 body-after kind names m l = table-then names m l (eqb kind 1)
 
+-- What neither gives its notes nor is refused had no room.
+pub types-left : (r : TypeIndex) → OneOf (1 ∷ 2 ∷ []) (tagOf type-index.the-type r) → OneOf (0 ∷ 1 ∷ []) (tagOf type-index.the-type r) → r ≡ types.NoRoom
+types-left (types.Types n first) k l = absurd (miss (1 ∷ 2 ∷ []) 0 tt k)
+types-left types.NoRoom k l = refl
+types-left (types.Refused error) k l = absurd (miss (0 ∷ 1 ∷ []) 2 tt l)
+
+pub records-left : (r : RecordIndex) → OneOf (1 ∷ 2 ∷ []) (tagOf record-index.the-type r) → OneOf (0 ∷ 1 ∷ []) (tagOf record-index.the-type r) → r ≡ records.NoRoom
+records-left (records.Records count) k l = absurd (miss (1 ∷ 2 ∷ []) 0 tt k)
+records-left records.NoRoom k l = refl
+records-left (records.Refused error) k l = absurd (miss (0 ∷ 1 ∷ []) 2 tt l)
+
 -- The body, cut.
-module _ (bytes : List ℕ) (at count : ℕ) (entries : List ℕ) (x : Checked) (t : CheckedTold (cut (restOf 0 bytes at)) x) where
-  here : restOf 0 bytes at ≡ _from_ at (drop at bytes)
-  here = ap (λ (n : ℕ). _from_ n (drop at bytes)) (zero-add at)
+module _ (bytes : List ℕ) (at count : ℕ) (entries : List ℕ) (x : Checked) (t : CheckedTold (cut (_from_ at (take (length bytes - at) (drop at bytes)))) x) where
+  here : _from_ at (take (length bytes - at) (drop at bytes)) ≡ _from_ at (drop at bytes)
+  here = ap (λ (l : List ℕ). _from_ at l) (take-all (length bytes - at) (drop at bytes) (omega (arith, length-drop at bytes)))
 
   pub body-refused : {error err : WireError} → x ≡ checked.Refused error → err ≡ error → BodyOpened bytes at count entries (opened.Refused err)
   body-refused {error} {err} g e kind names =
-      let refuses : cut (_from_ at (drop at bytes)) ≡ refusal err = ap cut (sym here) ∙ subst (CheckedTold (cut (restOf 0 bytes at))) g t ∙ ap refusal (sym e) in
+      let refuses : cut (_from_ at (drop at bytes)) ≡ wireRefused err = ap cut (sym here) ∙ subst (CheckedTold (cut (_from_ at (take (length bytes - at) (drop at bytes))))) g t ∙ ap wireRefused (sym e) in
       rw refuses
 
   module _ (g : x ≡ checked.Whole) (r : TypeIndex)
       (h : (m : Message) → cut (_from_ at (drop at bytes)) ≡ ok m → TypeIndexTold bytes at Class·type-table m entries r) where
     whole : (m : Message) × (cut (_from_ at (drop at bytes)) ≡ ok m)
-    whole = let w = subst (CheckedTold (cut (restOf 0 bytes at))) g t in (w .0, ap cut (sym here) ∙ w .1)
+    whole = let w = subst (CheckedTold (cut (_from_ at (take (length bytes - at) (drop at bytes))))) g t in (w .0, ap cut (sym here) ∙ w .1)
 
     told : {y : TypeIndex} → r ≡ y → TypeIndexTold bytes at Class·type-table (whole .0) entries y
     told e = subst (TypeIndexTold bytes at Class·type-table (whole .0) entries) e (h (whole .0) (whole .1))
@@ -131,16 +146,19 @@ noted-then bytes rest count before worked u h part same r t =
     }
 
 -- The name table, cut, and then the body.
-module _ (bytes : List ℕ) (start end rest : ℕ) (o : start ≤ end) (i : end ≤ rest) (k : rest ≤ length bytes) (x : Checked) (t : CheckedTold (cut (restOf 0 (take end bytes) start)) x) where
+module _ (bytes : List ℕ) (start end rest : ℕ) (o : start ≤ end) (i : end ≤ rest) (k : rest ≤ length bytes) (x : Checked) (u : CheckedTold (cut (_from_ start (take (end - start) (drop start bytes)))) x) where
+  t : CheckedTold (cut (restOf 0 (take end bytes) start)) x
+  t = subst (λ (p : Part). CheckedTold (cut p) x) (sym (part-is 0 bytes start end o)) (checked-at bytes start end x u)
+
   -- the name table and the rest
   abbrev Delimited : Type 0
-  Delimited = readDelimited (_from_ 0 bytes) ≡ got (wire.bodyOf 0 bytes start end) (restOf 0 bytes rest)
+  Delimited = readDelimited (_from_ 0 bytes) ≡ got (partBetween 0 bytes start end) (restOf 0 bytes rest)
 
   pub table-refused : Delimited → {error err : WireError} → x ≡ checked.Refused error → err ≡ error → (notes : List ℕ) → OpenedTold bytes notes (opened.Refused err)
   unfolding payload
   table-refused d {error} {err} g e notes kind d2 =
-      let refuses : cut (wire.bodyOf 0 bytes start end) ≡ refusal err =
-      ap cut (sym (part-is 0 bytes start end o)) ∙ subst (CheckedTold (cut (restOf 0 (take end bytes) start))) g t ∙ ap refusal (sym e) in
+      let refuses : cut (partBetween 0 bytes start end) ≡ wireRefused err =
+      ap cut (sym (part-is 0 bytes start end o)) ∙ subst (CheckedTold (cut (restOf 0 (take end bytes) start))) g t ∙ ap wireRefused (sym e) in
       rw (d, refuses)
 
   module _ (g : x ≡ checked.Whole) (before : List ℕ) (r : RecordIndex)
@@ -148,7 +166,7 @@ module _ (bytes : List ℕ) (start end rest : ℕ) (o : start ≤ end) (i : end 
     table : (m : Message) × (cut (restOf 0 (take end bytes) start) ≡ ok m)
     table = subst (CheckedTold (cut (restOf 0 (take end bytes) start))) g t
 
-    cuts : cut (wire.bodyOf 0 bytes start end) ≡ ok (table .0)
+    cuts : cut (partBetween 0 bytes start end) ≡ ok (table .0)
     cuts = ap cut (sym (part-is 0 bytes start end o)) ∙ table .1
 
     indexed : {y : RecordIndex} → r ≡ y → IndexTold (take end bytes) start (table .0) before y
@@ -208,14 +226,14 @@ module _ (bytes : List ℕ) (start end rest : ℕ) (o : start ≤ end) (i : end 
           w .body (record { inside = k; short = omega (arith, room .short); long = omega (arith, room .long) })
 
 pub payload-refused : (bytes notes : List ℕ) (x : parted.Split) → reader.SplitTold bytes (readDelimited (_from_ 0 bytes)) x
-    → {error : WireError} → x ≡ parts.Refused error → OpenedTold bytes notes (opened.Refused error)
+    → {error err : WireError} → x ≡ parts.Refused error → err ≡ error → OpenedTold bytes notes (opened.Refused err)
 unfolding payload
-payload-refused bytes notes x t g kind d2 =
-    let refuses = subst (reader.SplitTold bytes (readDelimited (_from_ 0 bytes))) g t in
+payload-refused bytes notes x t {error} {err} g e kind d2 =
+    let refuses : readDelimited (_from_ 0 bytes) ≡ wireRefused err = subst (reader.SplitTold bytes (readDelimited (_from_ 0 bytes))) g t ∙ ap wireRefused (sym e) in
     rw refuses
 
 pub payload-parts : (bytes : List ℕ) (x : parted.Split) → reader.SplitTold bytes (readDelimited (_from_ 0 bytes)) x → {a b c : ℕ} → x ≡ parts.Parts a b c
-    → (readDelimited (_from_ 0 bytes) ≡ got (wire.bodyOf 0 bytes a b) (restOf 0 bytes c)) × (a ≤ b) × (b ≤ c) × (c ≤ length bytes)
+    → (readDelimited (_from_ 0 bytes) ≡ got (partBetween 0 bytes a b) (restOf 0 bytes c)) × (a ≤ b) × (b ≤ c) × (c ≤ length bytes)
 payload-parts bytes x t g =
     let w = subst (reader.SplitTold bytes (readDelimited (_from_ 0 bytes))) g t in
     (w .0, w .2, w .3, w .4)
@@ -296,10 +314,14 @@ module _ (bytes d2 ends notes : List ℕ) (limit : ℕ) (c : limit ≡ codesFrom
           ∙ ap (λ (n : ℕ). take n all) (sym part-length)
           ∙ take-append-seam part (drop limit notes)
 
-  pub lent-refused : {error : WireError} → r ≡ opened.Refused error → LentTold bytes d2 ends all (opened.Refused error)
-  lent-refused e = subst (OpenedTold bytes part) e t
-
-  pub lent-no-room : r ≡ opened.NoRoom → LentTold bytes d2 ends all opened.NoRoom
+  lent-no-room : r ≡ opened.NoRoom → LentTold bytes d2 ends all opened.NoRoom
   lent-no-room e room =
       let z : codesFrom (length all) ≡ length part = ap codesFrom all-length ∙ sym c ∙ sym part-length in
       subst (OpenedTold bytes part) e t (record { short = room .short; long = subst (λ (n : ℕ). 3 * length bytes ≤ 2 * n) z (room .long) })
+
+-- Where the tables aren't noted, that is the answer.
+pub lent-stopped : (bytes d2 ends notes : List ℕ) (limit : ℕ) → limit ≡ codesFrom (length notes) → (part : List ℕ) → length part ≡ length (take limit notes)
+    → (r : Opened) → OneOf (1 ∷ 2 ∷ []) (tagOf opened-told.the-type r) → OpenedTold bytes part r → LentTold bytes d2 ends (part ++ drop limit notes) r
+lent-stopped bytes d2 ends notes limit c part l (opened.Body at tables) k t = absurd (miss (1 ∷ 2 ∷ []) 0 tt k)
+lent-stopped bytes d2 ends notes limit c part l (opened.Refused error) k t = t
+lent-stopped bytes d2 ends notes limit c part l opened.NoRoom k t = lent-no-room bytes d2 ends notes limit c part l opened.NoRoom t refl

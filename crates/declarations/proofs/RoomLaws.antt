@@ -14,7 +14,7 @@ use Rattle.foundation.proofs.ResultLaws.{Gives, gives-bind, gives-weaken, gives
 use Rattle.fields.specs.Fields.{StringTableTypes·record, StringTableTypes·local-name}
 use Rattle.wire.specs.Wire.{Value, varint, fixed, body, Field, field, Message, readVarint, readValue, readField, cut}
 use Rattle.wire.specs.Messages.{values, bytesOf, bodiesOf, cutOption, message, cutAll, messages, varints}
-use Rattle.messages.specs.Asked.{bodies}
+use Rattle.messages.specs.told.Asked.{bodies}
 use Rattle.names.specs.Records.{Record, recordOf}
 use Rattle.names.specs.Names.{recordsOf}
 use Rattle.wire.proofs.Readers.{Within, within-shorter, after-shorter, varint-after, value-after}

@@ -1,3 +1,2 @@
 pub mod Payload
-pub mod PayloadTold
-pub mod BodyTold
+pub mod told

@@ -13,7 +13,7 @@ use Rattle.sheet.specs.Rows.{num, Row, row}
 use Rattle.declaration_rows.specs.Declarations.{Declarations}
 use Rattle.schema.specs.Reading.{Read, allowance}
 use Rattle.schema.specs.Members.{bodyIn}
-use Rattle.declaration_rows.specs.Rows.{named}
+use Rattle.declaration_rows.specs.Rows.{nameCell}
 use Rattle.members.specs.Lists.{sectionRows}
 use Rattle.members.specs.declared.list.Member.the-variants as member
 
@@ -33,7 +33,7 @@ payload kind d2 bytes =
 abbrev pub headRow : ℕ → Declarations → Row
 headRow kind d =
     row 1 (
-    num 1 kind ∷ named (d .name) ∷ num 8 (d .flags) ∷ num 2 (length (d .constructors)) ∷ num 2 (length (d .functions))
+    num 1 kind ∷ nameCell (d .name) ∷ num 8 (d .flags) ∷ num 2 (length (d .constructors)) ∷ num 2 (length (d .functions))
     ∷ num 2 (length (d .properties)) ∷ [])
 
 -- the head, then the rows of each list: constructors, functions, properties

@@ -1,11 +1,11 @@
 // The body of a class or package written as rows: the head, constructors, functions, properties; then the head's counts. The definitions:
-// specs/Payload.antt, `declarationRows`, and schema's specs/Members.antt, `afterTable`; what the functions tell: specs/BodyTold.antt.
+// specs/Payload.antt, `declarationRows`, and schema's specs/Members.antt, `afterTable`; what the functions tell: specs/told/BodyTold.antt.
 ghost use mathlib.Core.Path.{_≡_};
 ghost use lib.ListN.{length};
 ghost use Rattle.schema.specs.Members.{functionField, propertyField};
-ghost use Rattle.schema.specs.Told.{lent, Stands};
-ghost use Rattle.schema.specs.MembersTold.{Affords};
-ghost use Rattle.declarations.specs.BodyTold.{headCost, listCost, listsCost, bodyCost, BodyHead, ConstructorsTold, ListsTold, BodyWalked};
+ghost use Rattle.schema.specs.told.SchemaTold.{lent, Stands};
+ghost use Rattle.schema.specs.told.MembersTold.{Affords};
+ghost use Rattle.declarations.specs.told.BodyTold.{headCost, listCost, listsCost, bodyCost, BodyHead, ConstructorsTold, ListsTold, BodyWalked};
 use declaration_rows::put_head;
 use declaration_rows::put_head_counts;
 use fields::CLASS_CONSTRUCTOR;
@@ -55,6 +55,18 @@ enum Lists {
 pub enum Body {
     Done { sections: Sections },
     Refused { stop: Stop },
+}
+
+impl Body {
+    // The refusal of a refused answer.
+    pub fn stop(self) -> Stop
+        ensures { λ r. ⌜ ((s : Stop) → self ≡ Body.Refused s → r ≡ s) ⌝ }
+    {
+        match self {
+            Body::Done { sections: _ } => Stop::TooManyTypes,
+            Body::Refused { stop } => stop,
+        }
+    }
 }
 
 fn function_field(class: bool) -> u32

@@ -9,7 +9,7 @@ use Rattle.declaration_rows.specs.Declarations.{Ty, Constructor, Function}
 use Rattle.erasure.specs.Erasure.{print, printReturned}
 use Rattle.descriptors.specs.Defaults.{Parts, functionParts, constructorParts, descriptor}
 use Rattle.defaults.specs.Needs.{Has, needed, neededByConstructor, partTexts}
-use Rattle.defaults.specs.Told.{ToldBy, Told, ToldConstructor, SameBy, SameText}
+use Rattle.defaults.specs.Descriptor.{ToldBy, ToldFunction, ToldConstructor, SameBy, SameText}
 use Rattle.defaults.proofs.ChoiceLaws.{some-map}
 use Rattle.defaults.proofs.Erased.{function-iff, constructor-iff}
 use Rattle.defaults.proofs.Printed.{the-cut, every-cut, same-parts, same-descriptor}
@@ -42,7 +42,7 @@ same-by x y = record {
 }
 
 -- Each function's default descriptor, and each constructor's, tells what the document says of it.
-pub told : (f : Function) → Told f (mapOption descriptor (functionParts f))
+pub told : (f : Function) → ToldFunction f (mapOption descriptor (functionParts f))
 told f = told-by (needed f) (functionParts f) (function-iff f)
 
 pub told-constructor : (c : Constructor) → ToldConstructor c (mapOption descriptor (constructorParts c))

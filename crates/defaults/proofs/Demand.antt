@@ -15,7 +15,7 @@ use Rattle.metadata.specs.Read.{read}
 use Rattle.promises.specs.Walk.{Sheet, closed}
 use Rattle.promises.specs.Promises.{Promised}
 use Rattle.promises.proofs.Answered.{answer-promised}
-use Rattle.defaults.specs.Told.{Told, ToldConstructor, SameText}
+use Rattle.defaults.specs.Descriptor.{ToldFunction, ToldConstructor, SameText}
 use Rattle.defaults.specs.Demand.{Described, described, functionsOn, constructorsOn, functionsIn, functionsOf, Demand}
 use Rattle.defaults.proofs.Defaults.{told, told-constructor, same-text}
 
@@ -77,7 +77,7 @@ demand-3 sheet text sheet′ text′ i j {a} {b} e e′ u v y z =
     record {
       first = functions-same i a p;
       second = functions-same j b q;
-      each = both (λ x. Told (x .0) (x .1)) told;
+      each = both (λ x. ToldFunction (x .0) (x .1)) told;
       same = both (λ x. All (SameText x) (functionsOn a ++ functionsOn b)) λ f. both (SameText (f, ofFunction f)) (same-text f);
       constructors =
           all-append C (constructorsOn a) (constructorsOn b) (each-constructor i a p C told-constructor) (each-constructor j b q C told-constructor);

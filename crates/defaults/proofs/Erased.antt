@@ -12,7 +12,28 @@ use Rattle.foundation.proofs.ChoiceLaws.{if-ind, all-append, same-true}
 use Rattle.foundation.proofs.EveryLaws.{all-split}
 use Rattle.defaults.proofs.ChoiceLaws.{some-map, some-both, some-every, same-false}
 use Rattle.declaration_rows.specs.Declarations.{Types, noTypes, andType, Ty, typesOf, Constructor, Function}
-use Rattle.erasure.specs.Erasure.{Meaning, primitive, primitiveArray, array, unit, nothing, mapped, Entry, listed, lookUp, meaningOf, Erased, arrayOf, erasedAs, firstErased, erased, void, value, returnedAs, erasedReturn}
+use Rattle.erasure.specs.Erasure.{
+  Meaning,
+  primitive,
+  primitiveArray,
+  array,
+  unit,
+  nothing,
+  mapped,
+  Entry,
+  listed,
+  lookUp,
+  meaningOf,
+  Erased,
+  arrayOf,
+  erasedAs,
+  firstErased,
+  erased,
+  void,
+  ofType,
+  returnedAs,
+  erasedReturn,
+}
 use Rattle.descriptors.specs.Defaults.{Parts, parts, erasedOption, parameterTypes, typesBefore, suspends, suspendedParts, functionParts, constructorParts}
 use Rattle.defaults.specs.Needs.{withSlashes, kotlin·Array, kotlin·Nothing, HasDescriptor, ends, through, HasDescriptorTy, Has, needed, neededByConstructor}
 
@@ -105,12 +126,12 @@ erased-iff t = (first-has false (typesOf (t ∷ [])), first-erased false (typesO
 -- and as a return: the only one that is special there, Unit, has an erasure in any case.
 returned-as : (boxed : Bool) (inner : Option Erased) (m : Meaning)
     → IsSome (returnedAs m (erasedAs boxed inner m)) ↔ IsSome (erasedAs boxed inner m)
-returned-as boxed inner (primitive p) = some-map value (erasedAs boxed inner (primitive p))
-returned-as boxed inner (primitiveArray p) = some-map value (erasedAs boxed inner (primitiveArray p))
-returned-as boxed inner array = some-map value (erasedAs boxed inner array)
+returned-as boxed inner (primitive p) = some-map ofType (erasedAs boxed inner (primitive p))
+returned-as boxed inner (primitiveArray p) = some-map ofType (erasedAs boxed inner (primitiveArray p))
+returned-as boxed inner array = some-map ofType (erasedAs boxed inner array)
 returned-as boxed inner unit = (λ h. h, λ h. h)
-returned-as boxed inner nothing = some-map value (erasedAs boxed inner nothing)
-returned-as boxed inner (mapped n) = some-map value (erasedAs boxed inner (mapped n))
+returned-as boxed inner nothing = some-map ofType (erasedAs boxed inner nothing)
+returned-as boxed inner (mapped n) = some-map ofType (erasedAs boxed inner (mapped n))
 
 returned-iff : (t : Ty) → IsSome (erasedReturn t) ↔ HasDescriptorTy t
 unfolding erasedReturn erased firstErased

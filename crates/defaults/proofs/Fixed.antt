@@ -26,8 +26,8 @@ use Rattle.erasure.specs.Erasure.{
   class,
   kotlinUnit,
 }
-use Rattle.descriptors.specs.Defaults.{object, continuation}
-use Rattle.defaults.specs.Needs.{nameIn}
+use Rattle.descriptors.specs.Defaults.{object, continuationClass}
+use Rattle.defaults.specs.Needs.{erasedName}
 
 -- the form as a test
 abbrev someTest : List ℕ → Bool
@@ -86,8 +86,8 @@ given nothing = []
 given (mapped n) = class n ∷ []
 
 abbrev pub fixed : List Erased
-fixed = concat (map (λ e. given (e .meaning)) listed) ++ (object ∷ continuation ∷ [])
+fixed = concat (map (λ e. given (e .meaning)) listed) ++ (object ∷ continuationClass ∷ [])
 
-pub fixed-form : All ClassName (concat (map nameIn fixed))
+pub fixed-form : All ClassName (concat (map erasedName fixed))
 unfolding segments utf8 utf8Of
-fixed-form = names-form (concat (map nameIn fixed)) tt
+fixed-form = names-form (concat (map erasedName fixed)) tt

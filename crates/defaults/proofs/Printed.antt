@@ -5,13 +5,33 @@ use mathlib.Core.List.{List, [], _∷_, _++_, map}
 use Prim.Native.Nat.{ℕ}
 use Rattle.foundation.specs.Choices.{concat, All}
 use Rattle.characters.specs.Characters.{utf8}
-use Rattle.erasure.specs.Erasure.{Primitive, boolean, byte, char, short, int, long, float, double, letter, Erased, base, class, arrayOf, Returned, void, value, print, printReturned}
+use Rattle.erasure.specs.Erasure.{
+  Primitive,
+  boolean,
+  byte,
+  char,
+  short,
+  int,
+  long,
+  float,
+  double,
+  letter,
+  Erased,
+  base,
+  class,
+  arrayOf,
+  Returned,
+  void,
+  ofType,
+  print,
+  printReturned,
+}
 use Rattle.descriptors.specs.Defaults.{Parts, descriptor}
 use Rattle.grammar.specs.Grammar as grammar
 use Rattle.grammar.specs.Grammar.{ClassName, BaseType, FieldType, baseType, objectType, arrayType, ReturnType, fieldType, voidType, join, Cut}
 use Rattle.grammar.proofs.UniqueCut.{cuts-equal}
-use Rattle.defaults.specs.Needs.{partTexts, nameIn, nameInReturned, partNames}
-use Rattle.defaults.specs.Told.{InForm}
+use Rattle.defaults.specs.Needs.{partTexts, erasedName, nameInReturned, partNames}
+use Rattle.defaults.specs.Descriptor.{InForm}
 use Rattle.foundation.proofs.EveryLaws.{all-split}
 use Rattle.defaults.proofs.ChoiceLaws.{last-split}
 
@@ -26,27 +46,27 @@ base-letter long = grammar.long
 base-letter float = grammar.float
 base-letter double = grammar.double
 
-print-field : (e : Erased) → All ClassName (nameIn e) → FieldType (print e)
+print-field : (e : Erased) → All ClassName (erasedName e) → FieldType (print e)
 unfolding print
 print-field (base p) h = baseType (base-letter p)
 print-field (class n) h = objectType (utf8 n) (h .0)
 print-field (arrayOf e) h = arrayType (print-field e h)
 
-print-fields : (es : List Erased) → All ClassName (concat (map nameIn es)) → All FieldType (map print es)
+print-fields : (es : List Erased) → All ClassName (concat (map erasedName es)) → All FieldType (map print es)
 print-fields [] h = tt
 print-fields (e ∷ es) h =
-    let k = all-split ClassName (nameIn e) (concat (map nameIn es)) h in
+    let k = all-split ClassName (erasedName e) (concat (map erasedName es)) h in
     (print-field e (k .0), print-fields es (k .1))
 
 print-returned : (r : Returned) → All ClassName (nameInReturned r) → ReturnType (printReturned r)
 print-returned void h = voidType
-print-returned (value e) h = fieldType (print-field e h)
+print-returned (ofType e) h = fieldType (print-field e h)
 
 -- So the descriptor can be cut into its parts,
 pub the-cut : (p : Parts) → InForm p → Cut (descriptor p)
 unfolding partNames descriptor
 the-cut p h =
-    let k = all-split ClassName (concat (map nameIn (p .before))) (nameInReturned (p .last)) h in
+    let k = all-split ClassName (concat (map erasedName (p .before))) (nameInReturned (p .last)) h in
     record {
       parameters = map print (p .before);
       result = printReturned (p .last);

@@ -12,7 +12,7 @@ use Rattle.inputs.specs.Outcomes.{Answer}
 use Rattle.metadata.specs.Read.{reading}
 use Rattle.promises.specs.Walk.{walk, Closed}
 use Rattle.promises.specs.Promises.{sheetBytes, textBytes}
-use Rattle.defaults.specs.Told.{Told, ToldConstructor, SameText}
+use Rattle.defaults.specs.Descriptor.{ToldFunction, ToldConstructor, SameText}
 
 -- what is declared, and the text at the ref of the kind 7 that closes it: none is what the ref says is absent
 abbrev pub Described : Type 0 → Type 0
@@ -43,7 +43,7 @@ pub record Demand (i j : Input) (a b : Answer) : Type 0 where
   pub second : map (λ x. x .0) (functionsOn b) ≡ functionsOf j
   -- each has a default descriptor exactly when every type it needs has one, put together from its erased parts, in the grammar and cut
   -- by it into just these parts,
-  pub each : All (λ x. Told (x .0) (x .1)) (functionsOn a ++ functionsOn b)
+  pub each : All (λ x. ToldFunction (x .0) (x .1)) (functionsOn a ++ functionsOn b)
   -- and any two print the same text exactly when their erased parts are equal.
   pub same : All (λ x. All (SameText x) (functionsOn a ++ functionsOn b)) (functionsOn a ++ functionsOn b)
   -- The demand speaks of functions alone; each constructor has its default descriptor by the same rule.

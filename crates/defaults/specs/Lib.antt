@@ -1,3 +1,3 @@
 pub mod Needs
-pub mod Told
+pub mod Descriptor
 pub mod Demand

@@ -13,7 +13,7 @@ use Rattle.characters.specs.Characters.{utf8}
 use Rattle.names.specs.Records.{substituted}
 use Rattle.declaration_rows.specs.Declarations.{Types, andType, Ty, typesOf, Constructor, Function}
 use Rattle.schema.specs.Members.{bitOf}
-use Rattle.erasure.specs.Erasure.{Erased, base, class, arrayOf, Returned, void, value, print, printReturned}
+use Rattle.erasure.specs.Erasure.{Erased, base, class, arrayOf, Returned, void, ofType, print, printReturned}
 use Rattle.descriptors.specs.Defaults.{Parts}
 
 -- Dots become slashes.
@@ -64,15 +64,15 @@ unfoldable pub partTexts : Parts → List (List ℕ)
 partTexts p = map print (p .before) ++ (printReturned (p .last) ∷ [])
 
 -- the class name that a part holds between the L and the ; that printing adds, in UTF-8 as it is printed
-abbrev pub nameIn : Erased → List (List ℕ)
-nameIn (base p) = []
-nameIn (class n) = utf8 n ∷ []
-nameIn (arrayOf e) = nameIn e
+abbrev pub erasedName : Erased → List (List ℕ)
+erasedName (base p) = []
+erasedName (class n) = utf8 n ∷ []
+erasedName (arrayOf e) = erasedName e
 
 abbrev pub nameInReturned : Returned → List (List ℕ)
 nameInReturned void = []
-nameInReturned (value e) = nameIn e
+nameInReturned (ofType e) = erasedName e
 
 -- the class names of all parts
 unfoldable pub partNames : Parts → List (List ℕ)
-partNames p = concat (map nameIn (p .before)) ++ nameInReturned (p .last)
+partNames p = concat (map erasedName (p .before)) ++ nameInReturned (p .last)

@@ -13,21 +13,21 @@ use Rattle.foundation.specs.Results.{ok, Part, _from_}
 use Rattle.fields.specs.Fields.{ValueParameter·name, ValueParameter·type, ValueParameter·type-id}
 use Rattle.wire.specs.Wire.{Message, cut}
 use Rattle.wire.specs.Messages.{cutAll, messages}
-use Rattle.wire.specs.Told.{restOf, bodyOf}
-use Rattle.messages.specs.Asked.{bodies, NextIs, NextTold, PieceInside, PieceAfter}
+use Rattle.wire.specs.told.WireTold.{restOf, partBetween}
+use Rattle.messages.specs.told.Asked.{bodies, NextIs, NextBodyTold, PieceInside, PieceAfter}
 use Rattle.wire.specs.declared.Piece.{Piece}
 use Rattle.wire.specs.declared.Piece.the-variants as piece
 use Rattle.wire.proofs.WalkLaws.{whole, ok-same}
-use Rattle.characters.specs.Characters.{partFrom}
-use Rattle.names.specs.Name.{nameText}
+use Rattle.characters.specs.told.Places.{partFrom}
+use Rattle.names.specs.told.Name.{nameText}
 use Rattle.names.specs.declared.name.Name.{Name}
 use Rattle.declaration_rows.specs.Declarations.{Ty, Parameter}
 use Rattle.schema.specs.Reading.{Scope, kept, nameIn}
 use Rattle.schema.specs.Types.{maxDepth}
 use Rattle.schema.specs.Members.{listIn, parameterIn}
-use Rattle.schema.specs.Told.{Lent, NamesOf, Scoped, EntryAt, Stands}
-use Rattle.schema.specs.TypesTold.{orNullable}
-use Rattle.schema.specs.PlacesTold.{TableOf, TypeFound, FoundTypeTold, FoundTypeInside, FoundTypeFalls, DeclaredFound}
+use Rattle.schema.specs.told.SchemaTold.{Lent, NamesOf, Scoped, EntryAt, Stands}
+use Rattle.schema.specs.told.TypesTold.{orNullable}
+use Rattle.schema.specs.told.PlacesTold.{TableOf, TypeFound, FoundTypeTold, FoundTypeInside, FoundTypeFalls, DeclaredFound}
 use Rattle.schema.specs.declared.FoundType.{FoundType}
 use Rattle.schema.specs.declared.FoundType.the-variants as found
 use Rattle.schema.proofs.ListLaws.{First, cut-first}
@@ -37,8 +37,8 @@ use Rattle.erasure.specs.declared.Position.{Position}
 use Rattle.erasure.specs.declared.Position.the-variants as position
 use Rattle.erasure.specs.declared.Part as code
 use Rattle.erasure.specs.declared.Part.the-variants as part
-use Rattle.descriptors.specs.DefaultsTold.{erasedAt, partCost, PartWithin, PartTold, ErasedTold, parametersPart, ParametersTold}
-use Rattle.descriptors.specs.PartsTold.{PartRoom, Gave, PartOf, TypeGiven, typePart, ParameterGiven, parameterPart, preceded}
+use Rattle.descriptors.specs.told.DefaultsTold.{erasedAt, partCost, PartWithin, PartTold, ErasedTold, parametersPart, ParametersTold}
+use Rattle.descriptors.specs.told.PartsTold.{PartRoom, Gave, PartOf, TypeGiven, typePart, ParameterGiven, parameterPart, preceded}
 use Rattle.descriptors.proofs.GivenLaws.{list-given, FirstGiven, first-given, none-given, parameter-skipped, parameter-kept}
 use Rattle.descriptors.proofs.JoinLaws.{both, parameter-part, parameters-cons, text-none, text-then, told-then, told-absent, told-same, preceded-sum}
 
@@ -143,7 +143,7 @@ parts-start e msg base number at A₀ st = record {
 }
 
 module _ {e : Lent} {msg : List ℕ} {base number at : ℕ} {A₀ : List ℕ} {here size : ℕ} {A : List ℕ} (p : Parting e msg base number at A₀ here size A)
-    {x : Piece} (t : NextTold base msg number here x) where
+    {x : Piece} (t : NextBodyTold base msg number here x) where
   next-is : {y : Piece} → x ≡ y → {c : Scope} {ps : List Parameter} (g : Rest c msg base number at ps A₀ here size A)
       → NextIs base msg number (g .rest) y
   next-is q g = subst (NextIs base msg number (g .rest)) q (t .is (g .rest) (g .cuts))
@@ -182,9 +182,9 @@ module _ {e : Lent} {msg : List ℕ} {base number at : ℕ} {A₀ : List ℕ} {h
         the-rest : Message
         the-rest = next-is q g .0
 
-        one : First (bodyOf base msg a b) (bodies number the-rest) (g .left)
+        one : First (partBetween base msg a b) (bodies number the-rest) (g .left)
         unfolding the-rest
-        one = cut-first (bodyOf base msg a b) (bodies number (next-is q g .0)) (g .left) (ap cutAll (sym (next-is q g .2)) ∙ g .many)
+        one = cut-first (partBetween base msg a b) (bodies number (next-is q g .0)) (g .left) (ap cutAll (sym (next-is q g .2)) ∙ g .many)
 
         first : FirstGiven (parameterIn c) (one .first) (one .others) (g .later)
         first =

@@ -21,13 +21,15 @@ use Rattle.foundation.proofs.PresenceLaws.{none-is, some-is}
 use Rattle.fields.specs.Fields.{Type·nullable, Type·class-name}
 use Rattle.wire.specs.Wire.{Message, cut}
 use Rattle.wire.specs.Messages.{index, flag}
-use Rattle.characters.specs.Characters.{isScalar, width, partFrom, fromUtf16, utf8Of, utf8}
-use Rattle.characters.specs.WellFormed.{Characters, Units}
+use Rattle.characters.specs.Characters.{isScalar, width, fromUtf16, utf8Of, utf8}
+use Rattle.characters.specs.told.Places.{partFrom}
+use Rattle.characters.specs.WellFormed.{Units}
+use Rattle.characters.specs.told.CharactersTold.{Characters}
 use Rattle.characters.proofs.TestLaws.{scalar-below}
 use Rattle.names.specs.Names.{qualifiedName}
-use Rattle.names.specs.Name.{sourceText, fitted, isMeasured, sized, nameText}
-use Rattle.names.specs.Stream as stream
-use Rattle.names.specs.Stream.{changeOf, changed, sizedBytes, sourceBytes, nameBytes}
+use Rattle.names.specs.told.Name.{sourceText, fitted, isMeasured, sized, nameText}
+use Rattle.names.specs.told.Stream as stream
+use Rattle.names.specs.told.Stream.{changeOf, changed, sizedBytes, sourceBytes, nameBytes}
 use Rattle.names.specs.declared.name.Name.{Name}
 use Rattle.names.specs.declared.name.Change.{Change}
 use Rattle.names.proofs.NameLaws.{source-units, name-parts, front-none}
@@ -36,14 +38,14 @@ use Rattle.names.proofs.FittedLaws.{fitted-ind, zeros-first}
 use Rattle.names.proofs.ScalarLaws.{Strings, qualified-characters, d2-characters, substituted-keeps}
 use Rattle.declaration_rows.specs.Declarations.{Ty}
 use Rattle.schema.specs.Reading.{pure, lift, Scope, classNameIn}
-use Rattle.schema.specs.Told.{Lent, NamesOf, Scoped, Stands}
-use Rattle.schema.specs.TypesTold.{orNullable}
-use Rattle.schema.specs.PlacesTold.{TypeFound}
+use Rattle.schema.specs.told.SchemaTold.{Lent, NamesOf, Scoped, Stands}
+use Rattle.schema.specs.told.TypesTold.{orNullable}
+use Rattle.schema.specs.told.PlacesTold.{TypeFound}
 use Rattle.schema.proofs.StandsLaws.{stands-cut}
 use Rattle.schema.proofs.FoundLaws.{bind-given, first-same}
 use Rattle.schema.proofs.GivenLaws.{Entered, type-entered}
-use Rattle.erasure.specs.Erasure.{slashed, meaningOf, Erased, class, arrayOf, firstErased, erased, value, erasedReturn, print, printReturned}
-use Rattle.erasure.specs.Told.{Means, PutText, PutPart, fixedPart, partAt, printedTold, PrintsAs}
+use Rattle.erasure.specs.Erasure.{slashed, meaningOf, Erased, class, arrayOf, firstErased, erased, ofType, erasedReturn, print, printReturned}
+use Rattle.erasure.specs.told.ErasureTold.{Means, PutSized, PutPart, fixedPart, partAt, printedTold, PrintsAs}
 use Rattle.erasure.specs.declared.Meaning.{Meaning}
 use Rattle.erasure.specs.declared.Meaning.the-variants.{Other}
 use Rattle.erasure.specs.declared.Position.{Position}
@@ -52,8 +54,8 @@ use Rattle.erasure.specs.declared.Printed.{Printed}
 use Rattle.erasure.specs.declared.Printed.the-variants as prints
 use Rattle.erasure.proofs.ListedLaws.{too-long, no-kotlin, means-past}
 use Rattle.erasure.proofs.PartLaws.{first-at, element-at, return-at, part-told, part-short}
-use Rattle.descriptors.specs.DefaultsTold.{erasedAt}
-use Rattle.descriptors.specs.ErasedTold.{TypePartIs, PrintedPut, TypePartTold}
+use Rattle.descriptors.specs.told.DefaultsTold.{erasedAt}
+use Rattle.descriptors.specs.told.ErasedTold.{TypePartIs, PrintedPut, TypePartTold}
 use Rattle.descriptors.specs.declared.erased.TypePart.{TypePart}
 use Rattle.descriptors.specs.declared.erased.TypePart.the-variants as typePart
 
@@ -116,7 +118,7 @@ module _ (bytes : List ℕ) {before area : List ℕ} {size : ℕ} (p : stream.Pu
 
 -- L, a name and ; one after the other.
 pub class-put : (bytes : List ℕ) (at : ℕ) {next : ℕ} {A A₁ A₂ A₃ : List ℕ} → A₁ ≡ set A at 0x4c → stream.PutText bytes (at + 1) next A₁ A₂
-    → A₃ ≡ set A₂ next 0x3b → PutText (0x4c ∷ (bytes ++ (0x3b ∷ []))) at (next + 1 - at) A A₃
+    → A₃ ≡ set A₂ next 0x3b → PutSized (0x4c ∷ (bytes ++ (0x3b ∷ []))) at (next + 1 - at) A A₃
 class-put bytes at {next} {A} {A₁} {A₂} {A₃} e p q = record {
   size = omega (arith, p .place, length-append bytes (0x3b ∷ []));
   area =
@@ -127,13 +129,13 @@ class-put bytes at {next} {A} {A₁} {A₂} {A₃} e p q = record {
 }
 
 -- What is printed of a type whose class name is there.
-array-text : (inner : Option Erased) → mapOption printReturned (mapOption (λ e. value (arrayOf e)) inner) ≡ mapOption (λ e. 0x5b ∷ print e) inner
+array-text : (inner : Option Erased) → mapOption printReturned (mapOption (λ e. ofType (arrayOf e)) inner) ≡ mapOption (λ e. 0x5b ∷ print e) inner
 unfolding print
 array-text none = refl
 array-text (some e) = refl
 
 class-text : (payload d2 : List ℕ) (name : Name) (n : Text) → nameText payload d2 name ≡ some n
-    → printReturned (value (class (slashed n))) ≡ 0x4c ∷ (nameBytes payload d2 name true ++ (0x3b ∷ []))
+    → printReturned (ofType (class (slashed n))) ≡ 0x4c ∷ (nameBytes payload d2 name true ++ (0x3b ∷ []))
 unfolding print
 class-text payload d2 name n e = ap (λ (l : List ℕ). 0x4c ∷ (l ++ (0x3b ∷ []))) (sym (name-slashed payload d2 name n e))
 
@@ -152,7 +154,7 @@ module _ (payload d2 : List ℕ) (name : Name) {printed : Printed} {at : ℕ} {A
   printed-array e q = record { within = tt; is = λ n g inner. (by-answer e n inner ∙ array-text inner, record { size = refl; area = q }) }
 
   pub printed-class : length payload ≤ 32768 → length d2 ≤ 32768 → printed ≡ prints.ClassItself → {r : ℕ}
-      → PutText (0x4c ∷ (nameBytes payload d2 name true ++ (0x3b ∷ []))) at r A A′ → PrintedPut payload d2 name printed at (typePart.Whole r) A A′
+      → PutSized (0x4c ∷ (nameBytes payload d2 name true ++ (0x3b ∷ []))) at r A A′ → PrintedPut payload d2 name printed at (typePart.Whole r) A A′
   printed-class f g e p = record {
     within = omega (arith, p .size, length-append (nameBytes payload d2 name true) (0x3b ∷ []), name-short payload d2 name f g);
     is = λ n h inner. (0x4c ∷ (nameBytes payload d2 name true ++ (0x3b ∷ [])), by-answer e n inner ∙ ap some (class-text payload d2 name n h), p);

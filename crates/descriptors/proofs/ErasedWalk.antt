@@ -10,24 +10,24 @@ use native.Mathlib.Omega.{arith}
 use lib.ListN.{length, length-append}
 use Rattle.foundation.specs.Choices.{mapOption}
 use Rattle.foundation.proofs.OverlayLaws.{sets-then}
-use Rattle.characters.specs.Characters.{partFrom}
+use Rattle.characters.specs.told.Places.{partFrom}
 use Rattle.declaration_rows.specs.Declarations.{Ty, typesOf}
 use Rattle.schema.specs.Reading.{Scope}
 use Rattle.schema.specs.Types.{maxDepth}
-use Rattle.schema.specs.Told.{Lent, Scoped, EntryAt}
-use Rattle.schema.specs.TypesTold.{orNullable}
-use Rattle.schema.specs.PlacesTold.{TableOf, TypeFound, FoundTypeTold, FoundTypeInside, reach, FoundTypeFalls, firstOf, ArgumentFound}
+use Rattle.schema.specs.told.SchemaTold.{Lent, Scoped, EntryAt}
+use Rattle.schema.specs.told.TypesTold.{orNullable}
+use Rattle.schema.specs.told.PlacesTold.{TableOf, TypeFound, FoundTypeTold, FoundTypeInside, reach, FoundTypeFalls, headType, ArgumentFound}
 use Rattle.schema.specs.declared.FoundType.{FoundType}
 use Rattle.schema.specs.declared.FoundType.the-variants as found
 use Rattle.schema.proofs.StandsLaws.{part-ends}
 use Rattle.schema.proofs.GivenLaws.{Entered, type-entered}
-use Rattle.erasure.specs.Erasure.{Erased, firstErased, value, print, printReturned}
-use Rattle.erasure.specs.Told.{PutText}
+use Rattle.erasure.specs.Erasure.{Erased, firstErased, ofType, print, printReturned}
+use Rattle.erasure.specs.told.ErasureTold.{PutSized}
 use Rattle.erasure.specs.declared.Position.{Position}
 use Rattle.erasure.specs.declared.Position.the-variants.{Element}
 use Rattle.erasure.specs.declared.Part.the-variants as part
-use Rattle.descriptors.specs.DefaultsTold.{erasedAt, ErasedTold}
-use Rattle.descriptors.specs.ErasedTold.{TypePartIs, TypePartWithin, TypePartTold}
+use Rattle.descriptors.specs.told.DefaultsTold.{erasedAt, ErasedTold}
+use Rattle.descriptors.specs.told.ErasedTold.{TypePartIs, TypePartWithin, TypePartTold}
 use Rattle.descriptors.specs.declared.erased.TypePart.{TypePart}
 use Rattle.descriptors.specs.declared.erased.TypePart.the-variants as typePart
 
@@ -48,20 +48,20 @@ after-both front next none = refl
 after-both front next (some text) = ap some (sym (append-assoc front next text))
 
 -- one text after the other
-put-then : {text text′ : List ℕ} {at next r n : ℕ} {A A₁ A₂ : List ℕ} → PutText text at r A A₁ → next ≡ at + r → PutText text′ next n A₁ A₂
-    → PutText (text ++ text′) at (r + n) A A₂
+put-then : {text text′ : List ℕ} {at next r n : ℕ} {A A₁ A₂ : List ℕ} → PutSized text at r A A₁ → next ≡ at + r → PutSized text′ next n A₁ A₂
+    → PutSized (text ++ text′) at (r + n) A A₂
 put-then {text} {text′} {at} {next} {r} {n} {A} p e q = record {
   size = omega (arith, p .size, q .size, length-append text text′);
   area = sets-then text text′ A at (p .area) (e ∙ ap (λ (k : ℕ). at + k) (p .size)) (q .area);
 }
 
 -- The first kept argument as an element.
-first-none : (ts : List Ty) → firstOf ts ≡ none → firstErased true (typesOf ts) ≡ none
+first-none : (ts : List Ty) → headType ts ≡ none → firstErased true (typesOf ts) ≡ none
 unfolding firstErased
 first-none [] e = refl
 first-none (t ∷ ts) e = let z : _≡_ {A = ℕ} 0 1 = cc in absurd (omega arith)
 
-element-text : (ts : List Ty) (t : Ty) → firstOf ts ≡ some t
+element-text : (ts : List Ty) (t : Ty) → headType ts ≡ some t
     → mapOption (λ e. 0x5b ∷ print e) (firstErased true (typesOf ts)) ≡ after (0x5b ∷ []) (mapOption printReturned (erasedAt Element t))
 unfolding firstErased
 element-text [] t e = let z : _≡_ {A = ℕ} 0 1 = cc in absurd (omega arith)
@@ -73,7 +73,7 @@ element-text (u ∷ ts) t e =
     some-same : {A : Type 0} {a b : A} → some a ≡ some b → a ≡ b
     some-same e = cc
 
-    bracket : (o : Option Erased) → mapOption (λ e. 0x5b ∷ print e) o ≡ after (0x5b ∷ []) (mapOption printReturned (mapOption value o))
+    bracket : (o : Option Erased) → mapOption (λ e. 0x5b ∷ print e) o ≡ after (0x5b ∷ []) (mapOption printReturned (mapOption ofType o))
     bracket none = refl
     bracket (some e) = refl
 
@@ -81,7 +81,7 @@ element-text (u ∷ ts) t e =
 pub record Rest (whole : Option (List ℕ)) (payload : List ℕ) (c : Scope) (at : ℕ) (A₀ : List ℕ) (first last : ℕ) (said : Bool) (deep : ℕ)
     (here : Position) (next : ℕ) (A : List ℕ) : Type 0 where
   pub front : List ℕ
-  pub put : PutText front at (next - at) A₀ A
+  pub put : PutSized front at (next - at) A₀ A
   pub type : Ty
   pub found : TypeFound payload c first last deep type
   pub is : whole ≡ after front (textAt here said type)
@@ -143,7 +143,7 @@ module _ {e : Lent} {start end : ℕ} {nullable : Bool} {left : ℕ} {position :
           let both = put-then (u .put) (omega (arith, w .later)) (x .2) in (
             u .front ++ x .0,
             u .is ∙ ap (after (u .front)) (x .1),
-            subst (λ (n : ℕ). PutText (u .front ++ x .0) at n A₀ A₁) sum both,
+            subst (λ (n : ℕ). PutSized (u .front ++ x .0) at n A₀ A₁) sum both,
           );
     }
 
@@ -160,12 +160,12 @@ module _ {e : Lent} {start end : ℕ} {nullable : Bool} {left : ℕ} {position :
         given : Entered c (f .depth) (f .message) u
         given = type-entered c (f .depth) (f .message) u (f .before) (f .after) (f .given)
 
-        argument-is : {y : FoundType} → s ≡ y → FoundTypeTold (e .payload) c (firstOf (given .types)) y
+        argument-is : {y : FoundType} → s ≡ y → FoundTypeTold (e .payload) c (headType (given .types)) y
         argument-is g =
             let table : TableOf (e .payload) (e .notes) (e .tables) c = record { entries = o .entries; nullable = o .nullable } in
             let deeper : less ≡ maxDepth - (f .depth + 1) = omega (arith, f .deep) in
             let at-here = subst (λ (n : ℕ). EntryAt (e .payload) first n (f .message)) (sym here-ends) (f .at) in
-            subst (FoundTypeTold (e .payload) c (firstOf (given .types))) g
+            subst (FoundTypeTold (e .payload) c (headType (given .types))) g
             (a .is c table (f .message) at-here (given .arguments) (given .cuts) (f .depth + 1) deeper (given .types) (given .before) (given .between) (given .given))
 
         inner-is : firstErased true (u .arguments) ≡ firstErased true (typesOf (given .types))
@@ -205,7 +205,7 @@ module _ {e : Lent} {start end : ℕ} {nullable : Bool} {left : ℕ} {position :
                   let both = put-then (u .put) (omega (arith, w .later)) (part-is c o (u .type) (u .found) q .1) in
                   record {
                     front = u .front ++ (0x5b ∷ []);
-                    put = subst (λ (n : ℕ). PutText (u .front ++ (0x5b ∷ [])) at n A₀ A₁) sum both;
+                    put = subst (λ (n : ℕ). PutSized (u .front ++ (0x5b ∷ [])) at n A₀ A₁) sum both;
                     type = v .0;
                     found = v .1;
                     is =

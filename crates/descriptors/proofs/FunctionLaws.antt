@@ -17,17 +17,17 @@ use Rattle.declaration_rows.specs.Declarations.{Ty, Constructor, Function}
 use Rattle.schema.specs.Reading.{Scope}
 use Rattle.schema.specs.Types.{declaredType}
 use Rattle.schema.specs.Members.{bitOf, flagsIn, receiverIn}
-use Rattle.schema.specs.Told.{Lent, EntryAt, Stands}
+use Rattle.schema.specs.told.SchemaTold.{Lent, EntryAt, Stands}
 use Rattle.schema.proofs.StandsLaws.{stands-cut}
-use Rattle.erasure.specs.Erasure.{Returned, value, erasedReturn, print, printReturned}
-use Rattle.erasure.specs.Told.{fixedPart, PutText, PutPart}
+use Rattle.erasure.specs.Erasure.{Returned, ofType, erasedReturn, print, printReturned}
+use Rattle.erasure.specs.told.ErasureTold.{fixedPart, PutSized, PutPart}
 use Rattle.erasure.specs.declared.Position.the-variants as position
 use Rattle.erasure.specs.declared.Part.{Part}
 use Rattle.erasure.specs.declared.Part.the-variants as part
 use Rattle.erasure.proofs.PartLaws.{part-short}
-use Rattle.descriptors.specs.Defaults.{suspends, continuation, object, functionParts, constructorParts, descriptor}
-use Rattle.descriptors.specs.DefaultsTold.{partCost, parametersPart, ParametersTold, ConstructorDefault, FunctionDefault}
-use Rattle.descriptors.specs.PartsTold.{PartRoom, PartOf, TypeGiven, typePart, FunctionGiven, receiverPart, beforePart, afterPart, preceded}
+use Rattle.descriptors.specs.Defaults.{suspends, continuationClass, object, functionParts, constructorParts, descriptor}
+use Rattle.descriptors.specs.told.DefaultsTold.{partCost, parametersPart, ParametersTold, ConstructorDefault, FunctionDefault}
+use Rattle.descriptors.specs.told.PartsTold.{PartRoom, PartOf, TypeGiven, typePart, FunctionGiven, receiverPart, beforePart, afterPart, preceded}
 use Rattle.descriptors.proofs.GivenLaws.{ConstructorGiven, constructor-given, function-given}
 use Rattle.descriptors.proofs.JoinLaws.{
   both,
@@ -136,37 +136,37 @@ module _ {e : Lent} (msg : List ℕ) {base at : ℕ} {r : Part} {A A₁ : List �
       (part-then receiverPart (λ f. parametersPart (f .parameters)) beforePart before-part (part-answer w u) p))
 
 -- The parts that the code names.
-pub object-part : fixedPart 24 ≡ value object
+pub object-part : fixedPart 24 ≡ ofType object
 unfolding fixedPart
 object-part = refl
 
-pub continuation-part : fixedPart 38 ≡ value continuation
+pub continuation-part : fixedPart 38 ≡ ofType continuationClass
 unfolding fixedPart
 continuation-part = refl
 
 -- What stands after them.
 abbrev suspended : Option (List ℕ)
-suspended = some (print continuation ++ (0x29 ∷ print object))
+suspended = some (print continuationClass ++ (0x29 ∷ print object))
 
 abbrev returned : Function → Option (List ℕ)
 returned f = mapOption (λ r. 0x29 ∷ printReturned r) (ifSome (f .returned) none erasedReturn)
 
 pub suspended-put : {at first last : ℕ} {A A₁ A₂ A₃ : List ℕ} → PutPart 38 at first A A₁ → A₂ ≡ set A₁ (at + first) 0x29
-    → PutPart 24 (at + first + 1) last A₂ A₃ → PutText (print continuation ++ (0x29 ∷ print object)) at (first + 1 + last) A A₃
+    → PutPart 24 (at + first + 1) last A₂ A₃ → PutSized (print continuationClass ++ (0x29 ∷ print object)) at (first + 1 + last) A A₃
 suspended-put {at} {first} {last} {A} {A₁} {A₂} {A₃} p e q =
-    let p′ : PutText (print continuation) at first A A₁ = rw continuation-part at p in
-    let q′ : PutText (print object) (at + first + 1) last A₂ A₃ = rw object-part at q in
-    let q″ : PutText (print object) (at + (first + 1)) last A₂ A₃ = rw add-assoc at q′ in
+    let p′ : PutSized (print continuationClass) at first A A₁ = rw continuation-part at p in
+    let q′ : PutSized (print object) (at + first + 1) last A₂ A₃ = rw object-part at q in
+    let q″ : PutSized (print object) (at + (first + 1)) last A₂ A₃ = rw add-assoc at q′ in
     let all = text-then (text-then p′ (text-byte e)) q″ in
-    subst (λ (t : List ℕ). PutText t at (first + 1 + last) A A₃) (append-assoc (print continuation) (0x29 ∷ []) (print object)) all
+    subst (λ (t : List ℕ). PutSized t at (first + 1 + last) A A₃) (append-assoc (print continuationClass) (0x29 ∷ []) (print object)) all
 
-suspended-short : length (print continuation ++ (0x29 ∷ print object)) ≤ 67
+suspended-short : length (print continuationClass ++ (0x29 ∷ print object)) ≤ 67
 suspended-short =
     let c : length (printReturned (fixedPart 38)) ≤ 33 = part-short 38 in
     let o : length (printReturned (fixedPart 24)) ≤ 33 = part-short 24 in
-    let c′ : length (print continuation) ≤ 33 = rw continuation-part at c in
+    let c′ : length (print continuationClass) ≤ 33 = rw continuation-part at c in
     let o′ : length (print object) ≤ 33 = rw object-part at o in
-    omega (arith, length-append (print continuation) (0x29 ∷ print object))
+    omega (arith, length-append (print continuationClass) (0x29 ∷ print object))
 
 returned-text : (o : Option Ty) → both (some (0x29 ∷ [])) (typePart position.Return o) ≡ mapOption (λ r. 0x29 ∷ printReturned r) (ifSome o none erasedReturn)
 returned-text none = refl
@@ -181,14 +181,14 @@ module _ (e : Lent) (msg : List ℕ) (base at : ℕ) (st : Stands (e .payload) m
   suspending : (c : Scope) (m : Message) → EntryAt (e .payload) base (base + length msg) m → (f : Function) → FunctionGiven c m f → {y : Bool} → b ≡ y → suspends f ≡ y
   suspending c m k f g q = ap (bitOf 13) (g .flags) ∙ t m (stands-cut st k) ∙ q
 
-  pub after-suspended : b ≡ true → {size : ℕ} {A A₁ : List ℕ} → PutText (print continuation ++ (0x29 ∷ print object)) at size A A₁
+  pub after-suspended : b ≡ true → {size : ℕ} {A A₁ : List ℕ} → PutSized (print continuationClass ++ (0x29 ∷ print object)) at size A A₁
       → PartOf FunctionGiven afterPart (partCost * 2) e base (base + length msg) at (part.Written size) A A₁
   after-suspended q {size} {A} {A₁} u = record {
     within = omega (arith, u .size, suspended-short);
     is = λ c s m k f g.
         told-same {x = suspended} {y = afterPart f} at (part.Written size) A A₁
         (ap (λ (x : Bool). if x then suspended else returned f) (sym (suspending c m k f g q)))
-        (print continuation ++ (0x29 ∷ print object), refl, u);
+        (print continuationClass ++ (0x29 ∷ print object), refl, u);
   }
 
   pub after-returned : b ≡ false → {A A₁ A₂ : List ℕ} → A₁ ≡ set A at 0x29 → {r z : Part}

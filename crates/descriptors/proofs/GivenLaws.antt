@@ -19,7 +19,7 @@ use Rattle.schema.specs.Reading.{Read, lift, keep, kept, Scope, nameIn}
 use Rattle.schema.specs.Types.{declaredType}
 use Rattle.schema.specs.Members.{named, signatureIn, parameterIn, listIn, constructorIn, functionIn}
 use Rattle.schema.proofs.Fine.{Reads, reads-pure, reads-bind, reads-weaken}
-use Rattle.descriptors.specs.PartsTold.{Gave, TypeGiven, ParameterGiven, FunctionGiven}
+use Rattle.descriptors.specs.told.PartsTold.{Gave, TypeGiven, ParameterGiven, FunctionGiven}
 
 -- a reading gives what it gave
 reads-self : {A : Type 0} (m : Read A) → Reads (Gave m) m

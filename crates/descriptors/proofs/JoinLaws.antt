@@ -13,9 +13,9 @@ use Rattle.foundation.proofs.OverlayLaws.{sets-then}
 use Rattle.wire.specs.Wire.{Message}
 use Rattle.declaration_rows.specs.Declarations.{Ty, Parameter, Constructor, Function}
 use Rattle.schema.specs.Reading.{Scope, keep}
-use Rattle.schema.specs.Told.{Lent}
-use Rattle.erasure.specs.Erasure.{Erased, erased, Returned, value, erasedReturn, print, printReturned}
-use Rattle.erasure.specs.Told.{PutText}
+use Rattle.schema.specs.told.SchemaTold.{Lent}
+use Rattle.erasure.specs.Erasure.{Erased, erased, Returned, ofType, erasedReturn, print, printReturned}
+use Rattle.erasure.specs.told.ErasureTold.{PutSized}
 use Rattle.erasure.specs.declared.Position.the-variants as position
 use Rattle.erasure.specs.declared.Part.{Part}
 use Rattle.erasure.specs.declared.Part.the-variants as part
@@ -24,15 +24,15 @@ use Rattle.descriptors.specs.Defaults.{
   erasedOption,
   parameterTypes,
   suspends,
-  continuation,
+  continuationClass,
   object,
   suspendedParts,
   functionParts,
   constructorParts,
   descriptor,
 }
-use Rattle.descriptors.specs.DefaultsTold.{PartWithin, PartTold, parametersPart}
-use Rattle.descriptors.specs.PartsTold.{PartOf, typePart, parameterPart, receiverPart, beforePart, afterPart, preceded}
+use Rattle.descriptors.specs.told.DefaultsTold.{PartWithin, PartTold, parametersPart}
+use Rattle.descriptors.specs.told.PartsTold.{PartOf, typePart, parameterPart, receiverPart, beforePart, afterPart, preceded}
 
 -- Two texts, or nothing.
 abbrev pub both : Option (List ℕ) → Option (List ℕ) → Option (List ℕ)
@@ -54,7 +54,7 @@ abbrev typesPart : List (Option Ty) → Option (List ℕ)
 typesPart ts = mapOption printed (everyOf (map erasedOption ts))
 
 printed-cons : (x : Option Erased) (y : Option (List Erased))
-    → mapOption printed (bothOf (λ x xs. x ∷ xs) x y) ≡ both (mapOption printReturned (mapOption value x)) (mapOption printed y)
+    → mapOption printed (bothOf (λ x xs. x ∷ xs) x y) ≡ both (mapOption printReturned (mapOption ofType x)) (mapOption printed y)
 printed-cons none y = refl
 printed-cons (some x) none = refl
 printed-cons (some x) (some y) = refl
@@ -95,13 +95,13 @@ constructor-text d = go (everyOf (map erasedOption (parameterTypes (d .parameter
     go none = refl
     go (some es) = refl
 
-suspended-text : (es : List Erased) → descriptor (suspendedParts es) ≡ 0x28 ∷ (printed es ++ (print continuation ++ (0x29 ∷ print object)))
+suspended-text : (es : List Erased) → descriptor (suspendedParts es) ≡ 0x28 ∷ (printed es ++ (print continuationClass ++ (0x29 ∷ print object)))
 unfolding descriptor
 suspended-text es =
     let more : List ℕ = 0x29 ∷ print object in
-    ap (λ (l : List ℕ). 0x28 ∷ (l ++ more)) (printed-append es (continuation ∷ []))
-    ∙ ap (λ (l : List ℕ). 0x28 ∷ ((printed es ++ l) ++ more)) (append-nil (print continuation))
-    ∙ ap (λ (l : List ℕ). 0x28 ∷ l) (append-assoc (printed es) (print continuation) more)
+    ap (λ (l : List ℕ). 0x28 ∷ (l ++ more)) (printed-append es (continuationClass ∷ []))
+    ∙ ap (λ (l : List ℕ). 0x28 ∷ ((printed es ++ l) ++ more)) (append-nil (print continuationClass))
+    ∙ ap (λ (l : List ℕ). 0x28 ∷ l) (append-assoc (printed es) (print continuationClass) more)
 
 pub function-text : (f : Function) → mapOption descriptor (functionParts f) ≡ both (some (0x28 ∷ [])) (both (beforePart f) (afterPart f))
 unfolding functionParts descriptor
@@ -110,7 +110,7 @@ function-text f =
   where
     go : (b : Bool) (x : Option (List Erased)) (y : Option Returned)
         → mapOption descriptor (if b then mapOption suspendedParts x else bothOf parts x y)
-        ≡ both (some (0x28 ∷ [])) (both (mapOption printed x) (if b then some (print continuation ++ (0x29 ∷ print object)) else mapOption (λ r. 0x29 ∷ printReturned r) y))
+        ≡ both (some (0x28 ∷ [])) (both (mapOption printed x) (if b then some (print continuationClass ++ (0x29 ∷ print object)) else mapOption (λ r. 0x29 ∷ printReturned r) y))
     go true none y = refl
     go true (some es) y = ap some (suspended-text es)
     go false none y = refl
@@ -118,10 +118,10 @@ function-text f =
     go false (some es) (some r) = refl
 
 -- Texts written one after the other.
-pub text-none : (at : ℕ) (A : List ℕ) → PutText [] at 0 A A
+pub text-none : (at : ℕ) (A : List ℕ) → PutSized [] at 0 A A
 text-none at A = record { size = refl; area = refl }
 
-pub text-then : {s t : List ℕ} {at n k : ℕ} {A A₁ A₂ : List ℕ} → PutText s at n A A₁ → PutText t (at + n) k A₁ A₂ → PutText (s ++ t) at (n + k) A A₂
+pub text-then : {s t : List ℕ} {at n k : ℕ} {A A₁ A₂ : List ℕ} → PutSized s at n A A₁ → PutSized t (at + n) k A₁ A₂ → PutSized (s ++ t) at (n + k) A A₂
 text-then {s} {t} {at} {n} {k} {A} p q = record {
   size = omega (arith, p .size, q .size, length-append s t);
   area = sets-then s t A at (p .area) (ap (λ (i : ℕ). at + i) (p .size)) (q .area);
@@ -172,7 +172,7 @@ module _ {D : Type 0} (p q s : D → Option (List ℕ)) (joined : (d : D) → s 
 
 module _ {D : Type 0} {given : Scope → Message → D → Type 0} {e : Lent} {start end at : ℕ} where
   -- a text that is the same whatever was read
-  pub part-fixed : {t : List ℕ} {k : ℕ} {A A₁ : List ℕ} → PutText t at k A A₁ → PartOf given (λ d. some t) k e start end at (part.Written k) A A₁
+  pub part-fixed : {t : List ℕ} {k : ℕ} {A A₁ : List ℕ} → PutSized t at k A A₁ → PartOf given (λ d. some t) k e start end at (part.Written k) A A₁
   part-fixed {t} {k} u = record { within = le-refl k; is = λ c o m i d g. (t, refl, u) }
 
   pub part-more : {p : D → Option (List ℕ)} {n : ℕ} (n₁ : ℕ) {r : Part} {A A₁ : List ℕ} → n ≤ n₁ → PartOf given p n e start end at r A A₁
@@ -185,5 +185,5 @@ module _ {D : Type 0} {given : Scope → Message → D → Type 0} {e : Lent} {s
   part-answer {p} {n} {A = A} {A₁} h u = subst (λ (r : Part). PartOf given p n e start end at r A A₁) h u
 
 -- one byte
-pub text-byte : {b at : ℕ} {A A₁ : List ℕ} → A₁ ≡ set A at b → PutText (b ∷ []) at 1 A A₁
+pub text-byte : {b at : ℕ} {A A₁ : List ℕ} → A₁ ≡ set A at b → PutSized (b ∷ []) at 1 A A₁
 text-byte e = record { size = refl; area = e }

@@ -10,7 +10,8 @@ use Rattle.foundation.specs.Choices.{ifSome, mapOption, bothOf, everyOf, concat
 use Rattle.foundation.specs.Texts.{Text, ascii, same}
 use Rattle.foundation.proofs.ChoiceLaws.{if-ind, all-append, all-map}
 use Rattle.characters.specs.Characters.{isScalar, utf8, utf8Of}
-use Rattle.characters.specs.WellFormed.{Characters, WellFormed, empty, character}
+use Rattle.characters.specs.WellFormed.{WellFormed, empty, character}
+use Rattle.characters.specs.told.CharactersTold.{Characters}
 use Rattle.foundation.proofs.EveryLaws.{every, every-all}
 use Rattle.characters.proofs.Utf8Laws.{utf8-well-formed}
 use Rattle.names.proofs.ScalarLaws.{substituted-keeps}
@@ -50,13 +51,25 @@ use Rattle.erasure.specs.Erasure.{
   erased,
   Returned,
   void,
-  value,
+  ofType,
   returnedAs,
   erasedReturn,
   print,
   printReturned,
 }
-use Rattle.descriptors.specs.Defaults.{Parts, parts, erasedOption, parameterTypes, typesBefore, suspends, continuation, suspendedParts, functionParts, constructorParts, descriptor}
+use Rattle.descriptors.specs.Defaults.{
+  Parts,
+  parts,
+  erasedOption,
+  parameterTypes,
+  typesBefore,
+  suspends,
+  continuationClass,
+  suspendedParts,
+  functionParts,
+  constructorParts,
+  descriptor,
+}
 
 -- one well-formed text after another
 pub well-formed-append : {s t : List ℕ} → WellFormed s → WellFormed t → WellFormed (s ++ t)
@@ -168,12 +181,12 @@ print-well-formed (arrayOf e) f = well-formed-append (one-byte 0x5b tt refl) (pr
 
 abbrev FineReturned : Returned → Type 0
 FineReturned void = Unit {0}
-FineReturned (value e) = FineErased e
+FineReturned (ofType e) = FineErased e
 
 returned-well-formed : (r : Returned) → FineReturned r → WellFormed (printReturned r)
 unfolding isScalar utf8 utf8Of
 returned-well-formed void f = one-byte 0x56 tt refl
-returned-well-formed (value e) f = print-well-formed e f
+returned-well-formed (ofType e) f = print-well-formed e f
 
 abbrev FineParts : Parts → Type 0
 FineParts p = All FineErased (p .before) × FineReturned (p .last)
@@ -209,7 +222,7 @@ every-fine (t ∷ ts) f =
 parameter-types-fine : (ps : List Parameter) → All FineParameter ps → All (IfSome FineTy) (parameterTypes ps)
 parameter-types-fine ps f = all-map FineParameter (IfSome FineTy) (λ p. p .type) (λ p g. g .type) ps f
 
-value-fine : (e : Option Erased) → IfSome FineErased e → IfSome FineReturned (mapOption value e)
+value-fine : (e : Option Erased) → IfSome FineErased e → IfSome FineReturned (mapOption ofType e)
 value-fine none f = tt
 value-fine (some e) f = f
 
@@ -234,7 +247,7 @@ suspended-fine : (o : Option (List Erased)) → IfSome (All FineErased) o → If
 unfolding isScalar
 suspended-fine none f = tt
 suspended-fine (some es) f = (
-  all-append FineErased es (continuation ∷ []) f (every-all isScalar (ascii "kotlin/coroutines/Continuation") tt, tt),
+  all-append FineErased es (continuationClass ∷ []) f (every-all isScalar (ascii "kotlin/coroutines/Continuation") tt, tt),
   every-all isScalar (ascii "java/lang/Object") tt,
 )
 

@@ -10,7 +10,7 @@ use Rattle.sheet.specs.Rows.{ref, Row, row}
 use Rattle.declaration_rows.specs.Declarations.{Ty, Parameter, Constructor, Function}
 use Rattle.schema.specs.Members.{bitOf}
 use Rattle.declaration_rows.specs.Rows.{constructorRows, functionRows}
-use Rattle.erasure.specs.Erasure.{Erased, class, erased, Returned, void, value, erasedReturn, print, printReturned}
+use Rattle.erasure.specs.Erasure.{Erased, class, erased, Returned, void, ofType, erasedReturn, print, printReturned}
 
 -- The erased parts: those before the last, and the last, which is the return's.
 pub record Parts : Type 0 where
@@ -36,15 +36,15 @@ typesBefore f = if f .hasReceiver then f .receiver ∷ parameterTypes (f .parame
 abbrev pub suspends : Function → Bool
 suspends f = bitOf 13 (f .flags)
 
-abbrev pub continuation : Erased
-continuation = class (ascii "kotlin/coroutines/Continuation")
+abbrev pub continuationClass : Erased
+continuationClass = class (ascii "kotlin/coroutines/Continuation")
 
 abbrev pub object : Erased
 object = class (ascii "java/lang/Object")
 
 -- A suspending function adds a continuation and returns Object.
 abbrev pub suspendedParts : List Erased → Parts
-suspendedParts es = parts (es ++ (continuation ∷ [])) (value object)
+suspendedParts es = parts (es ++ (continuationClass ∷ [])) (ofType object)
 
 unfoldable pub functionParts : Function → Option Parts
 functionParts f =

@@ -1,4 +1,2 @@
 pub mod Defaults
-pub mod DefaultsTold
-pub mod ErasedTold
-pub mod PartsTold
+pub mod told

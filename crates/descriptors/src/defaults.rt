@@ -1,5 +1,5 @@
 // Default descriptors: the parts of a declaration's types, one after the other. The definitions: specs/Defaults.antt; what the writers
-// tell: specs/DefaultsTold.antt and specs/PartsTold.antt.
+// tell: specs/told/DefaultsTold.antt and specs/told/PartsTold.antt.
 ghost use mathlib.Core.Path.{_≡_};
 ghost use mathlib.Core.List.{_∷_, _++_};
 ghost use Prim.Native.Nat.{_+_, _*_, _^_, _≤_};
@@ -8,12 +8,12 @@ ghost use Rattle.foundation.specs.Results.{ok, _from_};
 ghost use Rattle.fields.specs.Fields.{Function·flags};
 ghost use Rattle.wire.specs.Wire.{Message, cut};
 ghost use Rattle.schema.specs.Members.{bitOf, flagsIn};
-ghost use Rattle.schema.specs.Told.{lent};
+ghost use Rattle.schema.specs.told.SchemaTold.{lent};
 ghost use Rattle.erasure.specs.Erasure.{print};
-ghost use Rattle.erasure.specs.Told.{PutText};
-ghost use Rattle.descriptors.specs.Defaults.{continuation, object};
-ghost use Rattle.descriptors.specs.DefaultsTold.{partCost, PartWithin, ParametersTold, ConstructorDefault, FunctionDefault};
-ghost use Rattle.descriptors.specs.PartsTold.{PartRoom, PartOf, TypeGiven, typePart, ParameterGiven, parameterPart, FunctionGiven, receiverPart, beforePart, afterPart, preceded};
+ghost use Rattle.erasure.specs.told.ErasureTold.{PutSized};
+ghost use Rattle.descriptors.specs.Defaults.{continuationClass, object};
+ghost use Rattle.descriptors.specs.told.DefaultsTold.{partCost, PartWithin, ParametersTold, ConstructorDefault, FunctionDefault};
+ghost use Rattle.descriptors.specs.told.PartsTold.{PartRoom, PartOf, TypeGiven, typePart, ParameterGiven, parameterPart, FunctionGiven, receiverPart, beforePart, afterPart, preceded};
 use crate::erased::Placement;
 use crate::erased::put_erased;
 use erasure::CONTINUATION;
@@ -184,10 +184,11 @@ fn preceded(size: usize, part: Part) -> Part
     requires { ⌜ (size ≤ 2 ^ 61) × PartWithin (2 ^ 61) part ⌝ }
     ensures { λ r. ⌜ r ≡ preceded size part ⌝ }
 {
-    match part {
-        Part::Written { size: more } => Part::Written { size: size + more },
-        Part::Absent => Part::Absent,
-    }
+    let Part::Written { size: more } = part else {
+        return Part::Absent;
+    };
+    let whole = size + more;
+    Part::Written { size: whole }
 }
 
 // The default descriptor of a constructor, which returns V.
@@ -308,7 +309,7 @@ fn suspends(msg: &[u8], base: u32) -> bool
 // What a suspending function has after its parameters: a continuation, ), and Object.
 fn put_suspended(area: &mut [u8], at: usize) -> usize
     requires { ⌜ at ≤ 2 ^ 61 ⌝ }
-    ensures { λ r. ⌜ PutText (print continuation ++ (0x29 ∷ print object)) at r (now (area .entry)) (now (area .exit)) ⌝ }
+    ensures { λ r. ⌜ PutSized (print continuationClass ++ (0x29 ∷ print object)) at r (now (area .entry)) (now (area .exit)) ⌝ }
 {
     let first = put_part(area, at, CONTINUATION);
     put(area, at + first, b')');

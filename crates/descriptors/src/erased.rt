@@ -1,15 +1,15 @@
 // The part of a type at its position, by its message: its class name decides; an array goes on with its first kept argument.
-// The definitions: erasure's specs/Erasure.antt; what is told: specs/ErasedTold.antt and `ErasedTold` in specs/DefaultsTold.antt.
+// The definitions: erasure's specs/Erasure.antt; what is told: specs/told/ErasedTold.antt and `ErasedTold` in specs/told/DefaultsTold.antt.
 ghost use mathlib.Core.Path.{_≡_};
 ghost use mathlib.Core.Bool.{true, false};
 ghost use mathlib.Core.List.{[], _∷_, _++_};
 ghost use Prim.Native.Nat.{_+_, _^_, _≤_};
 ghost use lib.ListN.{length};
-ghost use Rattle.names.specs.Stream.{nameBytes};
-ghost use Rattle.schema.specs.Told.{lent, Stands};
-ghost use Rattle.erasure.specs.Told.{Means, PutText};
-ghost use Rattle.descriptors.specs.ErasedTold.{PrintedPut, TypePartTold};
-ghost use Rattle.descriptors.specs.DefaultsTold.{ErasedTold};
+ghost use Rattle.names.specs.told.Stream.{nameBytes};
+ghost use Rattle.schema.specs.told.SchemaTold.{lent, Stands};
+ghost use Rattle.erasure.specs.told.ErasureTold.{Means, PutSized};
+ghost use Rattle.descriptors.specs.told.ErasedTold.{PrintedPut, TypePartTold};
+ghost use Rattle.descriptors.specs.told.DefaultsTold.{ErasedTold};
 ghost use Rattle.erasure.specs.declared.Meaning.the-variants.{Other};
 use characters::Character;
 use characters::utf16_at;
@@ -90,7 +90,7 @@ fn name_meaning(payload: &[u8], d2: &[u16], name: Name) -> Meaning
 // L, the name with slashes for dots, and ;.
 fn put_class(payload: &[u8], d2: &[u16], name: Name, area: &mut [u8], at: usize) -> usize
     requires { ⌜ (length (now payload) ≤ 32768) × (length (now d2) ≤ 32768) × (at ≤ 2 ^ 62) ⌝ }
-    ensures { λ r. ⌜ PutText (0x4c ∷ (nameBytes (now (payload .entry)) (now (d2 .entry)) name true ++ (0x3b ∷ []))) at r (now (area .entry)) (now (area .exit)) ⌝ }
+    ensures { λ r. ⌜ PutSized (0x4c ∷ (nameBytes (now (payload .entry)) (now (d2 .entry)) name true ++ (0x3b ∷ []))) at r (now (area .entry)) (now (area .exit)) ⌝ }
 {
     put(area, at, b'L');
     let next = put_name(payload, d2, name, true, area, at + 1);

@@ -19,7 +19,7 @@ use Rattle.foundation.proofs.ChoiceLaws.{if-ind}
 use Rattle.foundation.proofs.ResultLaws.{Gives}
 use Rattle.foundation.proofs.DigitLaws.{Below, length-digits, digits-below}
 use Rattle.encoding.specs.Encoding.{byteStringMarker, lowSeven, unpacked, firstAbove255, decoded}
-use Rattle.encoding.specs.Outcome.{aboveOf}
+use Rattle.encoding.specs.told.Outcome.{aboveOf}
 use Rattle.encoding.specs.declared.Above.{Above}
 use Rattle.encoding.specs.declared.Above.the-variants as above
 

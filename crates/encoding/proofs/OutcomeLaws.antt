@@ -17,7 +17,7 @@ use Rattle.foundation.specs.Results.{Cause, d1TooLong, emptyPayload, notAByte, 
 use Rattle.foundation.proofs.ChoiceLaws.{if-ind}
 use Rattle.foundation.proofs.OverlayLaws.{sets-front}
 use Rattle.encoding.specs.Encoding.{unitLimit, byteStringMarker, unpacked, firstAbove255, decoded}
-use Rattle.encoding.specs.Outcome.{limited, causeOf, Told, tells, aboveOf}
+use Rattle.encoding.specs.told.Outcome.{limited, decodedCause, DecodeTold, tells, aboveOf}
 use Rattle.encoding.specs.declared.Decoded.{Decoded}
 use Rattle.encoding.specs.declared.Decoded.the-variants.{Bytes, TooLong, Empty, NotAByte, NoRoom}
 use Rattle.encoding.specs.declared.Above.{Above}
@@ -49,16 +49,16 @@ module _ (us : List ℕ) where
       limited-old e = limited-within ∙ decoded-old us some-there (above-nothing (firstAbove255 us) found nothing) e
 
 -- what is told at each return of `decode`
-pub told-refused : (us area : List ℕ) (answer : Decoded) {cause : Cause} → limited us ≡ refused cause 0 → causeOf answer ≡ some cause
-    → Told (limited us) area area answer
+pub told-refused : (us area : List ℕ) (answer : Decoded) {cause : Cause} → limited us ≡ refused cause 0 → decodedCause answer ≡ some cause
+    → DecodeTold (limited us) area area answer
 told-refused us area answer e h = rw e (h, refl)
 
 pub told-short : (us area bytes : List ℕ) (n : ℕ) → limited us ≡ ok bytes → n ≡ length bytes → length area < n
-    → Told (limited us) area area NoRoom
+    → DecodeTold (limited us) area area NoRoom
 told-short us area bytes n e l h = rw (e, lt-ltb (length area) (length bytes) (omega arith)) (refl, refl)
 
 pub told-bytes : (us before after bytes : List ℕ) (n : ℕ) → limited us ≡ ok bytes → n ≡ length bytes → n ≤ length before → after ≡ sets before 0 bytes
-    → Told (limited us) before after (Bytes n)
+    → DecodeTold (limited us) before after (Bytes n)
 told-bytes us before after bytes n e l h a =
     let r : length bytes ≤ length before = omega arith in
     rw (e, le-ltb (length before) (length bytes) r) (ap Bytes l, a ∙ sets-front bytes before r)
@@ -74,7 +74,7 @@ plain us n h =
     if-ind (Plain n) (ltb unitLimit (length us)) (λ t. refl) λ t.
     decoded-ind (Plain n) us refl (λ unit. refl) (λ e. omega (arith, length-drop 1 us)) λ e. omega (arith, length-unpacked us)
 
-cause-tells : (answer : Decoded) (area : List ℕ) {cause : Cause} → causeOf answer ≡ some cause → tells answer area ≡ some (refused cause 0)
+cause-tells : (answer : Decoded) (area : List ℕ) {cause : Cause} → decodedCause answer ≡ some cause → tells answer area ≡ some (refused cause 0)
 cause-tells (Bytes n) area e = cc
 cause-tells TooLong area e = cc
 cause-tells Empty area e = cc
@@ -82,7 +82,7 @@ cause-tells (NotAByte unit) area e = cc
 cause-tells NoRoom area e = cc
 
 -- d1 with bytes: there was no room, or they stand at the area's front
-two-ways : (before after bytes : List ℕ) (answer : Decoded) → Told (ok bytes) before after answer
+two-ways : (before after bytes : List ℕ) (answer : Decoded) → DecodeTold (ok bytes) before after answer
     → ((answer ≡ NoRoom) × (length before < length bytes)) ⊎ ((answer ≡ Bytes (length bytes)) × (after ≡ bytes ++ drop (length bytes) before))
 two-ways before after bytes answer t = go (ltb (length before) (length bytes)) refl (t .0) (t .1)
   where
@@ -93,14 +93,14 @@ two-ways before after bytes answer t = go (ltb (length before) (length bytes)) r
     go true e f g = inl (f, ltb-true (length before) (length bytes) e)
     go false e f g = inr (f, g)
 
-told-tells : (n : ℕ) (x : Res (List ℕ)) (before after : List ℕ) (answer : Decoded) → Plain n x → Told x before after answer
+told-tells : (n : ℕ) (x : Res (List ℕ)) (before after : List ℕ) (answer : Decoded) → Plain n x → DecodeTold x before after answer
     → (answer ≡ NoRoom) ⊎ (tells answer after ≡ some x)
 told-tells n (ok bytes) before after answer h t =
     ⊎-elim (λ w. inl (w .0)) (λ w. inr (rw (w .0, w .1, take-append-seam bytes (drop (length bytes) before)))) (two-ways before after bytes answer t)
 told-tells n (refused cause place) before after answer h t = inr (cause-tells answer after (t .0) ∙ rw h)
 
 -- the bytes stand inside the area
-pub told-inside : (x : Res (List ℕ)) (before after : List ℕ) {answer : Decoded} {n : ℕ} → Told x before after answer → answer ≡ Bytes n → n ≤ length after
+pub told-inside : (x : Res (List ℕ)) (before after : List ℕ) {answer : Decoded} {n : ℕ} → DecodeTold x before after answer → answer ≡ Bytes n → n ≤ length after
 told-inside (ok bytes) before after {answer} {n} t e =
     ⊎-elim (λ w. let b = w .0 in let z : _≡_ {A = ℕ} 0 1 = cc in absurd (omega arith))
     (λ w.
@@ -110,12 +110,12 @@ told-inside (ok bytes) before after {answer} {n} t e =
     (two-ways before after bytes answer t)
 told-inside (refused cause place) before after t e = let z : _≡_ {A = ℕ} 0 1 = cc in absurd (omega arith)
 
-module _ (us before after : List ℕ) (answer : Decoded) (t : Told (limited us) before after answer) where
+module _ (us before after : List ℕ) (answer : Decoded) (t : DecodeTold (limited us) before after answer) where
   -- an area as long as d1 has room
   pub told-room : length us ≤ length before → answer ≡ NoRoom → ⊥
   told-room room e = go (limited us) (plain us (length before) room) t
     where
-      go : (x : Res (List ℕ)) → Plain (length before) x → Told x before after answer → ⊥
+      go : (x : Res (List ℕ)) → Plain (length before) x → DecodeTold x before after answer → ⊥
       go (ok bytes) h f =
           ⊎-elim (λ w. let l = w .1 in omega arith) (λ w. let b = w .0 in let z : _≡_ {A = ℕ} 0 1 = cc in omega arith)
           (two-ways before after bytes answer f)

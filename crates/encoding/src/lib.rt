@@ -1,4 +1,4 @@
-// From d1's units to bytes, into a lent area. The definitions: specs/Encoding.antt, specs/Outcome.antt.
+// From d1's units to bytes, into a lent area. The definitions: specs/Encoding.antt, specs/told/Outcome.antt.
 ghost use mathlib.Core.Path.{_≡_};
 ghost use mathlib.Core.Bool.{true};
 ghost use mathlib.Core.Option.{none};
@@ -6,7 +6,7 @@ ghost use Prim.Native.Nat.{_*_, _/_, _≤_};
 ghost use lib.ListN.{length};
 ghost use lib.Seq.{sets};
 ghost use Rattle.encoding.specs.Encoding.{lowSeven, unpacked, firstAbove255};
-ghost use Rattle.encoding.specs.Outcome.{aboveOf, limited, Told};
+ghost use Rattle.encoding.specs.told.Outcome.{aboveOf, limited, DecodeTold};
 
 // Above it d1 is refused, and so is d2: `unitLimit`.
 pub const UNIT_LIMIT: usize = 32768;
@@ -104,7 +104,7 @@ fn unpack(units: &[u16], area: &mut [u8])
 
 // The bytes of d1 at the area's front, or why there are none: then the area is untouched.
 pub fn decode(d1: &[u16], area: &mut [u8]) -> Decoded
-    ensures { λ r. ⌜ Told (limited (now (d1 .entry))) (now (area .entry)) (now (area .exit)) r ⌝ }
+    ensures { λ r. ⌜ DecodeTold (limited (now (d1 .entry))) (now (area .entry)) (now (area .exit)) r ⌝ }
 {
     if UNIT_LIMIT < d1.len() {
         return Decoded::TooLong;

@@ -4,7 +4,7 @@ use mathlib.Core.Path.{_≡_, refl}
 use mathlib.Core.List.{[], _∷_, map}
 use Rattle.foundation.specs.Texts.{ascii}
 use Rattle.erasure.specs.Erasure.{letter, primitive, primitiveArray, lookUp, meaningOf}
-use Rattle.erasure.specs.Told.{primitives}
+use Rattle.erasure.specs.told.ErasureTold.{primitives}
 
 pub letters : map letter primitives ≡ ascii "ZBCSIJFD"
 letters = refl

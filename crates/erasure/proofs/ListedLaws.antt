@@ -12,11 +12,11 @@ use Rattle.foundation.specs.Choices.{if_then_else_}
 use Rattle.foundation.specs.Texts.{Text, ascii, same}
 use Rattle.foundation.proofs.ChoiceLaws.{same-refl, same-true}
 use Rattle.characters.specs.Characters.{isScalar, utf8, utf8Of}
-use Rattle.characters.specs.WellFormed.{Characters}
+use Rattle.characters.specs.told.CharactersTold.{Characters}
 use Rattle.foundation.proofs.EveryLaws.{every, every-all}
 use Rattle.characters.proofs.Utf8Laws.{utf8-injective}
 use Rattle.erasure.specs.Erasure.{Meaning, nothing, mapped, Entry, _means_, listed, lookUp}
-use Rattle.erasure.specs.Told.{rowAt, listedName, listedMeaning, CanBe, Means, MeansRow}
+use Rattle.erasure.specs.told.ErasureTold.{rowAt, listedName, listedMeaning, CanBe, Means, MeansRow}
 use Rattle.erasure.specs.declared.Meaning as answer
 use Rattle.erasure.specs.declared.Meaning.the-variants.{Other}
 use Rattle.erasure.proofs.TextLaws.{never}

@@ -13,13 +13,54 @@ use lib.Seq.{sets}
 use Rattle.foundation.specs.Choices.{mapOption}
 use Rattle.foundation.specs.Texts.{Text, ascii}
 use Rattle.characters.specs.Characters.{utf8, utf8Of}
-use Rattle.characters.specs.WellFormed.{Characters}
+use Rattle.characters.specs.told.CharactersTold.{Characters}
 use Rattle.characters.proofs.TestLaws.{below}
 use Rattle.foundation.proofs.EveryLaws.{map-twice}
 use Rattle.declaration_rows.specs.Declarations.{Types, andType, Ty}
 use Rattle.erasure.specs.Erasure as erasure
-use Rattle.erasure.specs.Erasure.{Primitive, double, letter, box, primitive, primitiveArray, array, unit, nothing, mapped, Erased, base, class, arrayOf, kotlinUnit, erasedAs, void, value, print, printReturned, listed, lookUp, meaningOf, firstErased, erased, erasedReturn}
-use Rattle.erasure.specs.Told.{primitives, fixedClasses, primitiveAt, classAt, Means, fixedPart, rowText, PutText, PutPart, printedTold, partAt, PrintsAs, boxedAt}
+use Rattle.erasure.specs.Erasure.{
+  Primitive,
+  double,
+  letter,
+  box,
+  primitive,
+  primitiveArray,
+  array,
+  unit,
+  nothing,
+  mapped,
+  Erased,
+  base,
+  class,
+  arrayOf,
+  kotlinUnit,
+  erasedAs,
+  void,
+  ofType,
+  print,
+  printReturned,
+  listed,
+  lookUp,
+  meaningOf,
+  firstErased,
+  erased,
+  erasedReturn,
+}
+use Rattle.erasure.specs.told.ErasureTold.{
+  primitives,
+  fixedClasses,
+  primitiveAt,
+  classAt,
+  Means,
+  fixedPart,
+  rowText,
+  PutSized,
+  PutPart,
+  printedTold,
+  partAt,
+  PrintsAs,
+  boxedAt,
+}
 use Rattle.erasure.specs.declared.Meaning as answer
 use Rattle.erasure.specs.declared.Meaning.the-variants as means
 use Rattle.erasure.specs.declared.Position.{Position}
@@ -29,14 +70,14 @@ use Rattle.erasure.specs.declared.Printed.the-variants as prints
 use Rattle.erasure.proofs.TableLaws.{tabulate, tabulated, packed, starts, part-is, part-size, by-number, getD-last}
 
 -- The parts that the code names.
-pub unit-part : fixedPart 37 ≡ value (class kotlinUnit)
+pub unit-part : fixedPart 37 ≡ ofType (class kotlinUnit)
 unfolding fixedPart
 unit-part = refl
 
 pub void-part : (k : ℕ) → 39 ≤ k → fixedPart k ≡ void
 unfolding fixedPart
 void-part k h =
-    List·getD-eq-default (map (λ p. value (base p)) primitives ++ (map (λ p. value (arrayOf (base p))) primitives ++ map (λ c. value (class (ascii c))) fixedClasses))
+    List·getD-eq-default (map (λ p. ofType (base p)) primitives ++ (map (λ p. ofType (arrayOf (base p))) primitives ++ map (λ c. ofType (class (ascii c))) fixedClasses))
     void h
 
 -- Parts by the number of a primitive or a class.
@@ -49,26 +90,26 @@ unfolding classAt
 class-last k h = ap ascii (getD-last fixedClasses "kotlin/coroutines/Continuation" 22 k (omega arith) refl h)
 
 module _ (k : ℕ) where
-  pub letter-part : fixedPart (min k 7) ≡ value (base (primitiveAt k))
+  pub letter-part : fixedPart (min k 7) ≡ ofType (base (primitiveAt k))
   unfolding fixedPart primitiveAt
-  letter-part = by-number fixedPart (λ i. value (base (primitiveAt i))) 7 k refl λ h. ap (λ (p : Primitive). value (base p)) (primitive-last k h)
+  letter-part = by-number fixedPart (λ i. ofType (base (primitiveAt i))) 7 k refl λ h. ap (λ (p : Primitive). ofType (base p)) (primitive-last k h)
 
-  pub array-part : fixedPart (8 + min k 7) ≡ value (arrayOf (base (primitiveAt k)))
+  pub array-part : fixedPart (8 + min k 7) ≡ ofType (arrayOf (base (primitiveAt k)))
   unfolding fixedPart primitiveAt
   array-part =
-      by-number (λ i. fixedPart (8 + i)) (λ i. value (arrayOf (base (primitiveAt i)))) 7 k refl λ h.
-      ap (λ (p : Primitive). value (arrayOf (base p))) (primitive-last k h)
+      by-number (λ i. fixedPart (8 + i)) (λ i. ofType (arrayOf (base (primitiveAt i)))) 7 k refl λ h.
+      ap (λ (p : Primitive). ofType (arrayOf (base p))) (primitive-last k h)
 
-  pub box-part : fixedPart (16 + min k 7) ≡ value (class (ascii (box (primitiveAt k))))
+  pub box-part : fixedPart (16 + min k 7) ≡ ofType (class (ascii (box (primitiveAt k))))
   unfolding fixedPart primitiveAt
   box-part =
-      by-number (λ i. fixedPart (16 + i)) (λ i. value (class (ascii (box (primitiveAt i))))) 7 k refl λ h.
-      ap (λ (p : Primitive). value (class (ascii (box p)))) (primitive-last k h)
+      by-number (λ i. fixedPart (16 + i)) (λ i. ofType (class (ascii (box (primitiveAt i))))) 7 k refl λ h.
+      ap (λ (p : Primitive). ofType (class (ascii (box p)))) (primitive-last k h)
 
-  pub class-part : fixedPart (16 + min k 22) ≡ value (class (classAt k))
+  pub class-part : fixedPart (16 + min k 22) ≡ ofType (class (classAt k))
   unfolding fixedPart classAt
   class-part =
-      by-number (λ i. fixedPart (16 + i)) (λ i. value (class (classAt i))) 22 k refl λ h. ap (λ (t : Text). value (class t)) (class-last k h)
+      by-number (λ i. fixedPart (16 + i)) (λ i. ofType (class (classAt i))) 22 k refl λ h. ap (λ (t : Text). ofType (class t)) (class-last k h)
 
 -- The letters.
 unfoldable pub letters : List ℕ
@@ -87,7 +128,7 @@ letters-print = refl
 
 -- A part written: one byte, or a row of the table.
 module _ {at : ℕ} {S S′ : List ℕ} where
-  put-one : {b : ℕ} {text : List ℕ} → text ≡ b ∷ [] → S′ ≡ set S at b → PutText text at 1 S S′
+  put-one : {b : ℕ} {text : List ℕ} → text ≡ b ∷ [] → S′ ≡ set S at b → PutSized text at 1 S S′
   put-one t e = record { size = rw t; area = rw t e }
 
   pub put-letter : {b : ℕ} (k : ℕ) → k < 8 → b ≡ letter (primitiveAt k) → S′ ≡ set S at b → PutPart k at 1 S S′
@@ -96,12 +137,12 @@ module _ {at : ℕ} {S S′ : List ℕ} where
   pub put-void : (k : ℕ) → 39 ≤ k → S′ ≡ set S at 0x56 → PutPart k at 1 S S′
   put-void k h e = put-one (ap printReturned (void-part k h)) e
 
-  pub put-rest : (k r : ℕ) → 8 ≤ k → PutText (rowText (k - 8)) at r S S′ → PutPart k at r S S′
+  pub put-rest : (k r : ℕ) → 8 ≤ k → PutSized (rowText (k - 8)) at r S S′ → PutPart k at r S S′
   unfolding rowText
   put-rest k r h p = let e : 8 + (k - 8) ≡ k = omega arith in subst (λ (i : ℕ). PutPart i at r S S′) e p
 
   pub put-packed : (k a b : ℕ) → k < 31 → a ≡ getD (starts rowText 31) k 0 → b ≡ getD (starts rowText 31) (k + 1) 0
-      → S′ ≡ sets S at (take (b - a) (drop a (packed rowText 31))) → PutText (rowText k) at (b - a) S S′
+      → S′ ≡ sets S at (take (b - a) (drop a (packed rowText 31))) → PutSized (rowText k) at (b - a) S S′
   put-packed k a b h p q e = record { size = part-size rowText 31 k h p q; area = rw (part-is rowText 31 k h p q) at e }
 
 -- A type's part at its position: a value, if it doesn't mean Unit.
@@ -119,7 +160,7 @@ Valued nothing = Unit {0}
 Valued (mapped n) = Unit {0}
 
 part-value : (position : Position) (nullable : Bool) (inner : Option Erased) (m : erasure.Meaning) → Valued m
-    → partAt position nullable inner m ≡ mapOption value (erasedAs (boxedAt position nullable) inner m)
+    → partAt position nullable inner m ≡ mapOption ofType (erasedAs (boxedAt position nullable) inner m)
 part-value Parameter nullable inner m h = refl
 part-value Element nullable inner m h = refl
 part-value Return nullable inner (primitive p) h = refl
@@ -155,7 +196,7 @@ module _ {m : answer.Meaning} (position : Position) (nullable : Bool) where
   prints-letters {p} e q n inner = rw (e, q, array-part p) (part-value position nullable inner (primitiveArray (primitiveAt p)) tt)
 
   pub prints-array : m ≡ means.Array → PrintsAs m nullable position prints.ThroughArray
-  prints-array e n inner = rw e (part-value position nullable inner array tt ∙ map-twice arrayOf value inner)
+  prints-array e n inner = rw e (part-value position nullable inner array tt ∙ map-twice arrayOf ofType inner)
 
   pub prints-unit : (q : Position) → m ≡ means.Unit → position ≡ q → PrintsAs m nullable position (prints.Fixed (unitPart q))
   prints-unit q e p n inner = rw (e, p) (part-unit q nullable inner)
@@ -171,12 +212,12 @@ module _ {m : answer.Meaning} (position : Position) (nullable : Bool) where
 
 -- The erasure of the first of some types, and of a return, by its meaning at its position.
 pub first-at : (nullable : Bool) (n : Text) (arguments after : Types)
-    → mapOption value (firstErased false (andType nullable (some n) arguments after)) ≡ partAt Parameter nullable (firstErased true arguments) (meaningOf n)
+    → mapOption ofType (firstErased false (andType nullable (some n) arguments after)) ≡ partAt Parameter nullable (firstErased true arguments) (meaningOf n)
 unfolding firstErased
 first-at nullable n arguments after = refl
 
 pub element-at : (nullable : Bool) (n : Text) (arguments after : Types)
-    → mapOption value (firstErased true (andType nullable (some n) arguments after)) ≡ partAt Element nullable (firstErased true arguments) (meaningOf n)
+    → mapOption ofType (firstErased true (andType nullable (some n) arguments after)) ≡ partAt Element nullable (firstErased true arguments) (meaningOf n)
 unfolding firstErased
 element-at nullable n arguments after = refl
 

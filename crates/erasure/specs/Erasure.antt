@@ -142,15 +142,15 @@ erased t = firstErased false (single t)
 -- A return descriptor: JVMS 4.3.3.
 pub data Returned : Type 0 where
   void : Returned
-  value : Erased → Returned
+  ofType : Erased → Returned
 
 abbrev pub returnedAs : Meaning → Option Erased → Option Returned
 returnedAs unit e = some void
-returnedAs (primitive p) e = mapOption value e
-returnedAs (primitiveArray p) e = mapOption value e
-returnedAs array e = mapOption value e
-returnedAs nothing e = mapOption value e
-returnedAs (mapped n) e = mapOption value e
+returnedAs (primitive p) e = mapOption ofType e
+returnedAs (primitiveArray p) e = mapOption ofType e
+returnedAs array e = mapOption ofType e
+returnedAs nothing e = mapOption ofType e
+returnedAs (mapped n) e = mapOption ofType e
 
 -- Unit returned is V. Departure: Unit? returned is V too.
 unfoldable pub erasedReturn : Ty → Option Returned
@@ -164,4 +164,4 @@ print (arrayOf e) = 0x5b ∷ print e
 
 abbrev pub printReturned : Returned → List ℕ
 printReturned void = 0x56 ∷ []
-printReturned (value e) = print e
+printReturned (ofType e) = print e

@@ -1,2 +1,2 @@
 pub mod Erasure
-pub mod Told
+pub mod told

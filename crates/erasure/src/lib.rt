@@ -1,11 +1,11 @@
 // What class names mean, and the erased parts that are printed whatever the input. The definitions: specs/Erasure.antt; how numbers and answers
-// tell them: specs/Told.antt.
+// tell them: specs/told/ErasureTold.antt.
 ghost use mathlib.Core.Path.{_≡_};
 ghost use mathlib.Core.List.{_++_};
 ghost use Prim.Native.Nat.{_<_, min};
 ghost use Rattle.foundation.specs.Texts.{same};
 ghost use Rattle.erasure.specs.Erasure.{letter};
-ghost use Rattle.erasure.specs.Told.{Means, CanBe, listedName, MeansRow, primitiveAt, PutText, PutPart, rowText, boxedAt, PrintsAs};
+ghost use Rattle.erasure.specs.told.ErasureTold.{Means, CanBe, listedName, MeansRow, primitiveAt, PutSized, PutPart, rowText, boxedAt, PrintsAs};
 
 // What a class name means. A primitive and a class are numbers: `primitiveAt`, `classAt`.
 pub enum Meaning {
@@ -324,7 +324,7 @@ fn letter_of(primitive: usize) -> u8
 
 fn put_row(area: &mut [u8], at: usize, row: usize) -> usize
     requires { ⌜ row < 31 ⌝ }
-    ensures { λ r. ⌜ PutText (rowText row) at r (now (area .entry)) (now (area .exit)) ⌝ }
+    ensures { λ r. ⌜ PutSized (rowText row) at r (now (area .entry)) (now (area .exit)) ⌝ }
 {
     let starts: &[u16] = &PART_STARTS;
     let start = wide16(starts[row]);

@@ -50,3 +50,7 @@ laterFault i =
 -- what is refused of every kind before the payload is looked at, 1 to 4
 unfoldable pub faultOf : Input → Option Cause
 faultOf i = if ltb unitLimit (length (i .d1)) then some d1TooLong else laterFault i
+
+-- an input by its parts
+abbrev pub input : ℤ → List ℤ → List ℕ → List ℕ → List ℕ → Input
+input k mv d1 d2 ends = record { k = k; mv = mv; d1 = d1; d2 = d2; ends = ends }

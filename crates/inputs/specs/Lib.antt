@@ -1,4 +1,4 @@
 pub mod Refusals
 pub mod Inputs
 pub mod Outcomes
-pub mod Told
+pub mod told

@@ -1,10 +1,10 @@
 // What is refused of every kind before the payload is looked at, and the metadata kind. The definitions: specs/Inputs.antt; how the answers
-// tell them: specs/Told.antt.
+// tell them: specs/told/OutcomesTold.antt.
 ghost use mathlib.Core.Path.{_≡_};
 ghost use lib.IntN.{ℤ};
 ghost use Rattle.names.specs.Names.{endsFit};
-ghost use Rattle.inputs.specs.Inputs.{kindOf, faultOf};
-ghost use Rattle.inputs.specs.Told.{input, faultTold};
+ghost use Rattle.inputs.specs.Inputs.{kindOf, faultOf, input};
+ghost use Rattle.inputs.specs.told.OutcomesTold.{faultTold};
 use encoding::UNIT_LIMIT;
 use foundation::wide;
 

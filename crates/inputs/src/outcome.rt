@@ -1,9 +1,8 @@
 // An answer without the version: number, detail, both lengths and the types entered. The numbers: specs/Refusals.antt.
 ghost use mathlib.Core.Path.{_≡_};
-ghost use Rattle.wire.specs.Told as wire;
-ghost use Rattle.schema.specs.Told as schema;
-ghost use Rattle.inputs.specs.Told.{faultCause};
-ghost use Rattle.inputs.specs.Outcomes.{RefusedAs};
+ghost use Rattle.wire.specs.told.WireTold.{wireCause, wirePlace};
+ghost use Rattle.schema.specs.told.SchemaTold.{stopCause, stopPlace};
+ghost use Rattle.inputs.specs.told.OutcomesTold.{faultCause, RefusedAs};
 use crate::Fault;
 use schema::Stop;
 use wire::WireError;
@@ -31,7 +30,7 @@ pub fn refused(number: u64, detail: u64) -> Outcome
 
 // 7, 8 with the wire type, 9.
 fn wire_refusal(error: WireError) -> Outcome
-    ensures { λ r. ⌜ RefusedAs (wire.causeOf error) (wire.placeOf error) r ⌝ }
+    ensures { λ r. ⌜ RefusedAs (wireCause error) (wirePlace error) r ⌝ }
 {
     match error {
         WireError::VarintCutShort { place: _ } => refused(7, 0),
@@ -44,7 +43,7 @@ fn wire_refusal(error: WireError) -> Outcome
 
 // 7 to 10.
 pub fn stop_refusal(stop: Stop) -> Outcome
-    ensures { λ r. ⌜ RefusedAs (schema.causeOf stop) (schema.placeOf stop) r ⌝ }
+    ensures { λ r. ⌜ RefusedAs (stopCause stop) (stopPlace stop) r ⌝ }
 {
     match stop {
         Stop::Wire { error } => wire_refusal(error),

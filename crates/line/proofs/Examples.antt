@@ -10,7 +10,7 @@ use Rattle.foundation.specs.Choices.{concat}
 use Rattle.foundation.specs.Digits.{little}
 use Rattle.foundation.specs.Texts.{ascii}
 use Rattle.inputs.specs.Inputs.{Input}
-use Rattle.line.specs.Input.{d1Count, d2Count, endsCount, given, signedOf}
+use Rattle.line.specs.Input.{d1Count, d2Count, endsCount, wholeInput, signedOf}
 use Rattle.line.specs.Line.{decimal, hexOf, partOf, lineOf}
 
 abbrev pub payload : List ℕ
@@ -30,21 +30,21 @@ bytes =
 abbrev pub input : Input
 input = record { k = pos 2; mv = pos 1 ∷ pos 9 ∷ pos 0 ∷ []; d1 = payload; d2 = strings; ends = 1 ∷ 12 ∷ [] }
 
-pub example-input : given bytes ≡ some input
-unfolding given d1Count d2Count endsCount
+pub example-input : wholeInput bytes ≡ some input
+unfolding wholeInput d1Count d2Count endsCount
 example-input = refl
 
 -- bytes after the input are ignored; a byte less is too short
-pub example-longer : given (bytes ++ (7 ∷ [])) ≡ some input
-unfolding given d1Count d2Count endsCount
+pub example-longer : wholeInput (bytes ++ (7 ∷ [])) ≡ some input
+unfolding wholeInput d1Count d2Count endsCount
 example-longer = refl
 
-pub example-shorter : given (take 75 bytes) ≡ none
-unfolding given d1Count d2Count endsCount
+pub example-shorter : wholeInput (take 75 bytes) ≡ none
+unfolding wholeInput d1Count d2Count endsCount
 example-shorter = refl
 
-pub example-nothing : given [] ≡ none
-unfolding given d1Count d2Count endsCount
+pub example-nothing : wholeInput [] ≡ none
+unfolding wholeInput d1Count d2Count endsCount
 example-nothing = refl
 
 pub example-signs : map signedOf (0 ∷ 2147483647 ∷ 2147483648 ∷ 4294967295 ∷ []) ≡ pos 0 ∷ pos 2147483647 ∷ negsuc 2147483647 ∷ negsuc 0 ∷ []

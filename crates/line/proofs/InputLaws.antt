@@ -13,7 +13,7 @@ use lib.ListN.{length, getD, set, List·getD-append}
 use lib.Seq.{sets, getD-append-add}
 use Rattle.foundation.proofs.ChoiceLaws.{if-ind}
 use Rattle.line.specs.Input.{numberAt, numbersAt, d1Count, d2Count, endsCount, countsOf, d1Place, d2Place, endsPlace}
-use Rattle.line.specs.Pieces.{byteIn, numberIn, countsIn}
+use Rattle.line.specs.told.Pieces.{byteIn, numberInPiece, countsIn}
 
 -- past the end there is nothing
 pub getD-far : (bs : List ℕ) (at : ℕ) → length bs ≤ at → getD bs at 0 ≡ 0
@@ -50,10 +50,10 @@ byte-append p q at = if-ind (λ (n : ℕ). getD (p ++ q) at 0 ≡ getD p at 0 + 
         ap (λ (n : ℕ). getD (p ++ q) n 0) (sym e) ∙ f ∙ sym (zero-add _) ∙ ap (λ (n : ℕ). n + getD q (at - length p) 0) (sym (getD-far p at h))
 
 -- so the number is what both give of it
-pub number-append : (w : ℕ) (p q : List ℕ) (at : ℕ) → numberAt w (p ++ q) at ≡ numberAt w p at + numberIn w q (length p) at
+pub number-append : (w : ℕ) (p q : List ℕ) (at : ℕ) → numberAt w (p ++ q) at ≡ numberAt w p at + numberInPiece w q (length p) at
 number-append zero p q at = refl
 number-append (suc w) p q at =
-    sums (getD p at 0) (byteIn q (length p) at) (numberAt w p (at + 1)) (numberIn w q (length p) (at + 1)) (byte-append p q at) (number-append w p q (at + 1))
+    sums (getD p at 0) (byteIn q (length p) at) (numberAt w p (at + 1)) (numberInPiece w q (length p) (at + 1)) (byte-append p q at) (number-append w p q (at + 1))
   where
     sums : (a b x y : ℕ) {n m : ℕ} → n ≡ a + b → m ≡ x + y → n + 256 * m ≡ a + 256 * x + (b + 256 * y)
     sums a b x y e f = rw (e, f) (omega arith)
@@ -62,17 +62,17 @@ number-append (suc w) p q at =
 pub byte-whole : (bs : List ℕ) (at : ℕ) → byteIn bs 0 at ≡ getD bs at 0
 byte-whole bs at = rw (le-ltb at 0 (omega arith), sub-zero)
 
-pub number-whole : (w : ℕ) (bs : List ℕ) (at : ℕ) → numberIn w bs 0 at ≡ numberAt w bs at
+pub number-whole : (w : ℕ) (bs : List ℕ) (at : ℕ) → numberInPiece w bs 0 at ≡ numberAt w bs at
 number-whole zero bs at = refl
 number-whole (suc w) bs at = rw (byte-whole bs at, number-whole w bs (at + 1))
 
-pub four-of-two : (q : List ℕ) (base at : ℕ) → numberIn 2 q base at + 65536 * numberIn 2 q base (at + 2) ≡ numberIn 4 q base at
+pub four-of-two : (q : List ℕ) (base at : ℕ) → numberInPiece 2 q base at + 65536 * numberInPiece 2 q base (at + 2) ≡ numberInPiece 4 q base at
 four-of-two q base at =
     let e : at + 1 + 1 ≡ at + 2 = omega arith in
     rw (e) (omega arith)
 
 -- a number that the first piece holds whole
-pub number-near : (w : ℕ) (q : List ℕ) (n at : ℕ) → at + w ≤ n → numberIn w q n at ≡ 0
+pub number-near : (w : ℕ) (q : List ℕ) (n at : ℕ) → at + w ≤ n → numberInPiece w q n at ≡ 0
 number-near zero q n at h = refl
 number-near (suc w) q n at h = rw (lt-ltb at n (omega arith), number-near w q n (at + 1) (omega arith))
 
@@ -127,20 +127,20 @@ module _ (p q : List ℕ) where
           let b : d2Count p ≡ d2Count (p ++ q) = d2-settled (omega arith) in
           ap (λ (n : ℕ). numberAt 4 p (endsPlace n (d2Count p))) a ∙ ap (λ (n : ℕ). numberAt 4 p (endsPlace (d1Count (p ++ q)) n)) b
 
-  d1-append : d1Count p + numberIn 4 q (length p) d1Place ≡ d1Count (p ++ q)
+  d1-append : d1Count p + numberInPiece 4 q (length p) d1Place ≡ d1Count (p ++ q)
   unfolding d1Count
   d1-append = sym (number-append 4 p q 16)
 
-  d2-append : d2Count p + numberIn 4 q (length p) (d2Place (d1Count (p ++ q))) ≡ d2Count (p ++ q)
+  d2-append : d2Count p + numberInPiece 4 q (length p) (d2Place (d1Count (p ++ q))) ≡ d2Count (p ++ q)
   unfolding d2Count
   d2-append =
-      ap (λ (n : ℕ). n + numberIn 4 q (length p) (d2Place (d1Count (p ++ q)))) d2-place
+      ap (λ (n : ℕ). n + numberInPiece 4 q (length p) (d2Place (d1Count (p ++ q)))) d2-place
       ∙ sym (number-append 4 p q (d2Place (d1Count (p ++ q))))
 
-  ends-append : endsCount p + numberIn 4 q (length p) (endsPlace (d1Count (p ++ q)) (d2Count (p ++ q))) ≡ endsCount (p ++ q)
+  ends-append : endsCount p + numberInPiece 4 q (length p) (endsPlace (d1Count (p ++ q)) (d2Count (p ++ q))) ≡ endsCount (p ++ q)
   unfolding endsCount
   ends-append =
-      ap (λ (n : ℕ). n + numberIn 4 q (length p) (endsPlace (d1Count (p ++ q)) (d2Count (p ++ q)))) ends-place
+      ap (λ (n : ℕ). n + numberInPiece 4 q (length p) (endsPlace (d1Count (p ++ q)) (d2Count (p ++ q)))) ends-place
       ∙ sym (number-append 4 p q (endsPlace (d1Count (p ++ q)) (d2Count (p ++ q))))
 
   -- the counts of the bytes so far, and what a piece adds to them

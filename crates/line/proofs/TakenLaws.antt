@@ -9,8 +9,8 @@ use lib.ListN.{length, getD, take, length-append}
 use lib.Seq.{take-append-le, length-take-le, take-all}
 use Rattle.line.specs.declared.stream.Taken.{Taken}
 use Rattle.line.specs.Input.{d1Count, d2Count, endsCount, countsOf, d2Place, endsPlace}
-use Rattle.line.specs.Pieces.{CountsFit}
-use Rattle.line.specs.Taken.{keptLimit, SoFar, Took, Piece, Passed, Went}
+use Rattle.line.specs.told.Pieces.{CountsFit}
+use Rattle.line.specs.told.Taken.{keptLimit, SoFar, Took, PieceRead, PassedOver, Went}
 use Rattle.line.proofs.InputLaws.{counts-append, counts-none, number-below}
 
 -- a part of bytes is bytes
@@ -46,7 +46,7 @@ counts-fit {bs} {t} s = subst CountsFit (sym (s .counts)) (fit bs (s .bytes))
     fit bs h = (d1-below bs h, d2-below bs h, ends-below bs h)
 
 -- a piece after what was taken
-pub piece-after : {bs area : List ℕ} {t r : Taken} (p : Piece area t r) → SoFar bs t → SoFar (bs ++ take (p .size) area) r
+pub piece-after : {bs area : List ℕ} {t r : Taken} (p : PieceRead area t r) → SoFar bs t → SoFar (bs ++ take (p .size) area) r
 piece-after {bs} {area} {t} {r} p s = record {
   bytes = bytes-append bs (take (p .size) area) (s .bytes) (p .bytes);
   total = p .total ∙ rw (length-append bs (take (p .size) area), length-take-le (p .size) area (p .within), s .total);
@@ -56,7 +56,7 @@ piece-after {bs} {area} {t} {r} p s = record {
 pub went-none : (t : Taken) → Went t t
 went-none t = record { more = []; after = λ bs s. subst (λ (l : List ℕ). SoFar l t) (sym (append-nil bs)) s; kept = refl }
 
-pub went-on : {t u r : Taken} {room : ℕ} → Went t u → Passed room u r → Went t r
+pub went-on : {t u r : Taken} {room : ℕ} → Went t u → PassedOver room u r → Went t r
 went-on {t} {u} {r} w p =
     let q = p .piece in
     record {
@@ -75,12 +75,12 @@ allKept t = record { counts = t .counts; total = t .total; kept = t .total }
 none-so-far : SoFar [] nothing
 none-so-far = record { bytes = λ i. omega arith; total = refl; counts = sym counts-none }
 
-pub first-so-far : {part : List ℕ} {r : Taken} (p : Piece part nothing r) → SoFar (take (p .size) part) (allKept r)
+pub first-so-far : {part : List ℕ} {r : Taken} (p : PieceRead part nothing r) → SoFar (take (p .size) part) (allKept r)
 first-so-far p =
     let s = piece-after p none-so-far in
     record { bytes = s .bytes; total = s .total; counts = s .counts }
 
-pub took-first : (part tail : List ℕ) {r : Taken} (p : Piece part nothing r) → length part ≤ keptLimit → Took (take (p .size) part) (part ++ tail) (allKept r)
+pub took-first : (part tail : List ℕ) {r : Taken} (p : PieceRead part nothing r) → length part ≤ keptLimit → Took (take (p .size) part) (part ++ tail) (allKept r)
 took-first part tail {r} p h =
     let n : r .total ≡ p .size = p .total ∙ zero-add (p .size) in
     let short : length (take (p .size) part) ≤ keptLimit = rw (length-take-le (p .size) part (p .within)) (omega (arith, p .within)) in

@@ -65,5 +65,5 @@ inputOf bs = record {
 }
 
 -- what the bytes give; nothing if they are too short. Bytes after the input are ignored.
-unfoldable pub given : List ℕ → Option Input
-given bs = if whole bs then some (inputOf bs) else none
+unfoldable pub wholeInput : List ℕ → Option Input
+wholeInput bs = if whole bs then some (inputOf bs) else none

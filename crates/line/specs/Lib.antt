@@ -1,5 +1,4 @@
 pub mod Input
-pub mod Pieces
 pub mod Line
 pub mod Wrote
-pub mod Taken
+pub mod told

@@ -5,7 +5,7 @@ ghost use Prim.Native.Nat.{_+_, _^_, _<_, min};
 ghost use lib.ListN.{length};
 ghost use lib.Seq.{sets};
 ghost use Rattle.line.specs.Input.{numberAt, numbersAt, signedOf, inputEnd};
-ghost use Rattle.line.specs.Pieces.{byteIn, numberIn, countsIn, CountsFit};
+ghost use Rattle.line.specs.told.Pieces.{byteIn, numberInPiece, countsIn, CountsFit};
 
 // How many units of d1, units of d2 and string ends are announced.
 pub struct Counts {
@@ -37,7 +37,7 @@ fn byte_in(piece: &[u8], base: usize, at: usize) -> usize
 // What the piece gives of a number in 2 bytes.
 fn two_in(piece: &[u8], base: usize, at: usize) -> usize
     requires { ⌜ at < 2 ^ 60 ⌝ }
-    ensures { λ r. ⌜ (r ≡ numberIn 2 (now (piece .entry)) base at) × (r < 65536) ⌝ }
+    ensures { λ r. ⌜ (r ≡ numberInPiece 2 (now (piece .entry)) base at) × (r < 65536) ⌝ }
 {
     byte_in(piece, base, at) + 256 * byte_in(piece, base, at + 1)
 }
@@ -46,7 +46,7 @@ fn two_in(piece: &[u8], base: usize, at: usize) -> usize
 // Callers show that the place can be added to: it is a written number, or a sum of counts of 4 bytes each.
 pub fn four_in(piece: &[u8], base: usize, at: usize) -> usize
     requires { ⌜ at < 2 ^ 50 ⌝ }
-    ensures { λ r. ⌜ (r ≡ numberIn 4 (now (piece .entry)) base at) × (r < 2 ^ 32) ⌝ }
+    ensures { λ r. ⌜ (r ≡ numberInPiece 4 (now (piece .entry)) base at) × (r < 2 ^ 32) ⌝ }
 {
     two_in(piece, base, at) + 65536 * two_in(piece, base, at + 2)
 }

@@ -3,8 +3,8 @@
 ghost use mathlib.Core.Path.{_≡_};
 ghost use Prim.Native.Nat.{_+_, _^_, _≤_, _<_};
 ghost use lib.ListN.{length};
-ghost use Rattle.line.specs.Pieces.{CountsFit};
-ghost use Rattle.line.specs.Taken.{keptLimit, TookSome, Piece, Passed, Begun, Went};
+ghost use Rattle.line.specs.told.Pieces.{CountsFit};
+ghost use Rattle.line.specs.told.Taken.{keptLimit, TookSome, PieceRead, PassedOver, Begun, Went};
 use crate::input::Counts;
 use crate::input::counts_in;
 
@@ -24,7 +24,7 @@ fn least(a: usize, b: usize) -> usize
 // The next piece of the input, read into an area; its counts are taken.
 fn take_piece(fd: i32, area: &mut [u8], taken: Taken) -> Taken
     requires { ⌜ CountsFit (taken .counts) × (taken .total ≤ 2 ^ 40) × (length (now area) ≤ 2 ^ 40) ⌝ }
-    ensures { λ r. ⌜ Piece (now (area .exit)) taken r ⌝ }
+    ensures { λ r. ⌜ PieceRead (now (area .exit)) taken r ⌝ }
 {
     let size = io::read_full(fd, area);
     let base = taken.total;
@@ -40,7 +40,7 @@ fn take_piece(fd: i32, area: &mut [u8], taken: Taken) -> Taken
 // A piece of at most `room` bytes that is not kept.
 fn pass_piece(fd: i32, room: usize, taken: Taken) -> Taken
     requires { ⌜ CountsFit (taken .counts) × (taken .total ≤ 2 ^ 40) ⌝ }
-    ensures { λ r. ⌜ Passed room taken r ⌝ }
+    ensures { λ r. ⌜ PassedOver room taken r ⌝ }
 {
     let mut buffer = io::large_buffer();
     let size = least(room, 65536);

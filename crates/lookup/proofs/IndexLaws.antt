@@ -12,11 +12,11 @@ use lib.Dec.{leb}
 use lib.ListN.{length, drop, getD, getElem?}
 use lib.Seq.{drop-drop}
 use Rattle.foundation.proofs.ChoiceLaws.{and-left, and-right}
-use Rattle.characters.specs.Characters.{partFrom}
+use Rattle.characters.specs.told.Places.{partFrom}
 use Rattle.names.specs.Records.{Record}
 use Rattle.names.specs.Names.{recordAt, stringsFrom, endsFit}
-use Rattle.names.specs.Index.{sumsFrom, rangesOf, firstOf, Sums}
-use Rattle.lookup.specs.Lookups.{ServesTold}
+use Rattle.names.specs.told.Index.{sumsFrom, rangesOf, servedFrom, Sums}
+use Rattle.lookup.specs.told.Lookups.{ServesTold}
 
 length-ranges : (rs : List Record) → length (rangesOf rs) ≡ length rs
 length-ranges [] = refl
@@ -52,13 +52,13 @@ served-none n i (r ∷ rs) l =
     rw (le-ltb i (r .range) (omega arith)) (served-none (n + r .range) (i - r .range) rs (rw e l))
 
 -- where a record's indices begin, as the code reads it
-pub first-at : (notes : List ℕ) (k : ℕ) → 0 < k → firstOf notes k ≡ getD notes (3 * k - 1) 0
-unfolding firstOf
+pub first-at : (notes : List ℕ) (k : ℕ) → 0 < k → servedFrom notes k ≡ getD notes (3 * k - 1) 0
+unfolding servedFrom
 first-at notes zero h = absurd (omega arith)
 first-at notes (suc k) h = let e : 3 * k + 2 ≡ 3 * suc k - 1 = omega arith in ap (λ (n : ℕ). getD notes n 0) e
 
-pub first-least : (notes : List ℕ) (n : ℕ) → firstOf notes 0 ≤ n
-unfolding firstOf
+pub first-least : (notes : List ℕ) (n : ℕ) → servedFrom notes 0 ≤ n
+unfolding servedFrom
 first-least notes n = omega arith
 
 -- Whether a record serves an index, as the code tests it.
@@ -67,11 +67,11 @@ serves-not e = let z : _≡_ {A = ℕ} 0 1 = cc in absurd (omega arith)
 
 module _ (notes : List ℕ) (count k index : ℕ) (h : k < count) where
   pub serves-first : k ≡ 0 → index < getD notes (3 * k + 2) 0 → ServesTold notes count k index
-  unfolding firstOf
-  serves-first e l = (h, subst (λ (n : ℕ). firstOf notes n ≤ index) (sym e) (omega arith), l)
+  unfolding servedFrom
+  serves-first e l = (h, subst (λ (n : ℕ). servedFrom notes n ≤ index) (sym e) (omega arith), l)
 
   pub serves-later : (k ≡ 0 → ⊥) → index < getD notes (3 * k + 2) 0 → leb (getD notes (3 * k - 1) 0) index ≡ true → ServesTold notes count k index
-  unfolding firstOf
+  unfolding servedFrom
   serves-later n l e =
       let f = first-at notes k (omega arith) in
       (h, subst (λ (x : ℕ). x ≤ index) (sym f) (leb-true (getD notes (3 * k - 1) 0) index e), l)
@@ -88,12 +88,12 @@ module _ (notes : List ℕ) (count index : ℕ) (records : List Record) (sums : 
       go [] e = refl
       go (r ∷ rs) e = absurd (omega arith)
 
-  pub past-all : firstOf notes count ≤ index → recordAt index records ≡ none
+  pub past-all : servedFrom notes count ≤ index → recordAt index records ≡ none
   past-all h =
       served-none 0 index records
       (subst (λ (k : ℕ). getD (sumsFrom 0 (rangesOf records)) k 0 ≤ 0 + index) (sym (sums .many)) (rw (← sums .are count (le-refl count), zero-add) h))
 
-  pub served-by : (k next : ℕ) → k < next → next ≤ count → firstOf notes k ≤ index → index < firstOf notes next → next - k ≤ 1
+  pub served-by : (k next : ℕ) → k < next → next ≤ count → servedFrom notes k ≤ index → index < servedFrom notes next → next - k ≤ 1
       → recordAt index records ≡ getElem? records k
   served-by k next m n l h o =
       let e : next ≡ suc k = omega arith in

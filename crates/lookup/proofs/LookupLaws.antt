@@ -4,34 +4,36 @@ use mathlib.Core.Path.{_≡_, refl, ap, sym, _∙_, subst}
 use mathlib.Core.Bool.{Bool, true, false}
 use mathlib.Core.List.{List, [], _∷_}
 use mathlib.Core.Option.{Option, some}
-use Prim.Native.Nat.{ℕ, zero, suc, _+_, _-_, _*_, _/_, _%_, _≤_, _<_}
+use Prim.Native.Nat.{ℕ, zero, suc, _+_, _-_, _*_, _≤_, _<_}
 use native.Mathlib.Omega.{arith}
 use lib.ListN.{length, take, drop, getD, getElem?, length-take}
 use lib.Seq.{take-take}
 use Rattle.foundation.specs.Results.{Res, ok, _from_}
 use Rattle.foundation.specs.Texts.{Text}
 use Rattle.wire.specs.Wire.{cut}
-use Rattle.characters.specs.Characters.{utf8, fromUtf16, partFrom}
+use Rattle.characters.specs.Characters.{utf8, fromUtf16}
+use Rattle.characters.specs.told.Places.{partFrom}
 use Rattle.foundation.proofs.ChoiceLaws.{drop-take}
 use Rattle.names.specs.Records as definition
-use Rattle.names.specs.Records.{decides, operated, textOf}
+use Rattle.names.specs.Records.{decides, operated}
 use Rattle.names.specs.Names.{Names, recordAt, stringsFrom, d2String, string, qualifiedName}
-use Rattle.names.specs.Name.{sourceText, sized, nameText, absentName}
-use Rattle.names.specs.Index.{startOf, endOf, RecordAt, IndexOf}
-use Rattle.lookup.specs.Lookups.{foundIn, FoundBelow, FindTold, lookedUp, NamedIs, ClassIs, NoteTold, NotesOf, WordsAt, DecidedIs, DecidedTold}
-use Rattle.lookup.specs.Note.{noted, notedClass, notedAs}
-use Rattle.lookup.specs.Steps.{extentOf}
+use Rattle.names.specs.told.Name.{sourceText, sized, nameText, absentName}
+use Rattle.names.specs.told.Index.{startOf, endOf, IndexOf}
+use Rattle.lookup.specs.told.Lookups.{foundIn, FoundBelow, FindTold, lookedUp, NotesOf, WordsAt, DecidedIs, DecidedTold}
+use Rattle.record_names.specs.told.Named.{NamedIs, ClassIs, NoteTold}
+use Rattle.record_names.specs.told.Note.{noted, notedClass, notedAs}
+use Rattle.record_names.specs.told.Steps.{extentOf}
 use Rattle.names.specs.declared.name.Name.{Name}
 use Rattle.names.specs.declared.records.Record.{Record}
 use Rattle.lookup.specs.declared.Served.{Served}
 use Rattle.lookup.specs.declared.Served.the-variants as found
-use Rattle.lookup.specs.declared.Decided.{Decided}
-use Rattle.lookup.specs.declared.Decided.the-variants as decided
-use Rattle.lookup.specs.declared.steps.Extent.{Extent}
-use Rattle.lookup.specs.declared.steps.Extent.the-variants as extent
+use Rattle.record_names.specs.declared.Decided.{Decided}
+use Rattle.record_names.specs.declared.Decided.the-variants as decided
+use Rattle.record_names.specs.declared.Extent.{Extent}
+use Rattle.record_names.specs.declared.Extent.the-variants as extent
 use Rattle.names.proofs.FittedLaws.{sized-is}
-use Rattle.lookup.specs.Strings.{SizeOf}
-use Rattle.lookup.proofs.PartLaws.{same-substituted}
+use Rattle.lookup.specs.told.Strings.{SizeOf}
+use Rattle.record_names.proofs.PartLaws.{same-substituted}
 
 elem-some : {A : Type 0} (l : List A) (k : ℕ) → k < length l → (a : A) × (getElem? l k ≡ some a)
 elem-some [] k h = absurd (omega arith)

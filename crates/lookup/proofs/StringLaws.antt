@@ -13,13 +13,14 @@ use lib.ListN.{length, take, drop, getD, getElem?, set, length-set, length-take,
 use lib.Seq.{getD-set-same, getD-set-other, take-set-le, take-take}
 use Rattle.foundation.specs.Choices.{if_then_else_, ifSome}
 use Rattle.foundation.proofs.ChoiceLaws.{if-ind}
-use Rattle.characters.specs.Characters.{utf8, fromUtf16, partFrom}
+use Rattle.characters.specs.Characters.{utf8, fromUtf16}
+use Rattle.characters.specs.told.Places.{partFrom}
 use Rattle.characters.proofs.LengthLaws.{bytes-most, fromUtf16-length}
 use Rattle.names.specs.Names.{stringsFrom, endsFit}
-use Rattle.lookup.specs.Steps.{extentOf}
-use Rattle.lookup.specs.Strings.{codesIn, codesFrom, sizesFrom, Keeps, SizeOf, SizesOf, StringNoted}
-use Rattle.lookup.specs.declared.steps.Extent.{Extent}
-use Rattle.lookup.specs.declared.steps.Extent.the-variants as extent
+use Rattle.record_names.specs.told.Steps.{extentOf}
+use Rattle.lookup.specs.told.Strings.{codesIn, codesFrom, sizesFrom, Keeps, SizeOf, SizesOf, StringNoted}
+use Rattle.record_names.specs.declared.Extent.{Extent}
+use Rattle.record_names.specs.declared.Extent.the-variants as extent
 use Rattle.lookup.proofs.ResolveLaws.{still-lower}
 
 -- What stands before a place stays.

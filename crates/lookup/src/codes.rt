@@ -1,9 +1,9 @@
 // A code for each of the first indices: the record that serves it. It is a hint that a look-up tests before it believes it, so that no
-// promise rests on it; without one the record is searched for. The places of codes and sizes in the notes: specs/Strings.antt.
+// promise rests on it; without one the record is searched for. The places of codes and sizes in the notes: specs/told/Strings.antt.
 ghost use mathlib.Core.Path.{_≡_};
 ghost use Prim.Native.Nat.{_*_, _≤_, _<_};
 ghost use lib.ListN.{length};
-ghost use Rattle.lookup.specs.Strings.{codesIn, sizesFrom, codesFrom, Keeps};
+ghost use Rattle.lookup.specs.told.Strings.{codesIn, sizesFrom, codesFrom, Keeps};
 use names::records::RECORD_WORDS;
 
 // How many words are for the sizes of long strings.

@@ -1,40 +1,31 @@
-// Names by their index. The definitions: names' specs/Names.antt and specs/Index.antt; what look-ups tell: specs/Lookups.antt.
+// Names by their index. The definitions: names' specs/Names.antt and specs/told/Index.antt; what look-ups tell: specs/told/Lookups.antt.
 ghost use mathlib.Core.Path.{_≡_};
 ghost use mathlib.Core.Bool.{true};
 ghost use mathlib.Core.List.{List};
-ghost use Prim.Native.Nat.{ℕ, _*_, _^_, _≤_, _<_};
+ghost use Prim.Native.Nat.{ℕ, _*_, _≤_};
 ghost use lib.ListN.{length, getElem?};
 ghost use Rattle.names.specs.Records.{Record};
 ghost use Rattle.foundation.specs.Results.{ok};
-ghost use Rattle.names.specs.Name.{nameText};
+ghost use Rattle.names.specs.told.Name.{nameText};
 ghost use Rattle.names.specs.Names.{stringsFrom, endsFit, d2String, string};
-ghost use Rattle.lookup.specs.Lookups.{ServesTold, FindTold, PlaceTold, PredefinedTold, NamedTold, NotesOf, WordsAt, DecidedTold};
-ghost use Rattle.lookup.specs.Steps.{extentOf};
-ghost use Rattle.lookup.specs.Strings.{SizesOf};
+ghost use Rattle.lookup.specs.told.Lookups.{ServesTold, FindTold, PlaceTold, NotesOf, WordsAt, DecidedTold};
+ghost use Rattle.record_names.specs.told.Steps.{extentOf};
+ghost use Rattle.lookup.specs.told.Strings.{SizesOf};
 
 pub mod codes; // codes.rt: a code for each of the first indices
 pub mod strings; // strings.rt: the sizes of long strings of d2
-mod note; // note.rt: what a record builds, in two words
-mod steps; // steps.rt: the name that a record builds
 pub mod resolve; // resolve.rt: each record worked out once
 pub mod qualified; // qualified.rt: class names by their index
 
 use crate::codes::code_at;
-use crate::note::noted_as;
-use crate::steps::Extent;
-use crate::steps::decides;
-use crate::steps::record_name;
 use crate::strings::size_at;
-use fields::RECORD_OPERATION;
-use fields::RECORD_PREDEFINED_INDEX;
-use fields::RECORD_RANGE;
 use foundation::wide;
 use names::name::Name;
-use names::name::PredefinedPart;
 use names::name::absent;
-use names::name::predefined;
 use names::records::RECORD_WORDS;
-use names::records::record_in;
+use record_names::Decided;
+use record_names::Extent;
+use record_names::note::noted_as;
 
 enum Served {
     Record { at: usize },
@@ -143,82 +134,6 @@ pub(crate) fn place_of(bytes: &[u8], notes: &[u64], at: usize) -> Extent
         return Extent::Nothing;
     }
     Extent::Part { start, end }
-}
-
-pub(crate) enum Decided {
-    Yes { name: Name },
-    No,
-}
-
-// The name that the record from `start` to `end` builds, if it decides.
-fn read_record(bytes: &[u8], start: usize, end: usize) -> Decided
-    requires { ⌜ (start ≤ end) × (end ≤ length (now bytes)) × (start < 2 ^ 32) ⌝ }
-    ensures { λ r. ⌜ NamedTold (now (bytes .entry)) start end r ⌝ }
-{
-    let read = record_in(&bytes[start..end], start as u32);
-    let text = read.string;
-    let predefined = read.predefined;
-    if decides(text, predefined) {
-        let name = record_name(&*bytes, start, read);
-        return Decided::Yes { name };
-    }
-    Decided::No
-}
-
-// A predefined string as a name, with no step.
-fn listed_name(index: u32) -> Name
-    ensures { λ r. ⌜ PredefinedTold index r ⌝ }
-{
-    let listed = predefined(index);
-    let PredefinedPart::Part { start, end } = listed else {
-        return absent();
-    };
-    Name {
-        source: 2,
-        start,
-        end,
-        from: 0,
-        to: 0,
-        operation: 0,
-        qualified: false,
-        size: 0,
-    }
-}
-
-// The tags of a record's fields 1 to 3, which are varints.
-const RANGE_TAG: u32 = RECORD_RANGE * 8;
-
-const PREDEFINED_INDEX_TAG: u32 = RECORD_PREDEFINED_INDEX * 8;
-
-const OPERATION_TAG: u32 = RECORD_OPERATION * 8;
-
-// The same as `read_record`. Most records have no field, or one of two bytes: its tag and its number.
-pub(crate) fn record_at(bytes: &[u8], start: usize, end: usize) -> Decided
-    requires { ⌜ (start ≤ end) × (end ≤ length (now bytes)) × (start < 2 ^ 32) ⌝ }
-    ensures { λ r. ⌜ NamedTold (now (bytes .entry)) start end r ⌝ }
-{
-    let size = end - start;
-    if size == 0 {
-        return Decided::No;
-    }
-    if size == 2 {
-        let tag = characters::wide(bytes[start]);
-        let number = characters::wide(bytes[start + 1]);
-        if number < 128 {
-            if tag == PREDEFINED_INDEX_TAG {
-                return Decided::Yes {
-                    name: listed_name(number),
-                };
-            }
-            if tag == RANGE_TAG {
-                return Decided::No;
-            }
-            if tag == OPERATION_TAG {
-                return Decided::No;
-            }
-        }
-    }
-    read_record(&*bytes, start, end)
 }
 
 // What is noted of record `at`: its name, or with `class` its class name.

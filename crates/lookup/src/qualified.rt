@@ -1,5 +1,5 @@
 // Class names: without a leading L and a trailing ; if both are there, / and $ turned into dots. The definition: names' specs/Names.antt,
-// `qualifiedName`; how the answers tell it: specs/Qualified.antt.
+// `qualifiedName`; how the answers tell it: specs/told/Qualified.antt.
 ghost use mathlib.Core.Path.{_≡_};
 ghost use mathlib.Core.Bool.{true};
 ghost use mathlib.Core.List.{List};
@@ -8,106 +8,18 @@ ghost use lib.ListN.{length};
 ghost use Rattle.foundation.specs.Results.{ok};
 ghost use Rattle.names.specs.Records.{Record};
 ghost use Rattle.names.specs.Names.{stringsFrom, endsFit, d2String, qualifiedName};
-ghost use Rattle.names.specs.Name.{nameText};
-ghost use Rattle.lookup.specs.Lookups.{NotesOf};
-ghost use Rattle.lookup.specs.Steps.{BytesName};
-ghost use Rattle.lookup.specs.Qualified.{LastTold, UnwrapTold, qualifiedPart, ClassTold, ClippedTold, WrappedTold, unitsName, QualifiedUnits};
-ghost use Rattle.lookup.specs.Strings.{SizesOf};
-use crate::Decided;
+ghost use Rattle.names.specs.told.Name.{nameText};
+ghost use Rattle.lookup.specs.told.Lookups.{NotesOf};
+ghost use Rattle.lookup.specs.told.Qualified.{ClippedTold, WrappedTold, unitsName, QualifiedUnits};
+ghost use Rattle.lookup.specs.told.Strings.{SizesOf};
 use crate::by_record;
 use crate::d2_extent;
-use crate::note::class_size;
-use crate::steps::Extent;
 use crate::strings::size_at;
-use characters::Character;
-use characters::utf8_at;
 use names::name::Name;
-use names::name::PREDEFINED;
 use names::name::absent;
-use names::name::base_part;
-use names::name::instead;
-
-enum Last {
-    Character { place: usize, code: u32 },
-    Nothing,
-}
-
-// The last character of some bytes' text, and where it begins.
-fn last_of(s: &[u8]) -> Last
-    ensures { λ r. ⌜ LastTold (now (s .entry)) r ⌝ }
-{
-    let mut at = 0;
-    while at < s.len() {
-        let character = utf8_at(&*s, at);
-        let Character::Read { code, next } = character else {
-            return Last::Nothing;
-        };
-        if s.len() <= next {
-            return Last::Character { place: at, code };
-        }
-        at = next;
-    }
-    Last::Nothing
-}
-
-// The part between a leading L and a trailing ; of some bytes' text, every character `from` become `to`.
-fn unwrapped_part(s: &[u8], from: u32, to: u32) -> Extent
-    ensures { λ r. ⌜ UnwrapTold (now (s .entry)) from to r ⌝ }
-{
-    let character = utf8_at(&*s, 0);
-    let Character::Read { code, next } = character else {
-        return Extent::Nothing;
-    };
-    if instead(from, to, code) != 0x4c {
-        return Extent::Nothing;
-    }
-    let ending = last_of(&s[next..]);
-    let Last::Character { place, code: last } = ending else {
-        return Extent::Nothing;
-    };
-    if instead(from, to, last) != 0x3b {
-        return Extent::Nothing;
-    }
-    Extent::Part {
-        start: next,
-        end: next + place,
-    }
-}
-
-// A name as a class name, made of another part of its source.
-fn qualified_part(name: Name, start: usize, end: usize) -> Name
-    ensures { λ r. ⌜ r ≡ qualifiedPart name start end ⌝ }
-{
-    Name {
-        source: name.source,
-        start,
-        end,
-        from: name.from,
-        to: name.to,
-        operation: name.operation,
-        qualified: true,
-        size: 0,
-    }
-}
-
-// The class name of a record's name, when the record is worked out. What operation 2 puts in front begins with no L.
-pub(crate) fn qualified_bytes(payload: &[u8], name: Name) -> Name
-    requires { ⌜ BytesName name ⌝ }
-    ensures { λ r. ⌜ ClassTold (now (payload .entry)) name r ⌝ }
-{
-    let source = name.source;
-    let start = name.start;
-    let end = name.end;
-    if name.operation == 2 {
-        return qualified_part(name, start, end);
-    }
-    let s = base_part(&*payload, &PREDEFINED, source, start, end);
-    let part = unwrapped_part(s, name.from, name.to);
-    let Extent::Part { start: a, end: b } = part else {
-        return qualified_part(name, start, end);
-    };
-    qualified_part(name, start + a, start + b)
-}
+use record_names::Decided;
+use record_names::Extent;
+use record_names::note::class_size;
 
 fn clipped(units: &[u16], end: usize) -> usize
     ensures { λ r. ⌜ ClippedTold (now (units .entry)) end r ⌝ }

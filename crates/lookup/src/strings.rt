@@ -1,16 +1,16 @@
-// The sizes of long strings of d2, measured once for all look-ups. What is noted: specs/Strings.antt.
+// The sizes of long strings of d2, measured once for all look-ups. What is noted: specs/told/Strings.antt.
 ghost use mathlib.Core.Path.{_≡_};
 ghost use mathlib.Core.Bool.{true};
 ghost use mathlib.Core.List.{List};
 ghost use Prim.Native.Nat.{ℕ, _+_, _≤_};
 ghost use lib.ListN.{length};
 ghost use Rattle.names.specs.Names.{endsFit};
-ghost use Rattle.lookup.specs.Strings.{sizesFrom, Keeps, SizeOf, SizesOf, StringNoted};
+ghost use Rattle.lookup.specs.told.Strings.{sizesFrom, Keeps, SizeOf, SizesOf, StringNoted};
 use crate::codes::sizes_from;
 use crate::d2_extent;
-use crate::steps::Extent;
 use characters::measure::utf8_size;
 use foundation::wide;
+use record_names::Extent;
 
 // A string of d2 of so many units is long: at most 32 are.
 const LONG: usize = 1024;

@@ -17,9 +17,9 @@ use Rattle.fields.specs.Fields.{Constructor·flags, Constructor·value-paramete
 use Rattle.wire.specs.Wire.{Message, cut}
 use Rattle.wire.specs.declared.WireError.{WireError}
 use Rattle.wire.proofs.WalkLaws.{ok-same}
-use Rattle.names.specs.Name.{nameText}
+use Rattle.names.specs.told.Name.{nameText}
 use Rattle.names.specs.declared.name.Name.{Name}
-use Rattle.sheet.specs.Put.{PutHead, past}
+use Rattle.sheet.specs.told.Put.{PutHead, past}
 use Rattle.sheet.specs.declared.State.{State}
 use Rattle.sheet.proofs.PutLaws.{put-types, rows-then}
 use Rattle.declaration_rows.specs.Declarations.{Ty, Signature, Parameter, Constructor, Function, signed}
@@ -27,13 +27,13 @@ use Rattle.schema.specs.Reading.{pure, _>>=_, Scope, nameIn}
 use Rattle.schema.specs.Members.{flagsIn, parameterIn, listIn, signatureIn, constructorIn, receiverIn, functionIn}
 use Rattle.schema.specs.Types.{declaredType}
 use Rattle.declaration_rows.specs.Rows.{receiverRole, returnRole, typeRows, parameterRows, constructorRows, functionRows}
-use Rattle.declaration_rows.specs.Written.{cellLimit, signatureBy, initBy, constructorCells, functionCells}
-use Rattle.schema.specs.Told.{Lent, NamesOf, Scoped, WalkedSpends, WalkedTold}
-use Rattle.schema.specs.MembersTold.{Affords, Within, ListedTold, parameterCost, memberCost, MemberTold, ListTold}
-use Rattle.type_references.specs.OptionalTold.{OptionalTold}
-use Rattle.members.specs.SignaturesTold.{SignedTold}
-use Rattle.schema.specs.ReceiversTold.{ReceiverTold}
-use Rattle.members.specs.CallablesTold.{functionHeadCost, FunctionHead, functionTypes, FunctionTypesAre, FunctionTypesTold}
+use Rattle.declaration_rows.specs.told.Written.{cellLimit, signatureBy, initBy, constructorCells, functionCells}
+use Rattle.schema.specs.told.SchemaTold.{Lent, NamesOf, Scoped, WalkedSpends, WalkedTold}
+use Rattle.schema.specs.told.MembersTold.{Affords, Within, ListedTold, parameterCost, memberCost, MemberTold, ListTold}
+use Rattle.type_references.specs.told.OptionalTold.{OptionalTold}
+use Rattle.members.specs.told.SignaturesTold.{SignedTold}
+use Rattle.schema.specs.told.ReceiversTold.{ReceiverTold}
+use Rattle.members.specs.told.CallablesTold.{functionHeadCost, FunctionHead, functionTypes, FunctionTypesAre, FunctionTypesTold}
 use Rattle.declaration_rows.specs.declared.SignatureNames.{SignatureNames}
 use Rattle.members.specs.declared.signatures.Signed.{Signed}
 use Rattle.members.specs.declared.signatures.Signed.the-variants as answer

@@ -5,6 +5,8 @@ use mathlib.Core.List.{List, [], _∷_, _++_, append-nil}
 use mathlib.Core.Option.{Option, none, some}
 use Prim.Native.Nat.{ℕ, _+_, _-_, _*_, _^_, _≤_, _<_}
 use native.Mathlib.Omega.{arith}
+use types.Run.{OneOf, miss}
+use denote.Enum.Declared.{tagOf}
 use lib.ListN.{length, take, drop, length-take, length-drop}
 use lib.Seq.{sets, drop-drop, take-append-seam, length-take-le}
 use Rattle.foundation.specs.Choices.{mapOption}
@@ -14,14 +16,14 @@ use Rattle.foundation.proofs.DigitLaws.{length-digits}
 use Rattle.foundation.proofs.OverlayLaws.{sets-front}
 use Rattle.wire.specs.Wire.{Message, cut}
 use Rattle.wire.specs.Messages.{messages}
-use Rattle.messages.specs.Asked.{CheckedTold, NextTold}
+use Rattle.messages.specs.told.Asked.{CheckedTold, NextBodyTold}
 use Rattle.messages.specs.declared.Checked.{Checked}
 use Rattle.wire.specs.declared.Piece.{Piece}
 use Rattle.wire.specs.declared.Piece.the-variants as piece
-use Rattle.characters.specs.Characters.{partFrom}
+use Rattle.characters.specs.told.Places.{partFrom}
 use Rattle.characters.proofs.PartLaws.{part-short, rest-is}
 use Rattle.sheet.specs.Rows.{ref, Row, row, bodyText, texts}
-use Rattle.sheet.specs.Put.{PutRows}
+use Rattle.sheet.specs.told.Put.{PutRows}
 use Rattle.sheet.specs.declared.State.{State}
 use Rattle.sheet.proofs.RowLaws.{bodyLength, rowsLength, sheet-length}
 use Rattle.sheet.proofs.PutLaws.{put-sheet, put-text, put-types, put-left, rows-then}
@@ -29,24 +31,24 @@ use Rattle.declaration_rows.specs.Declarations.{Constructor, Function}
 use Rattle.schema.specs.Reading.{Read, Scope}
 use Rattle.schema.specs.Members.{constructorIn, functionIn}
 use Rattle.declaration_rows.specs.Rows.{constructorRows, functionRows}
-use Rattle.schema.specs.Told.{Lent, Scoped, EntryAt, Stands, PickedTold}
-use Rattle.schema.specs.MembersTold.{Affords, Within, PickedWithin, memberCost, closedCost, MemberTold}
-use Rattle.schema.specs.ListsTold.{ListAtTold}
-use Rattle.schema.specs.declared.Stop.{Stop}
+use Rattle.schema.specs.told.SchemaTold.{Lent, Scoped, EntryAt, Stands, PickedTold}
+use Rattle.schema.specs.told.MembersTold.{Affords, Within, PickedWithin, memberCost, closedCost, MemberTold}
+use Rattle.schema.specs.told.ListsTold.{ListAtTold}
 use Rattle.schema.specs.declared.Listed.{Listed}
 use Rattle.schema.specs.declared.Listed.the-variants as listed
 use Rattle.schema.specs.declared.Picked.{Picked}
 use Rattle.schema.specs.declared.Picked.the-variants as picked
+use Rattle.schema.proofs.Picked.{the-type}
 use Rattle.schema.proofs.CountLaws.{within-both, affords-less, affords-after, picked-within}
 use Rattle.schema.proofs.StandsLaws.{part-stands, stands-entry}
 use Rattle.schema.proofs.ListLaws.{Looping, loop-end, member-in, member-affords, loop-refused, loop-dropped, loop-kept}
-use Rattle.erasure.specs.Told.{PutText}
+use Rattle.erasure.specs.told.ErasureTold.{PutSized}
 use Rattle.erasure.specs.declared.Part.{Part}
 use Rattle.erasure.specs.declared.Part.the-variants as part
 use Rattle.descriptors.specs.Defaults.{Parts, constructorParts, functionParts, descriptor, defaultRow, closedConstructor, closedFunction}
-use Rattle.descriptors.specs.DefaultsTold.{partCost, PartTold, ConstructorDefault, FunctionDefault}
-use Rattle.descriptors.specs.PartsTold.{Gave, PartOf}
-use Rattle.members.specs.ClosedTold.{closeCost, CloseTold}
+use Rattle.descriptors.specs.told.DefaultsTold.{partCost, PartTold, ConstructorDefault, FunctionDefault}
+use Rattle.descriptors.specs.told.PartsTold.{Gave, PartOf}
+use Rattle.members.specs.told.ClosedTold.{closeCost, CloseTold}
 use Rattle.descriptors.proofs.JoinLaws.{part-answer, written-within}
 
 -- The descriptor of what a reading has kept.
@@ -86,7 +88,7 @@ text-known : (o : Option (List ℕ)) (at : ℕ) (r : Part) (A A₁ t : List ℕ)
 text-known o at (part.Written n) A A₁ t (u, e, p) f = let g : u ≡ t = cc in rw g at (p .area)
 text-known o at part.Absent A A₁ t e f = let z : _≡_ {A = ℕ} 0 1 = cc in absurd (omega arith)
 
-text-aside : (t A A₁ : List ℕ) (n : ℕ) → PutText t 0 n A A₁ → n ≤ length A → take n A₁ ≡ t
+text-aside : (t A A₁ : List ℕ) (n : ℕ) → PutSized t 0 n A A₁ → n ≤ length A → take n A₁ ≡ t
 text-aside t A A₁ n p h =
     let l : length t ≤ length A = omega (arith, p .size) in
     ap (λ (k : ℕ). take k A₁) (p .size)
@@ -148,18 +150,20 @@ module _ {payload d2 msg : List ℕ} {base : ℕ} {s : State} (st : Stands paylo
       → Affords payload d2 (closeCost (length msg)) s₁ × Stands payload msg base
   closing-room p w = (affords-after h (closeCost (length msg)) (picked-within {n = memberCost (length msg)} p w) (omega arith), st)
 
+-- One that is skipped or refused, and so is not closed.
+pub closed-unkept : {D : Type 0} (read : Scope → Message → Read (Option D)) (rows closed : D → List Row) {n n′ : ℕ} {e : Lent} {msg : List ℕ} {base : ℕ}
+    {s : State} (r : Picked) {S S₁ T T₁ : List ℕ} → OneOf (1 ∷ 2 ∷ []) (tagOf the-type r) → MemberTold read rows n e msg base s r S S₁ T T₁
+    → MemberTold read closed n′ e msg base s r S S₁ T T₁
+closed-unkept read rows closed (picked.Kept s₁) h t = absurd (miss (1 ∷ 2 ∷ []) 0 tt h)
+closed-unkept read rows closed picked.Dropped h t = record { spends = tt; is = t .is }
+closed-unkept read rows closed (picked.Refused stop) h t = record { spends = tt; is = t .is }
+
 module _ {D : Type 0} (read : Scope → Message → Read (Option D)) (rows closed : D → List Row) (parts : D → Option Parts)
     (are : (d : D) → rows d ++ (defaultRow (parts d) ∷ []) ≡ closed d) {e : Lent} {msg : List ℕ} {base : ℕ} {s : State}
     {r : Picked} {S S₁ T T₁ : List ℕ} (t : MemberTold read rows (memberCost (length msg)) e msg base s r S S₁ T T₁) where
   member-is : (c : Scope) → Scoped e c → (m : Message) → cut (_from_ base msg) ≡ ok m → {y : Picked} → r ≡ y
       → PickedTold (read c m (s .types)) rows s y S S₁ T T₁
   member-is c o m k w = subst (λ (y : Picked). PickedTold (read c m (s .types)) rows s y S S₁ T T₁) w (t .is c o m k)
-
-  pub closed-dropped : r ≡ picked.Dropped → MemberTold read closed (closedCost (length msg)) e msg base s picked.Dropped S S₁ T T₁
-  closed-dropped w = record { spends = tt; is = λ c o m k. member-is c o m k w }
-
-  pub closed-refused : {stop : Stop} → r ≡ picked.Refused stop → MemberTold read closed (closedCost (length msg)) e msg base s (picked.Refused stop) S S₁ T T₁
-  closed-refused w = record { spends = tt; is = λ c o m k. member-is c o m k w }
 
   pub closed-kept : Stands (e .payload) msg base → {s₁ : State} → r ≡ picked.Kept s₁ → {s₂ : State} {S₂ T₂ : List ℕ}
       → CloseTold read parts e base (base + length msg) s₁ s₂ S₁ S₂ T₁ T₂

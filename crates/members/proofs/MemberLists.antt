@@ -8,8 +8,8 @@ use Rattle.wire.specs.Wire.{Message}
 use Rattle.sheet.specs.Rows.{Row}
 use Rattle.sheet.specs.declared.State.{State}
 use Rattle.schema.specs.Reading.{Scope, Read}
-use Rattle.schema.specs.Told.{Lent}
-use Rattle.schema.specs.MembersTold.{PickedWithin, MemberTold}
+use Rattle.schema.specs.told.SchemaTold.{Lent}
+use Rattle.schema.specs.told.MembersTold.{PickedWithin, MemberTold}
 use Rattle.schema.specs.declared.Picked.{Picked}
 use Rattle.schema.specs.declared.Picked.the-variants as picked
 use Rattle.schema.proofs.CountLaws.{within-less}

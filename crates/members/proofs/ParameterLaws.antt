@@ -14,10 +14,10 @@ use Rattle.foundation.specs.Texts.{Text}
 use Rattle.foundation.proofs.PresenceLaws.{none-is, some-is}
 use Rattle.fields.specs.Fields.{ValueParameter·flags, ValueParameter·name, ValueParameter·type, ValueParameter·vararg-element-type, ValueParameter·type-id, ValueParameter·vararg-element-type-id}
 use Rattle.wire.specs.Wire.{Message, cut}
-use Rattle.names.specs.Name.{nameText}
+use Rattle.names.specs.told.Name.{nameText}
 use Rattle.names.specs.declared.name.Name.{Name}
 use Rattle.sheet.specs.Rows.{Row, row, cellText, bodyBytes, bodyText, sheetFrom, texts}
-use Rattle.sheet.specs.Put.{PutHead, PutRows}
+use Rattle.sheet.specs.told.Put.{PutHead, PutRows}
 use Rattle.sheet.specs.declared.State.{State}
 use Rattle.sheet.proofs.PutLaws.{put-sheet, put-text, put-types, put-same, rows-then}
 use Rattle.sheet.proofs.RowLaws.{bodyLength, body-length}
@@ -25,13 +25,13 @@ use Rattle.declaration_rows.specs.Declarations.{Ty, Parameter}
 use Rattle.schema.specs.Reading.{Read, pure, _>>=_, Scope, nameIn}
 use Rattle.schema.specs.Types.{declaredType}
 use Rattle.schema.specs.Members.{bitOf, smallFlagsIn, parameterIn}
-use Rattle.declaration_rows.specs.Rows.{named, parameterRole, varargRole, typeRows, parameterRows}
-use Rattle.declaration_rows.specs.Written.{parameterCells}
-use Rattle.schema.specs.Told.{Lent, NamesOf, Scoped, nameLimit, Spends, WalkedSpends, WalkedTold, PickedTold}
-use Rattle.schema.specs.TypesTold.{pickedOf}
-use Rattle.schema.specs.MembersTold.{Affords, Within, PickedWithin, parameterCost, MemberTold}
-use Rattle.type_references.specs.OptionalTold.{OptionalTold}
-use Rattle.members.specs.ParametersTold.{both, parameterTypesIn, parameterTypesRows, ParameterTypesTold}
+use Rattle.declaration_rows.specs.Rows.{nameCell, parameterRole, varargRole, typeRows, parameterRows}
+use Rattle.declaration_rows.specs.told.Written.{parameterCells}
+use Rattle.schema.specs.told.SchemaTold.{Lent, NamesOf, Scoped, nameLimit, Spends, WalkedSpends, WalkedTold, PickedTold}
+use Rattle.schema.specs.told.TypesTold.{pickedOf}
+use Rattle.schema.specs.told.MembersTold.{Affords, Within, PickedWithin, parameterCost, MemberTold}
+use Rattle.type_references.specs.told.OptionalTold.{OptionalTold}
+use Rattle.members.specs.told.ParametersTold.{both, parameterTypesIn, parameterTypesRows, ParameterTypesTold}
 use Rattle.schema.specs.declared.Stop.{Stop}
 use Rattle.schema.specs.declared.Picked.{Picked}
 use Rattle.schema.specs.declared.Picked.the-variants as picked
@@ -112,9 +112,9 @@ record-length : (o : ℕ) (name : Option Text) (default : Bool) → length (body
 unfolding bodyLength
 record-length o name default = body-length o (parameterCells name default)
 
-record-text : (name : Option Text) (default : Bool) → bodyText (parameterCells name default) ≡ cellText (named name)
+record-text : (name : Option Text) (default : Bool) → bodyText (parameterCells name default) ≡ cellText (nameCell name)
 unfolding bodyText
-record-text name default = append-nil (cellText (named name))
+record-text name default = append-nil (cellText (nameCell name))
 
 abbrev recordCost : ℕ
 recordCost = 6 + nameLimit

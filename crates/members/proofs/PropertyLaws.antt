@@ -14,14 +14,14 @@ use Rattle.foundation.specs.Texts.{Text}
 use Rattle.fields.specs.Fields.{Property·name, Property·return-type, Property·receiver-type, Property·getter-flags, Property·setter-flags, Property·return-type-id, Property·receiver-type-id, Property·flags, Property·property-signature, JvmPropertySignature·getter, JvmPropertySignature·setter}
 use Rattle.wire.specs.Wire.{Message, cut}
 use Rattle.wire.specs.Messages.{message}
-use Rattle.wire.specs.Told as wire
+use Rattle.wire.specs.told.WireTold.{wireRefused}
 use Rattle.wire.specs.declared.WireError.{WireError}
 use Rattle.messages.specs.declared.Checked.{Checked}
 use Rattle.messages.specs.declared.Checked.the-variants as checked
-use Rattle.names.specs.Name.{nameText}
+use Rattle.names.specs.told.Name.{nameText}
 use Rattle.names.specs.declared.name.Name.{Name}
 use Rattle.sheet.specs.Rows.{Cell, num, ref, cellText, cellBytes, row, bodyBytes, bodyText, sheetFrom, texts}
-use Rattle.sheet.specs.Put.{PutHead, PutRows}
+use Rattle.sheet.specs.told.Put.{PutHead, PutRows}
 use Rattle.sheet.specs.declared.State.{State}
 use Rattle.sheet.proofs.RowLaws.{cell-length}
 use Rattle.sheet.proofs.PutLaws.{put-sheet, put-text, put-types, put-same, rows-then}
@@ -30,12 +30,12 @@ use Rattle.schema.specs.Reading.{Scope, nameIn}
 use Rattle.schema.specs.Types.{declaredType}
 use Rattle.schema.specs.Members.{flagsIn, fieldIn, signatureIn, ofSignature, receiverIn, accessorIsDefault, propertyIn}
 use Rattle.declaration_rows.specs.Rows.{returnRole, receiverRole, typeRows, propertyRows}
-use Rattle.declaration_rows.specs.Written.{RecordRoom, cellLimit, signatureBy, propertyCells}
-use Rattle.schema.specs.Told.{Lent, Scoped, Ready, refusal, WalkedSpends, WalkedTold}
-use Rattle.schema.specs.MembersTold.{Affords, Within, memberCost, MemberTold}
-use Rattle.type_references.specs.OptionalTold.{OptionalTold}
-use Rattle.members.specs.SignaturesTold.{AccessorTold, PropertySignedTold, AccessorsDue}
-use Rattle.members.specs.PropertiesTold.{recordCost, RecordTold, NamedPropertyTold}
+use Rattle.declaration_rows.specs.told.Written.{RecordRoom, cellLimit, signatureBy, propertyCells}
+use Rattle.schema.specs.told.SchemaTold.{Lent, Scoped, Ready, stopRefused, WalkedSpends, WalkedTold}
+use Rattle.schema.specs.told.MembersTold.{Affords, Within, memberCost, MemberTold}
+use Rattle.type_references.specs.told.OptionalTold.{OptionalTold}
+use Rattle.members.specs.told.SignaturesTold.{AccessorTold, PropertySignedTold, AccessorsDue}
+use Rattle.members.specs.told.PropertiesTold.{recordCost, PropertyRecordTold, NamedPropertyTold}
 use Rattle.schema.specs.declared.Stop.{Stop}
 use Rattle.schema.specs.declared.Stop.the-variants as stop
 use Rattle.schema.specs.declared.Walked.{Walked}
@@ -105,7 +105,7 @@ module _ (payload d2 msg : List ℕ) (base : ℕ) (name : Name) (n : PropertyNam
       propertyCells (nameText payload d2 name) flags receiver getterDefault setterDefault (signatureBy payload d2 (n .field))
       (signatureBy payload d2 g′) (signatureBy payload d2 h′))
       ∷ []) (s .types) s s′ S S′ T T′
-      → RecordTold payload d2 msg base name n s s′ S S′ T T′
+      → PropertyRecordTold payload d2 msg base name n s s′ S S′ T T′
   record-told {flags} {receiver} {getterDefault} {setterDefault} g′ h′ fl rc gd sd gn hn p = record {
     spends =
         row-cost 4
@@ -150,32 +150,32 @@ module _ (c : Scope) (m : Message) (l : ℕ) where
   property-nameless e = rw e
 
   module _ {t : Text} (named : nameIn c Property·name m l ≡ ok (some t, l)) where
-    property-broken : (error : WireError) → message Property·property-signature m ≡ wire.refusal error → propertyIn c m l ≡ wire.refusal error
+    property-broken : (error : WireError) → message Property·property-signature m ≡ wireRefused error → propertyIn c m l ≡ wireRefused error
     unfolding propertyIn
     property-broken error e = rw (named, e)
 
     module _ {signature : Option Message} (signed : message Property·property-signature m ≡ ok signature) {f : Option Signature}
         (field : ofSignature (fieldIn c) signature l ≡ ok (f, l)) where
-      receiver-refused : (stop : Stop) → declaredType c Property·receiver-type Property·receiver-type-id m l ≡ refusal stop
-          → propertyIn c m l ≡ refusal stop
+      receiver-refused : (stop : Stop) → declaredType c Property·receiver-type Property·receiver-type-id m l ≡ stopRefused stop
+          → propertyIn c m l ≡ stopRefused stop
       unfolding propertyIn
       receiver-refused stop e = rw (named, signed, field, e)
 
       module _ {receiver : Option Ty} {b : ℕ} (received : declaredType c Property·receiver-type Property·receiver-type-id m l ≡ ok (receiver, b)) where
-        getter-refused : (error : WireError) → ofSignature (signatureIn c none JvmPropertySignature·getter) signature b ≡ wire.refusal error
-            → propertyIn c m l ≡ wire.refusal error
+        getter-refused : (error : WireError) → ofSignature (signatureIn c none JvmPropertySignature·getter) signature b ≡ wireRefused error
+            → propertyIn c m l ≡ wireRefused error
         unfolding propertyIn
         getter-refused error e = rw (named, signed, field, received, e)
 
         module _ {g : Option Signature} (getter : ofSignature (signatureIn c none JvmPropertySignature·getter) signature b ≡ ok (g, b)) where
-          setter-refused : (error : WireError) → ofSignature (signatureIn c none JvmPropertySignature·setter) signature b ≡ wire.refusal error
-              → propertyIn c m l ≡ wire.refusal error
+          setter-refused : (error : WireError) → ofSignature (signatureIn c none JvmPropertySignature·setter) signature b ≡ wireRefused error
+              → propertyIn c m l ≡ wireRefused error
           unfolding propertyIn
           setter-refused error e = rw (named, signed, field, received, getter, e)
 
           module _ {h : Option Signature} (setter : ofSignature (signatureIn c none JvmPropertySignature·setter) signature b ≡ ok (h, b)) where
-            type-refused : (stop : Stop) → declaredType c Property·return-type Property·return-type-id m b ≡ refusal stop
-                → propertyIn c m l ≡ refusal stop
+            type-refused : (stop : Stop) → declaredType c Property·return-type Property·return-type-id m b ≡ stopRefused stop
+                → propertyIn c m l ≡ stopRefused stop
             unfolding propertyIn
             type-refused stop e = rw (named, signed, field, received, getter, setter, e)
 
@@ -186,14 +186,14 @@ module _ (c : Scope) (m : Message) (l : ℕ) where
 
 -- A property whose name is there: its record is written, then its receiver's type, then its own.
 module _ (e : Lent) (msg : List ℕ) (base : ℕ) (name : Name) (n : PropertyNames) (s : State) {s₁ : State} {S S₁ T T₁ : List ℕ}
-    (head : RecordTold (e .payload) (e .d2) msg base name n s s₁ S S₁ T T₁) {x : Walked} {S₂ T₂ : List ℕ}
+    (head : PropertyRecordTold (e .payload) (e .d2) msg base name n s s₁ S S₁ T T₁) {x : Walked} {S₂ T₂ : List ℕ}
     (first : OptionalTold e msg base Property·receiver-type Property·receiver-type-id receiverRole s₁ x S₁ S₂ T₁ T₂) where
   module _ (c : Scope) (o : Option Message) (number : ℕ) (w : Signed) (h : AccessorTold (e .payload) (e .d2) c o number w) (l : ℕ) where
     accessor-there : (v : SignatureNames) → w ≡ answer.Names v
         → ofSignature (signatureIn c none number) o l ≡ ok (signatureBy (e .payload) (e .d2) v, l)
     accessor-there v p = subst (AccessorTold (e .payload) (e .d2) c o number) p h l
 
-    accessor-refused : (error : WireError) → w ≡ answer.Refused error → ofSignature (signatureIn c none number) o l ≡ wire.refusal error
+    accessor-refused : (error : WireError) → w ≡ answer.Refused error → ofSignature (signatureIn c none number) o l ≡ wireRefused error
     accessor-refused error p = subst (AccessorTold (e .payload) (e .d2) c o number) p h l
 
   received : {y : Walked} → x ≡ y → (c : Scope) → Scoped e c → (m : Message) → cut (_from_ base msg) ≡ ok m

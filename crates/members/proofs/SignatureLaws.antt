@@ -2,31 +2,34 @@
 -- Assumes nothing.
 use mathlib.Core.Path.{_≡_, refl, ap, subst, _∙_}
 use mathlib.Core.Bool.{true, false}
-use mathlib.Core.List.{List}
+use mathlib.Core.List.{List, [], _∷_}
 use mathlib.Core.Option.{Option, none, some}
 use Prim.Native.Nat.{ℕ, _+_, _-_}
 use native.Mathlib.Omega.{arith}
+use types.Run.{OneOf, miss}
+use denote.Enum.Declared.{tagOf}
 use lib.ListN.{take, drop}
 use Rattle.foundation.specs.Choices.{ifSome, isSome, mapOption, orElse, bothOf}
 use Rattle.foundation.specs.Results.{ok, _from_}
 use Rattle.foundation.specs.Texts.{Text}
 use Rattle.fields.specs.Fields.{Property·property-signature, JvmMethodSignature·desc, JvmPropertySignature·field}
 use Rattle.wire.specs.Wire.{Message, cut}
-use Rattle.messages.specs.Asked.{EmbeddedIs, EmbeddedTold}
+use Rattle.messages.specs.told.Asked.{EmbeddedIs, EmbeddedTold}
 use Rattle.wire.specs.declared.WireError.{WireError}
 use Rattle.messages.specs.declared.Embedded.{Embedded}
 use Rattle.messages.specs.declared.Embedded.the-variants as embedded
-use Rattle.names.specs.Name.{nameText}
+use Rattle.names.specs.told.Name.{nameText}
 use Rattle.schema.specs.Reading.{pure, _>>=_, Scope, nameIn}
 use Rattle.schema.specs.Members.{signatureOf, signatureIn, fieldOf, fieldIn, ofSignature}
 use Rattle.declaration_rows.specs.Declarations.{signed}
-use Rattle.declaration_rows.specs.Written.{signatureBy}
-use Rattle.members.specs.SignaturesTold.{NamesTold, SignedTold, AccessorTold, ThreeTold, PropertySignedTold}
+use Rattle.declaration_rows.specs.told.Written.{signatureBy}
+use Rattle.members.specs.told.SignaturesTold.{NamesTold, SignedTold, AccessorTold, ThreeTold, PropertySignedTold}
 use Rattle.declaration_rows.specs.declared.SignatureNames.{SignatureNames}
 use Rattle.members.specs.declared.signatures.Signed.{Signed}
 use Rattle.members.specs.declared.signatures.Signed.the-variants as answer
 use Rattle.members.specs.declared.signatures.PropertyNames.{PropertyNames}
 use Rattle.members.specs.declared.signatures.PropertySigned.the-variants as property
+use Rattle.messages.proofs.Embedded.{the-type}
 use Rattle.schema.proofs.NamedLaws.{absent-name}
 
 -- A name, or another if it is absent.
@@ -92,14 +95,13 @@ module _ (payload units : List ℕ) (c : Scope) where
       unfolding fieldIn
       field-inline g h = let i = here t g in rw (i .2) (field-of (i .0) (h (i .0) (i .1)) l)
 
-      pub field-nothing : x ≡ embedded.Nothing → (n : SignatureNames) → n .name .source ≡ 0 → fieldIn c m l ≡ ok (signatureBy payload units n, l)
-      unfolding fieldIn
-      field-nothing g n h = rw (here t g, absent-name payload units (n .name) h)
-
-      pub field-refused : {error : WireError} → x ≡ embedded.Refused error → (n : SignatureNames) → n .name .source ≡ 0
-          → fieldIn c m l ≡ ok (signatureBy payload units n, l)
-      unfolding fieldIn
-      field-refused g n h = rw (here t g, absent-name payload units (n .name) h)
+    -- without a message, or with a broken one
+    pub field-absent : (x : Embedded) → EmbeddedTold base msg JvmPropertySignature·field x → OneOf (1 ∷ 2 ∷ []) (tagOf the-type x) → (l : ℕ)
+        → (n : SignatureNames) → n .name .source ≡ 0 → fieldIn c m l ≡ ok (signatureBy payload units n, l)
+    unfolding fieldIn
+    field-absent (embedded.Inline a b) t o l n h = absurd (miss (1 ∷ 2 ∷ []) 0 tt o)
+    field-absent embedded.Nothing t o l n h = rw (here t refl, absent-name payload units (n .name) h)
+    field-absent (embedded.Refused error) t o l n h = rw (here t refl, absent-name payload units (n .name) h)
 
   -- Without a name to fall back to; a constructor's; with one that is looked up.
   module _ (number : ℕ) (m : Message) (n : SignatureNames) (h : SignedTold payload units c number m (answer.Names n)) (l : ℕ) where

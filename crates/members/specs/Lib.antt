@@ -1,6 +1,2 @@
-pub mod CallablesTold
-pub mod PropertiesTold
-pub mod ParametersTold
-pub mod ClosedTold
 pub mod Lists
-pub mod SignaturesTold
+pub mod told

@@ -1,12 +1,12 @@
-// Constructors and functions. The definitions: schema's specs/Members.antt; what the readers tell: specs/CallablesTold.antt, schema's specs/MembersTold.antt.
+// Constructors and functions. The definitions: schema's specs/Members.antt; what the readers tell: specs/told/CallablesTold.antt, schema's specs/told/MembersTold.antt.
 ghost use mathlib.Core.Path.{_≡_};
 ghost use Prim.Native.Nat.{_+_, _≤_};
 ghost use lib.ListN.{length};
 ghost use Rattle.schema.specs.Members.{constructorIn, functionIn};
 ghost use Rattle.declaration_rows.specs.Rows.{constructorRows, functionRows};
-ghost use Rattle.schema.specs.Told.{lent, Ready};
-ghost use Rattle.schema.specs.MembersTold.{Affords, memberCost, MemberTold};
-ghost use Rattle.members.specs.CallablesTold.{functionHeadCost, FunctionHead, FunctionTypesTold};
+ghost use Rattle.schema.specs.told.SchemaTold.{lent, Ready};
+ghost use Rattle.schema.specs.told.MembersTold.{Affords, memberCost, MemberTold};
+ghost use Rattle.members.specs.told.CallablesTold.{functionHeadCost, FunctionHead, FunctionTypesTold};
 ghost use Rattle.members.specs.declared.signatures.Signed.the-variants as answer;
 use crate::parameters::parameters_in;
 use crate::signatures::Signed;
@@ -106,18 +106,20 @@ pub(crate) fn constructor_in(
         sheet,
         text,
     );
-    match parameters {
-        Listed::Refused { stop } => Picked::Refused { stop },
-        Listed::Done { state: last, count } => match signed {
-            Signed::Refused { error } => Picked::Refused {
-                stop: Stop::Wire { error },
+    let Listed::Done { state: last, count } = parameters else {
+        return Picked::Refused {
+            stop: parameters.stop(),
+        };
+    };
+    let Signed::Names { names: _ } = signed else {
+        return Picked::Refused {
+            stop: Stop::Wire {
+                error: signed.error(),
             },
-            Signed::Names { names: _ } => {
-                put_count(sheet, counted, count);
-                Picked::Kept { state: last }
-            }
-        },
-    }
+        };
+    };
+    put_count(sheet, counted, count);
+    Picked::Kept { state: last }
 }
 
 // A function's record up to its parameter count. The name of its signature falls back to the function's own.
@@ -196,11 +198,13 @@ fn function_types(
     let Walked::Done { state: next } = receiver else {
         return receiver;
     };
-    if let Signed::Refused { error } = signed {
+    let Signed::Names { names: _ } = signed else {
         return Walked::Refused {
-            stop: Stop::Wire { error },
+            stop: Stop::Wire {
+                error: signed.error(),
+            },
         };
-    }
+    };
     let returned = TypeSlot {
         inline: FUNCTION_RETURN_TYPE,
         indexed: FUNCTION_RETURN_TYPE_ID,
@@ -280,29 +284,27 @@ pub(crate) fn function_in(
         sheet,
         text,
     );
-    match parameters {
-        Listed::Refused { stop } => Picked::Refused { stop },
-        Listed::Done { state: next, count } => {
-            let types = function_types(
-                msg,
-                base,
-                signed,
-                payload,
-                d2,
-                ends,
-                notes,
-                tables,
-                next,
-                sheet,
-                text,
-            );
-            match types {
-                Walked::Refused { stop } => Picked::Refused { stop },
-                Walked::Done { state: last } => {
-                    put_count(sheet, place, count);
-                    Picked::Kept { state: last }
-                }
-            }
-        }
-    }
+    let Listed::Done { state: next, count } = parameters else {
+        return Picked::Refused {
+            stop: parameters.stop(),
+        };
+    };
+    let types = function_types(
+        msg,
+        base,
+        signed,
+        payload,
+        d2,
+        ends,
+        notes,
+        tables,
+        next,
+        sheet,
+        text,
+    );
+    let Walked::Done { state: last } = types else {
+        return Picked::Refused { stop: types.stop() };
+    };
+    put_count(sheet, place, count);
+    Picked::Kept { state: last }
 }

@@ -1,6 +1,6 @@
 // Parameters, constructors, functions and properties, read from their messages and written as records, in the specification's order; each
 // constructor and function closed by its default descriptor; one loop for the lists of a body. The definitions: schema's specs/Members.antt,
-// declaration_rows' specs/Rows.antt, descriptors' specs/Defaults.antt; what the readers tell: schema's specs/MembersTold.antt.
+// declaration_rows' specs/Rows.antt, descriptors' specs/Defaults.antt; what the readers tell: schema's specs/told/MembersTold.antt.
 mod signatures; // signatures.rt: the JVM signatures of members
 mod parameters; // parameters.rt: value parameters
 mod callables; // callables.rt: constructors and functions

@@ -1,10 +1,10 @@
 // The lists of a body: one loop for all kinds of members. What is read of each and its rows: specs/Lists.antt; what the functions tell:
-// schema's specs/MembersTold.antt.
+// schema's specs/told/MembersTold.antt.
 ghost use Prim.Native.Nat.{_*_, _^_};
 ghost use lib.ListN.{length};
-ghost use Rattle.schema.specs.Told.{lent, Stands};
-ghost use Rattle.schema.specs.MembersTold.{Affords, closedCost, MemberTold, ListTold};
-ghost use Rattle.schema.specs.ListsTold.{ListAtTold};
+ghost use Rattle.schema.specs.told.SchemaTold.{lent, Stands};
+ghost use Rattle.schema.specs.told.MembersTold.{Affords, closedCost, MemberTold, ListTold};
+ghost use Rattle.schema.specs.told.ListsTold.{ListAtTold};
 ghost use Rattle.members.specs.Lists.{memberIn, memberRows};
 use crate::closed::closed_constructor;
 use crate::closed::closed_function;

@@ -1,5 +1,5 @@
 // Value parameters: a name, whether a default is declared, a type and the type of vararg elements. The definitions: schema's specs/Members.antt,
-// `parameterIn`; what the readers tell: specs/ParametersTold.antt, schema's specs/MembersTold.antt.
+// `parameterIn`; what the readers tell: specs/told/ParametersTold.antt, schema's specs/told/MembersTold.antt.
 ghost use mathlib.Core.Path.{_≡_};
 ghost use Prim.Native.Nat.{_+_, _*_, _≤_};
 ghost use lib.ListN.{length};
@@ -8,10 +8,10 @@ ghost use Rattle.fields.specs.Fields.{ValueParameter·flags};
 ghost use Rattle.wire.specs.Wire.{cut, Message};
 ghost use Rattle.schema.specs.Members.{bitOf, smallFlagsIn, parameterIn};
 ghost use Rattle.declaration_rows.specs.Rows.{parameterRows};
-ghost use Rattle.schema.specs.Told.{lent, Ready};
-ghost use Rattle.schema.specs.MembersTold.{Affords, parameterCost, MemberTold, ListTold};
-ghost use Rattle.schema.specs.ListsTold.{ListAtTold};
-ghost use Rattle.members.specs.ParametersTold.{ParameterTypesTold};
+ghost use Rattle.schema.specs.told.SchemaTold.{lent, Ready};
+ghost use Rattle.schema.specs.told.MembersTold.{Affords, parameterCost, MemberTold, ListTold};
+ghost use Rattle.schema.specs.told.ListsTold.{ListAtTold};
+ghost use Rattle.members.specs.told.ParametersTold.{ParameterTypesTold};
 use declaration_rows::PARAMETER_ROLE;
 use declaration_rows::VARARG_ROLE;
 use declaration_rows::put_parameter;

@@ -1,4 +1,4 @@
-// Properties. The definition: schema's specs/Members.antt, `propertyIn`; what the readers tell: specs/PropertiesTold.antt, schema's specs/MembersTold.antt.
+// Properties. The definition: schema's specs/Members.antt, `propertyIn`; what the readers tell: specs/told/PropertiesTold.antt, schema's specs/told/MembersTold.antt.
 ghost use mathlib.Core.Path.{_≡_};
 ghost use Prim.Native.Nat.{_+_, _*_, _^_, _≤_};
 ghost use lib.ListN.{length};
@@ -6,10 +6,10 @@ ghost use Rattle.foundation.specs.Results.{ok, _from_};
 ghost use Rattle.wire.specs.Wire.{cut, Message};
 ghost use Rattle.schema.specs.Members.{accessorIsDefault, propertyIn};
 ghost use Rattle.declaration_rows.specs.Rows.{propertyRows};
-ghost use Rattle.schema.specs.Told.{lent};
-ghost use Rattle.declaration_rows.specs.Written.{RecordRoom};
-ghost use Rattle.schema.specs.MembersTold.{Affords, memberCost, MemberTold};
-ghost use Rattle.members.specs.PropertiesTold.{RecordTold, NamedPropertyTold};
+ghost use Rattle.schema.specs.told.SchemaTold.{lent};
+ghost use Rattle.declaration_rows.specs.told.Written.{RecordRoom};
+ghost use Rattle.schema.specs.told.MembersTold.{Affords, memberCost, MemberTold};
+ghost use Rattle.members.specs.told.PropertiesTold.{PropertyRecordTold, NamedPropertyTold};
 use crate::signatures::PropertyNames;
 use crate::signatures::PropertySigned;
 use crate::signatures::check_accessors;
@@ -68,7 +68,7 @@ fn put_record(
     text: &mut [u8],
 ) -> State
     requires { ⌜ RecordRoom (2 ^ 61) (now payload) (now d2) state ⌝ }
-    ensures { λ r. ⌜ RecordTold (now (payload .entry)) (now (d2 .entry)) (now (msg .entry)) base (own .name) (own .names) state r (now (sheet .entry)) (now (sheet .exit)) (now (text .entry)) (now (text .exit)) ⌝ }
+    ensures { λ r. ⌜ PropertyRecordTold (now (payload .entry)) (now (d2 .entry)) (now (msg .entry)) base (own .name) (own .names) state r (now (sheet .entry)) (now (sheet .exit)) (now (text .entry)) (now (text .exit)) ⌝ }
 {
     let flags = PropertyFlags {
         word: flags_in(msg, base, PROPERTY_FLAGS, OMITTED_FLAGS),
@@ -132,41 +132,39 @@ fn named_property(
         sheet,
         text,
     );
-    match received {
-        Walked::Refused { stop } => Picked::Refused { stop },
-        Walked::Done { state: next } => {
-            let due = check_accessors(own.names);
-            match due {
-                Checked::Refused { error } => Picked::Refused {
-                    stop: Stop::Wire { error },
-                },
-                Checked::Whole => {
-                    let returned = TypeSlot {
-                        inline: PROPERTY_RETURN_TYPE,
-                        indexed: PROPERTY_RETURN_TYPE_ID,
-                        role: RETURN_ROLE,
-                    };
-                    let typed = declared_type(
-                        msg,
-                        base,
-                        returned,
-                        payload,
-                        d2,
-                        ends,
-                        notes,
-                        tables,
-                        next,
-                        sheet,
-                        text,
-                    );
-                    match typed {
-                        Walked::Done { state: last } => Picked::Kept { state: last },
-                        Walked::Refused { stop } => Picked::Refused { stop },
-                    }
-                }
-            }
-        }
-    }
+    let Walked::Done { state: next } = received else {
+        return Picked::Refused {
+            stop: received.stop(),
+        };
+    };
+    let due = check_accessors(own.names);
+    let Checked::Whole = due else {
+        return Picked::Refused {
+            stop: Stop::Wire { error: due.error() },
+        };
+    };
+    let returned = TypeSlot {
+        inline: PROPERTY_RETURN_TYPE,
+        indexed: PROPERTY_RETURN_TYPE_ID,
+        role: RETURN_ROLE,
+    };
+    let typed = declared_type(
+        msg,
+        base,
+        returned,
+        payload,
+        d2,
+        ends,
+        notes,
+        tables,
+        next,
+        sheet,
+        text,
+    );
+    let Walked::Done { state: last } = typed else {
+        return Picked::Refused { stop: typed.stop() };
+    };
+    Picked::Kept { state: last }
 }
 
 // A property: skipped without a name, before anything inside it is read.
@@ -191,25 +189,25 @@ pub(crate) fn property_in(
         return Picked::Dropped;
     }
     let signed = property_signatures(msg, base, payload, ends, notes, records);
-    match signed {
-        PropertySigned::Refused { error } => Picked::Refused {
-            stop: Stop::Wire { error },
-        },
-        PropertySigned::Names { names } => {
-            let own = Named { name, names };
-            named_property(
-                msg,
-                base,
-                own,
-                payload,
-                d2,
-                ends,
-                notes,
-                tables,
-                state,
-                sheet,
-                text,
-            )
-        }
-    }
+    let PropertySigned::Names { names } = signed else {
+        return Picked::Refused {
+            stop: Stop::Wire {
+                error: signed.error(),
+            },
+        };
+    };
+    let own = Named { name, names };
+    named_property(
+        msg,
+        base,
+        own,
+        payload,
+        d2,
+        ends,
+        notes,
+        tables,
+        state,
+        sheet,
+        text,
+    )
 }

@@ -1,5 +1,5 @@
 // Signatures: the two names by their indices in a message. The definitions: schema's specs/Members.antt, `signatureIn` and `fieldIn`; what
-// the readers tell: specs/SignaturesTold.antt.
+// the readers tell: specs/told/SignaturesTold.antt.
 ghost use mathlib.Core.Path.{_≡_};
 ghost use mathlib.Core.List.{List};
 ghost use mathlib.Core.Option.{none, some};
@@ -8,12 +8,12 @@ ghost use lib.ListN.{length};
 ghost use Rattle.foundation.specs.Choices.{orElse};
 ghost use Rattle.foundation.specs.Results.{ok, _from_};
 ghost use Rattle.wire.specs.Wire.{cut, Message};
-ghost use Rattle.names.specs.Name.{nameText};
+ghost use Rattle.names.specs.told.Name.{nameText};
 ghost use Rattle.schema.specs.Reading.{Scope};
 ghost use Rattle.schema.specs.Members.{fieldIn};
-ghost use Rattle.schema.specs.Told.{NamesOf};
-ghost use Rattle.declaration_rows.specs.Written.{signatureBy};
-ghost use Rattle.members.specs.SignaturesTold.{NamesTold, SignedTold, ThreeTold, PropertySignedTold, AccessorsDue};
+ghost use Rattle.schema.specs.told.SchemaTold.{NamesOf};
+ghost use Rattle.declaration_rows.specs.told.Written.{signatureBy};
+ghost use Rattle.members.specs.told.SignaturesTold.{NamesTold, SignedTold, ThreeTold, PropertySignedTold, AccessorsDue};
 use declaration_rows::SignatureNames;
 use fields::JVM_METHOD_SIGNATURE_DESC;
 use fields::JVM_METHOD_SIGNATURE_NAME;
@@ -131,28 +131,37 @@ fn field_in(
     ensures { λ r. ⌜ ((units : List ℕ) (c : Scope) → NamesOf (now (payload .entry)) units (now (ends .entry)) (now (notes .entry)) records (c .names) → (m : Message) → cut (_from_ base (now (msg .entry))) ≡ ok m → (l : ℕ) → fieldIn c m l ≡ ok (signatureBy (now (payload .entry)) units r, l)) ⌝ }
 {
     let inner = message(msg, base, JVM_PROPERTY_SIGNATURE_FIELD);
-    match inner {
-        Embedded::Inline { start, end } => names_in(
-            &msg[start..end],
-            base + start as u32,
-            payload,
-            ends,
-            notes,
-            records,
-        ),
-        Embedded::Nothing => unsigned(),
-        Embedded::Refused { error: _ } => unsigned(),
-    }
+    let Embedded::Inline { start, end } = inner else {
+        return unsigned();
+    };
+    names_in(
+        &msg[start..end],
+        base + start as u32,
+        payload,
+        ends,
+        notes,
+        records,
+    )
 }
 
 impl Signed {
-    // The names, of one that is not refused.
+    // The names in an answer that has them.
     pub(crate) fn names(self) -> SignatureNames
         ensures { λ r. ⌜ ((n : SignatureNames) → self ≡ Signed.Names n → r ≡ n) ⌝ }
     {
         match self {
             Signed::Names { names } => names,
             Signed::Refused { error: _ } => unsigned(),
+        }
+    }
+
+    // The refusal of a refused answer.
+    pub(crate) fn error(self) -> WireError
+        ensures { λ r. ⌜ ((e : WireError) → self ≡ Signed.Refused e → r ≡ e) ⌝ }
+    {
+        match self {
+            Signed::Names { names: _ } => WireError::VarintCutShort { place: 0 },
+            Signed::Refused { error } => error,
         }
     }
 }
@@ -169,19 +178,35 @@ pub(crate) enum PropertySigned {
     Refused { error: WireError },
 }
 
+impl PropertySigned {
+    // The refusal of a refused answer.
+    pub(crate) fn error(self) -> WireError
+        ensures { λ r. ⌜ ((e : WireError) → self ≡ PropertySigned.Refused e → r ≡ e) ⌝ }
+    {
+        match self {
+            PropertySigned::Names { names: _ } => WireError::VarintCutShort { place: 0 },
+            PropertySigned::Refused { error } => error,
+        }
+    }
+}
+
 // The refusal of a getter, else of a setter.
 pub(crate) fn check_accessors(names: PropertyNames) -> Checked
     ensures { λ r. ⌜ AccessorsDue names r ⌝ }
 {
     let getter = names.getter;
     let setter = names.setter;
-    match getter {
-        Signed::Refused { error } => Checked::Refused { error },
-        Signed::Names { names: _ } => match setter {
-            Signed::Refused { error } => Checked::Refused { error },
-            Signed::Names { names: _ } => Checked::Whole,
-        },
-    }
+    let Signed::Names { names: _ } = getter else {
+        return Checked::Refused {
+            error: getter.error(),
+        };
+    };
+    let Signed::Names { names: _ } = setter else {
+        return Checked::Refused {
+            error: setter.error(),
+        };
+    };
+    Checked::Whole
 }
 
 // A property without a signature message.

@@ -5,6 +5,7 @@ use mathlib.Core.Bool.{Bool, true, false}
 use mathlib.Core.List.{List, [], _∷_}
 use mathlib.Core.Option.{Option, some}
 use Prim.Native.Nat.{ℕ, _+_, _-_, _%_, _/_, _≤_, _<_, _^_}
+use native.Mathlib.Nat.{zero-add}
 use native.Mathlib.Omega.{arith}
 use borrow.Author.Tests.{eq-eqb, eqb-true, eqb-false, ltb-false}
 use lib.Dec.{eqb, ltb}
@@ -35,8 +36,22 @@ use Rattle.wire.specs.Wire.{
   cut,
 }
 use Rattle.wire.specs.Messages.{values, cutOption, message, bodiesOf, cutAll, messages}
-use Rattle.wire.specs.Told.{refusal, restOf, bodyOf, valueOf, FieldTold, pieceOf}
-use Rattle.messages.specs.Asked.{CheckedTold, FoundAt, pieceIn, pieceTold, PieceInside, PieceAfter, PieceBegins, BytesTold, EmbeddedTold, bodies, pieceIf, NextIs, NextTold}
+use Rattle.wire.specs.told.WireTold.{wireRefused, restOf, partBetween, valueOf, FieldTold, pieceOf}
+use Rattle.messages.specs.told.Asked.{
+  CheckedTold,
+  FoundAt,
+  pieceIn,
+  pieceTold,
+  PieceInside,
+  PieceAfter,
+  PieceBegins,
+  BytesTold,
+  EmbeddedTold,
+  bodies,
+  pieceIf,
+  NextIs,
+  NextBodyTold,
+}
 use Rattle.wire.specs.declared.WireError.{WireError}
 use Rattle.wire.specs.declared.WireValue.{WireValue}
 use Rattle.wire.specs.declared.WireValue.the-variants as wire
@@ -148,12 +163,12 @@ module _ (k base : ℕ) (s : List ℕ) (at : ℕ) where
   bodies-start m w = (m, w, refl)
 
   module _ (i : ℕ) (o : Bodies k base s at i) where
-    pub bodies-end : length s ≤ i → NextTold base s k at piece.Nothing
+    pub bodies-end : length s ≤ i → NextBodyTold base s k at piece.Nothing
     unfolding bodiesOf values
     bodies-end h = record { is = leads-end (λ m rest. bodies k m ≡ bodies k rest) (restOf base s at) base s i o h; inside = tt; later = tt; begins = tt }
 
     module _ {r : FieldStep} (e : FieldTold base s (readField (restOf base s i)) r) (h : i < length s) where
-      pub bodies-never : {error : WireError} → r ≡ step.Refused error → NextTold base s k at piece.Nothing
+      pub bodies-never : {error : WireError} → r ≡ step.Refused error → NextBodyTold base s k at piece.Nothing
       bodies-never g = record {
         is = λ m w. leads-never (restOf base s at) base s i e h (λ m rest. bodies k m ≡ bodies k rest) o g m w;
         inside = tt;
@@ -167,22 +182,22 @@ module _ (k base : ℕ) (s : List ℕ) (at : ℕ) where
             leads-next (restOf base s at) base s i e h (λ m rest. bodies k m ≡ bodies k rest) (λ m rest. bodies k m ≡ bodies k rest) o next g
             λ m rest c. c ∙ bodies-passed base s k n v rest (sym q ∙ z)
 
-        pub bodies-here : {a b : ℕ} → at ≤ i → x ≡ piece.Body a b → NextTold base s k at x
+        pub bodies-here : {a b : ℕ} → at ≤ i → x ≡ piece.Body a b → NextBodyTold base s k at x
         bodies-here {a} {b} l z =
             let f = piece-found k n v (sym q ∙ z) in
             let g′ : r ≡ step.Field n (wire.Body a b) next = g ∙ ap (λ (u : WireValue). step.Field n u next) (f .1) in
             let last = body-next base s i e next g′ in
             let to = field-inside base s i e (omega arith) g in
             let R : Message → Message → Type 0 = λ m rest. bodies k m ≡ bodies k rest in
-            let S : Message → Message → Type 0 = λ m rest. bodies k m ≡ bodyOf base s a b ∷ bodies k rest in
-            let on = leads-next (restOf base s at) base s i e h R S o next g′ λ m rest c. c ∙ bodies-found k (bodyOf base s a b) rest (f .0) in
-            let told : NextTold base s k at (piece.Body a b) = record {
+            let S : Message → Message → Type 0 = λ m rest. bodies k m ≡ partBetween base s a b ∷ bodies k rest in
+            let on = leads-next (restOf base s at) base s i e h R S o next g′ λ m rest c. c ∙ bodies-found k (partBetween base s a b) rest (f .0) in
+            let told : NextBodyTold base s k at (piece.Body a b) = record {
               is = subst (λ (u : ℕ). Leads S (restOf base s at) (restOf base s u)) (sym last) on;
               inside = field-is base s i e g′ .1;
               later = omega arith;
               begins = omega (arith, body-later base s i e g′);
             } in
-            subst (NextTold base s k at) (sym z) told
+            subst (NextBodyTold base s k at) (sym z) told
 
 -- of a piece by the places asked from
 next-is : (k base : ℕ) (s : List ℕ) (m rest : Message) → bodies k m ≡ bodies k rest → (r : Piece) → NextIs base s k rest r → NextIs base s k m r
@@ -198,7 +213,7 @@ begins-earlier at i h (piece.Body a b) p = omega arith
 begins-earlier at i h piece.Nothing p = tt
 
 module _ (k base : ℕ) (s : List ℕ) where
-  pub next-on : (at i : ℕ) → at ≤ i → Bodies k base s at i → {r : Piece} → NextTold base s k i r → NextTold base s k at r
+  pub next-on : (at i : ℕ) → at ≤ i → Bodies k base s at i → {r : Piece} → NextBodyTold base s k i r → NextBodyTold base s k at r
   next-on at i h o {r} t = record {
     is = λ m w. next-is k base s m (o m w .0) (o m w .2) r (t .is (o m w .0) (o m w .1));
     inside = t .inside;
@@ -207,21 +222,25 @@ module _ (k base : ℕ) (s : List ℕ) where
   }
 
   -- the piece in what was found at the place
-  pub next-here : (i : ℕ) (f : Found) → FoundAt s k i f → {x : Piece} {a b : ℕ} → x ≡ pieceIn f → x ≡ piece.Body a b → NextTold base s k i x
+  pub next-here : (i : ℕ) (f : Found) → FoundAt s k i f → {x : Piece} {a b : ℕ} → x ≡ pieceIn f → x ≡ piece.Body a b → NextBodyTold base s k i x
   next-here i (found.Value v) (h, next, e) q z =
       bodies-here k base s i i (bodies-start k base s i) {r = step.Field k v next} (e base) h {n = k} {v = v} next refl
       (q ∙ ap (λ (t : Bool). if t then pieceOf v else piece.Nothing) (sym (eq-eqb k k refl))) (omega arith) z
   next-here i found.Nothing t q z = let z : _≡_ {A = ℕ} 0 1 = cc in absurd (omega arith)
 
 -- a part of a slice from its start to an end, from a place on
-pub part-is : (base : ℕ) (s : List ℕ) (a e : ℕ) → a ≤ e → restOf base (take e s) a ≡ bodyOf base s a e
+pub part-is : (base : ℕ) (s : List ℕ) (a e : ℕ) → a ≤ e → restOf base (take e s) a ≡ partBetween base s a e
 part-is base s a e h =
     let q : a + (e - a) ≡ e = omega arith in
     ap (λ (bs : List ℕ). _from_ (base + a) bs) (ap (λ (n : ℕ). drop a (take n s)) (sym q) ∙ drop-take a (e - a) s)
 
 pub checked-part : (base : ℕ) (s : List ℕ) (a e : ℕ) (c : Checked) → a ≤ e → CheckedTold (cut (restOf base (take e s) a)) c
-    → CheckedTold (cut (bodyOf base s a e)) c
+    → CheckedTold (cut (partBetween base s a e)) c
 checked-part base s a e c h t = subst (λ (p : Part). CheckedTold (cut p) c) (part-is base s a e h) t
+
+-- a part of the decoded bytes, handed on with the place where it begins
+pub checked-at : (s : List ℕ) (a e : ℕ) (c : Checked) → CheckedTold (cut (_from_ a (take (e - a) (drop a s)))) c → CheckedTold (cut (partBetween 0 s a e)) c
+checked-at s a e c t = subst (λ (n : ℕ). CheckedTold (cut (_from_ n (take (e - a) (drop a s)))) c) (sym (zero-add a)) t
 
 -- the messages of a list: what is checked from a place on holds of all of them
 abbrev pub Cutting : ℕ → ℕ → List ℕ → ℕ → Type 0
@@ -250,7 +269,7 @@ module _ (k base : ℕ) (s : List ℕ) where
     unfolding values bodiesOf cutAll
     cutting-end h m w = leads-end _ (_from_ base s) base s at o h m w checked.Whole ([], refl)
 
-    module _ {x : Piece} (t : NextTold base s k at x) where
+    module _ {x : Piece} (t : NextBodyTold base s k at x) where
       here : {y : Piece} → x ≡ y → (m : Message) → cut (restOf base s at) ≡ ok m → NextIs base s k m y
       here g m w = subst (NextIs base s k m) g (t .is m w)
 
@@ -261,20 +280,20 @@ module _ (k base : ℕ) (s : List ℕ) where
       unfolding cutAll
       cutting-none g m w = let l = o m w in l .2 checked.Whole ([], ap cutAll (here g (l .0) (l .1)))
 
-      module _ {a b : ℕ} (g : x ≡ piece.Body a b) {c : Checked} (d : CheckedTold (cut (restOf base (take b s) a)) c) where
+      module _ {a b : ℕ} (g : x ≡ piece.Body a b) {c : Checked} (d : CheckedTold (cut (partBetween base s a b)) c) where
         pub cutting-refused : {error : WireError} → c ≡ checked.Refused error → (m : Message) → cut (_from_ base s) ≡ ok m
             → CheckedTold (messages k m) c
         cutting-refused q m w =
             let l = o m w in
             let n = here g (l .0) (l .1) in
-            l .2 c (subst (λ (ps : List Part). CheckedTold (cutAll ps) c) (sym (n .2)) (cut-none-of (bodyOf base s a b) (bodies k (n .0)) c q (checked-part base s a b c (piece-in g .0) d)))
+            l .2 c (subst (λ (ps : List Part). CheckedTold (cutAll ps) c) (sym (n .2)) (cut-none-of (partBetween base s a b) (bodies k (n .0)) c q d))
 
         pub cutting-next : c ≡ checked.Whole → Cutting k base s b
         cutting-next q m w =
             let l = o m w in
             let n = here g (l .0) (l .1) in
-            let inner = subst (CheckedTold (cut (bodyOf base s a b))) q (checked-part base s a b c (piece-in g .0) d) in
-            (n .0, n .1, λ c h. l .2 c (subst (λ (ps : List Part). CheckedTold (cutAll ps) c) (sym (n .2)) (cut-one (bodyOf base s a b) (bodies k (n .0)) c (inner .1) h)))
+            let inner = subst (CheckedTold (cut (partBetween base s a b))) q d in
+            (n .0, n .1, λ c h. l .2 c (subst (λ (ps : List Part). CheckedTold (cutAll ps) c) (sym (n .2)) (cut-one (partBetween base s a b) (bodies k (n .0)) c (inner .1) h)))
 
 -- the message in a field
 module _ (k base : ℕ) (s : List ℕ) {x : Piece} (t : BytesTold base s k x) where
@@ -286,17 +305,17 @@ module _ (k base : ℕ) (s : List ℕ) {x : Piece} (t : BytesTold base s k x) wh
     pub message-in : (a ≤ b) × (b ≤ length s) × (0 < a)
     message-in = subst (PieceInside s) g (t .inside)
 
-    there : (m : Message) → cut (_from_ base s) ≡ ok m → message k m ≡ cutOption (some (bodyOf base s a b))
+    there : (m : Message) → cut (_from_ base s) ≡ ok m → message k m ≡ cutOption (some (partBetween base s a b))
     unfolding message
     there m w = ap cutOption (t .is m w ∙ ap (pieceTold base s) g)
 
-    module _ {c : Checked} (d : CheckedTold (cut (restOf base (take b s) a)) c) where
+    module _ {c : Checked} (d : CheckedTold (cut (partBetween base s a b)) c) where
       pub message-cut : c ≡ checked.Whole → EmbeddedTold base s k (embedded.Inline a b)
       message-cut q =
-          let inner = subst (CheckedTold (cut (bodyOf base s a b))) q (checked-part base s a b c (message-in .0) d) in
+          let inner = subst (CheckedTold (cut (partBetween base s a b))) q d in
           record { is = λ m w. (inner .0, inner .1, there m w ∙ ap (λ (r : Res Message). r >>= λ i. ok (some i)) (inner .1)); inside = message-in }
 
       pub message-refused : {error err : WireError} → c ≡ checked.Refused error → err ≡ error → EmbeddedTold base s k (embedded.Refused err)
       message-refused q r =
-          let inner = subst (CheckedTold (cut (bodyOf base s a b))) q (checked-part base s a b c (message-in .0) d) in
-          record { is = λ m w. there m w ∙ ap (λ (r : Res Message). r >>= λ i. ok (some i)) inner ∙ ap (refusal {A = Option Message}) (sym r); inside = tt }
+          let inner = subst (CheckedTold (cut (partBetween base s a b))) q d in
+          record { is = λ m w. there m w ∙ ap (λ (r : Res Message). r >>= λ i. ok (some i)) inner ∙ ap (wireRefused {A = Option Message}) (sym r); inside = tt }

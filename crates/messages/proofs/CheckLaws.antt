@@ -6,12 +6,12 @@ use Prim.Native.Nat.{ℕ, _<_}
 use lib.ListN.{length}
 use Rattle.foundation.specs.Results.{Part, _from_}
 use Rattle.wire.specs.Wire.{field, readField, cut}
-use Rattle.wire.specs.Told.{restOf, valueOf, FieldTold, SkipTold}
+use Rattle.wire.specs.told.WireTold.{restOf, valueOf, FieldTold, SkipTold}
 use Rattle.wire.specs.declared.WireValue.{WireValue}
 use Rattle.wire.specs.declared.FieldStep.{FieldStep}
 use Rattle.wire.specs.declared.FieldStep.the-variants as step
 use Rattle.wire.proofs.WalkLaws.{whole, cut-field}
-use Rattle.messages.specs.Asked.{CheckedTold}
+use Rattle.messages.specs.told.Asked.{CheckedTold}
 use Rattle.messages.specs.declared.Checked.{Checked}
 use Rattle.messages.specs.declared.Checked.the-variants as checked
 

@@ -13,8 +13,8 @@ use Rattle.foundation.specs.Choices.{ifSome}
 use Rattle.foundation.specs.Results.{ok, _from_}
 use Rattle.wire.specs.Wire.{Value, readField, Message, cut}
 use Rattle.wire.specs.Messages.{values, firstOf, value, asVarint, asBody, varintOf, as32, index, flag, bytesOf}
-use Rattle.wire.specs.Told.{restOf, valueOf, Inside, FieldTold, numberOf, pieceOf}
-use Rattle.messages.specs.Asked.{foundTold, FoundInside, FoundTold, FoundFrom, FoundAt, numberTold, numberIn, pieceIn, pieceTold, PieceInside, BytesTold, indexIn}
+use Rattle.wire.specs.told.WireTold.{restOf, valueOf, Inside, FieldTold, valueNumber, pieceOf}
+use Rattle.messages.specs.told.Asked.{foundTold, FoundInside, FoundTold, FoundFrom, FoundAt, numberTold, numberIn, pieceIn, pieceTold, PieceInside, BytesTold, indexIn}
 use Rattle.wire.specs.declared.WireError.{WireError}
 use Rattle.wire.specs.declared.WireValue.{WireValue}
 use Rattle.wire.specs.declared.WireValue.the-variants as wire
@@ -91,7 +91,7 @@ pub found-inside : (k base : ℕ) (s : List ℕ) {r : Found} → FoundTold base 
 found-inside k base s t g = subst (FoundInside s) g (t .inside)
 
 -- a value as a number and as bytes
-pub as-number : (base : ℕ) (s : List ℕ) (v : WireValue) → asVarint (valueOf base s v) ≡ numberTold (numberOf v)
+pub as-number : (base : ℕ) (s : List ℕ) (v : WireValue) → asVarint (valueOf base s v) ≡ numberTold (valueNumber v)
 as-number base s (wire.Varint n) = refl
 as-number base s (wire.Fixed w n) = refl
 as-number base s (wire.Body a e) = refl
@@ -107,7 +107,7 @@ piece-inside s (wire.Fixed w n) h = tt
 piece-inside s (wire.Body a e) h = h
 
 module _ (k base : ℕ) (s : List ℕ) {r : Found} (t : FoundTold base s k r) {v : WireValue} (g : r ≡ found.Value v) where
-  pub varint-found : {x : Number} → x ≡ numberOf v → (m : Message) → cut (_from_ base s) ≡ ok m → varintOf k m ≡ numberTold x
+  pub varint-found : {x : Number} → x ≡ valueNumber v → (m : Message) → cut (_from_ base s) ≡ ok m → varintOf k m ≡ numberTold x
   unfolding varintOf
   varint-found e = asked-found asVarint k base s t g (as-number base s v ∙ ap numberTold (sym e))
 

@@ -8,9 +8,9 @@ use lib.ListN.{length, take, drop, length-drop}
 use Rattle.foundation.specs.Results.{Res, ok, refused, _>>=_, Part, _from_}
 use Rattle.wire.specs.Wire.{Value, readVarint, readField, Message, cut, packed}
 use Rattle.wire.specs.Messages.{values, varintsIn, joined, varints}
-use Rattle.wire.specs.Told.{refusal, restOf, bodyOf, valueOf, Inside, varintTold, FieldTold}
-use Rattle.messages.specs.Asked.{CheckedTold}
-use Rattle.messages.specs.Repeated.{firstTwo, twoOf, twoTold, pushed, pushedAll, pushedTo}
+use Rattle.wire.specs.told.WireTold.{wireRefused, restOf, partBetween, valueOf, Inside, varintTold, FieldTold}
+use Rattle.messages.specs.told.Asked.{CheckedTold}
+use Rattle.messages.specs.told.Repeated.{firstTwo, firstTwoOf, twoTold, pushed, pushedAll, pushedTo}
 use Rattle.wire.specs.declared.WireError.{WireError}
 use Rattle.wire.specs.declared.WireValue.{WireValue}
 use Rattle.wire.specs.declared.WireValue.the-variants as wire
@@ -37,7 +37,7 @@ pushed-first [] = refl
 pushed-first (a ∷ []) = refl
 pushed-first (a ∷ b ∷ ns) = both-stay _ _ ns
 
-pub pushed-two : (r : Res (List ℕ)) → pushedTo Neither r ≡ twoOf r
+pub pushed-two : (r : Res (List ℕ)) → pushedTo Neither r ≡ firstTwoOf r
 pushed-two (ok ns) = ap (λ (t : Two). ok t) (pushed-first ns)
 pushed-two (refused c p) = refl
 
@@ -61,14 +61,14 @@ module _ (base : ℕ) (s : List ℕ) (i : ℕ) (t : Two) where
         let on : packed (restOf base s i) ≡ (packed (restOf base s next) >>= λ ns. ok (n ∷ ns)) = packed-next (restOf base s i) (byte-left s i h) ∙ (rw (varint-is base s i e g)) in
         ap (pushedTo t) on ∙ one-pushed t n (packed (restOf base s next))
 
-    pub run-refused : {error err : WireError} → r ≡ read.Refused error → err ≡ error → pushedTo t (packed (restOf base s i)) ≡ refusal err
+    pub run-refused : {error err : WireError} → r ≡ read.Refused error → err ≡ error → pushedTo t (packed (restOf base s i)) ≡ wireRefused err
     run-refused {error} {err} g q =
-        let on : packed (restOf base s i) ≡ refusal err = packed-next (restOf base s i) (byte-left s i h) ∙ (rw (varint-refused base s i e g q)) in
+        let on : packed (restOf base s i) ≡ wireRefused err = packed-next (restOf base s i) (byte-left s i h) ∙ (rw (varint-refused base s i e g q)) in
         ap (pushedTo t) on
 
 pub run-part : (base : ℕ) (s : List ℕ) (t : Two) (a e : ℕ) (r : FirstTwo) → a ≤ e
     → pushedTo t (packed (restOf base (take e s) a)) ≡ twoTold r
-    → pushedTo t (packed (bodyOf base s a e)) ≡ twoTold r
+    → pushedTo t (packed (partBetween base s a e)) ≡ twoTold r
 run-part base s t a e r h w = ap (λ (p : Part). pushedTo t (packed p)) (sym (part-is base s a e h)) ∙ w
 
 -- the values of a field
@@ -83,12 +83,12 @@ value-pushed t u v vs e = go (varintsIn v) (joined vs) e
     go (ok ns) (ok more) e =
         let f : pushedAll t ns ≡ u = cc in ap (λ (x : Two). ok x) (pushed-append t ns more ∙ ap (λ (x : Two). pushedAll x more) f)
 
-value-not : (t : Two) (v : Value) (vs : List Value) (error : WireError) → pushedTo t (varintsIn v) ≡ refusal error
-    → pushedTo t (joined (v ∷ vs)) ≡ refusal error
+value-not : (t : Two) (v : Value) (vs : List Value) (error : WireError) → pushedTo t (varintsIn v) ≡ wireRefused error
+    → pushedTo t (joined (v ∷ vs)) ≡ wireRefused error
 unfolding joined
 value-not t v vs error e = go (varintsIn v) (joined vs) e
   where
-    go : (r q : Res (List ℕ)) → pushedTo t r ≡ refusal error → pushedTo t (r >>= λ ns. q >>= λ more. ok (ns ++ more)) ≡ refusal error
+    go : (r q : Res (List ℕ)) → pushedTo t r ≡ wireRefused error → pushedTo t (r >>= λ ns. q >>= λ more. ok (ns ++ more)) ≡ wireRefused error
     go (refused c p) q e = e
     go (ok ns) q e = let z : _≡_ {A = ℕ} 0 1 = cc in absurd (omega arith)
 
@@ -101,7 +101,7 @@ module _ (k base : ℕ) (s : List ℕ) where
   pushing-start = leads-start (λ m rest. pushedTo Neither (varints k m) ≡ pushedTo Neither (varints k rest)) base s λ m. refl
 
   module _ (at : ℕ) (t : Two) (o : Pushing k base s at t) where
-    pub pushing-end : length s ≤ at → (m : Message) → cut (_from_ base s) ≡ ok m → twoOf (varints k m) ≡ ok t
+    pub pushing-end : length s ≤ at → (m : Message) → cut (_from_ base s) ≡ ok m → firstTwoOf (varints k m) ≡ ok t
     unfolding varints values joined
     pushing-end h m w = sym (pushed-two (varints k m)) ∙ leads-end _ (_from_ base s) base s at o h m w
 
@@ -129,25 +129,25 @@ module _ (k base : ℕ) (s : List ℕ) where
               ∙ value-pushed t u (valueOf base s v) (values k rest) (p ∙ ap twoTold z)
 
           pub pushing-refused : {error : WireError} → x ≡ first.Refused error → (m : Message) → cut (_from_ base s) ≡ ok m
-              → twoOf (varints k m) ≡ twoTold x
+              → firstTwoOf (varints k m) ≡ twoTold x
           unfolding varints
           pushing-refused {error} z m w =
               let R : Message → Message → Type 0 = λ m rest. pushedTo Neither (varints k m) ≡ pushedTo t (varints k rest) in
-              let S : Message → Message → Type 0 = λ m rest. pushedTo Neither (varints k m) ≡ refusal error in
+              let S : Message → Message → Type 0 = λ m rest. pushedTo Neither (varints k m) ≡ wireRefused error in
               let l = leads-next (_from_ base s) base s at e h R S o next g λ m rest c.
               c ∙ ap (λ (vs : List Value). pushedTo t (joined vs)) (values-found k (valueOf base s v) rest q)
               ∙ value-not t (valueOf base s v) (values k rest) error (p ∙ ap twoTold z) in
               sym (pushed-two (varints k m)) ∙ l m w .2 ∙ ap twoTold (sym z)
 
 -- that the numbers are sound, whatever they are
-module _ (r : Res (List ℕ)) {x : FirstTwo} (e : twoOf r ≡ twoTold x) where
+module _ (r : Res (List ℕ)) {x : FirstTwo} (e : firstTwoOf r ≡ twoTold x) where
   pub two-sound : {t : Two} → x ≡ first.Numbers t → CheckedTold r checked.Whole
   two-sound g = let b = bind-ok r firstTwo (e ∙ ap twoTold g) in (b .0, b .1)
 
   pub two-refused : {error err : WireError} → x ≡ first.Refused error → err ≡ error → CheckedTold r (checked.Refused err)
-  two-refused {error} {err} g q = go r (e ∙ ap twoTold g) ∙ ap (refusal {A = List ℕ}) (sym q)
+  two-refused {error} {err} g q = go r (e ∙ ap twoTold g) ∙ ap (wireRefused {A = List ℕ}) (sym q)
     where
-      go : (r : Res (List ℕ)) → twoOf r ≡ refusal error → r ≡ refusal error
+      go : (r : Res (List ℕ)) → firstTwoOf r ≡ wireRefused error → r ≡ wireRefused error
       go (ok ns) e = let z : _≡_ {A = ℕ} 0 1 = cc in absurd (omega arith)
       go (refused c p) e = cc
 

@@ -7,13 +7,13 @@ use native.Mathlib.Omega.{arith}
 use lib.ListN.{length}
 use Rattle.wire.specs.Wire.{readField}
 use Rattle.wire.specs.Messages.{values, bodiesOf}
-use Rattle.wire.specs.Told.{restOf, FieldTold, ShortField, SkipTold}
+use Rattle.wire.specs.told.WireTold.{restOf, FieldTold, ShortField, SkipTold}
 use Rattle.wire.specs.declared.WireValue.{WireValue}
 use Rattle.wire.specs.declared.WireValue.the-variants as wire
 use Rattle.wire.specs.declared.FieldStep.the-variants as step
 use Rattle.wire.specs.declared.Piece.{Piece}
 use Rattle.wire.proofs.SkipLaws.{short-varint, short-body, skip-leads}
-use Rattle.messages.specs.Asked.{FoundTold, FoundFrom, FoundAt, bodies, NextTold}
+use Rattle.messages.specs.told.Asked.{FoundTold, FoundFrom, FoundAt, bodies, NextBodyTold}
 use Rattle.messages.specs.declared.Found.{Found}
 use Rattle.messages.specs.declared.Found.the-variants as found
 use Rattle.messages.proofs.FindLaws.{Occur, find-start, find-on, find-whole}
@@ -49,5 +49,5 @@ module _ (base : ℕ) {s : List ℕ} {k at next : ℕ} (t : SkipTold s k at next
   pub bodies-skipped : (start : ℕ) → Bodies k base s start at → Bodies k base s start next
   bodies-skipped start = skip-leads base t (λ m rest. bodies k m ≡ bodies k rest) (λ m a b e q. q ∙ ap bodiesOf e) (restOf base s start)
 
-  pub next-skipped : {r : Piece} → NextTold base s k next r → NextTold base s k at r
+  pub next-skipped : {r : Piece} → NextBodyTold base s k next r → NextBodyTold base s k at r
   next-skipped = next-on k base s at next (t .later) (bodies-skipped at (bodies-start k base s at))

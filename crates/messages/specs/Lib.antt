@@ -1,3 +1,1 @@
-pub mod Asked
-pub mod Repeated
-pub mod Reader
+pub mod told

@@ -1,11 +1,13 @@
 // Messages: a slice that is cut into fields, and what it says of a field. A function that asks a message tells what the definitions say
-// where the slice can be cut, and is safe on any. The definitions: wire's specs/Messages.antt; how the answers tell them: specs/Asked.antt.
+// where the slice can be cut, and is safe on any. The definitions: wire's specs/Messages.antt; how the answers tell them: specs/told/Asked.antt.
 ghost use mathlib.Core.Path.{_≡_};
+ghost use Prim.Native.Nat.{_≤_};
+ghost use lib.ListN.{length};
 ghost use Rattle.foundation.specs.Results.{ok, _from_};
 ghost use Rattle.wire.specs.Wire.{cut, Message};
 ghost use Rattle.wire.specs.Messages.{varintOf, index, messages};
-ghost use Rattle.wire.specs.Told.{restOf};
-ghost use Rattle.messages.specs.Asked.{CheckedTold, FoundTold, FoundFrom, FoundAt, numberTold, numberIn, pieceIn, BytesTold, indexTold, indexIn, EmbeddedTold, pieceIf, NextTold};
+ghost use Rattle.wire.specs.told.WireTold.{restOf, partBetween};
+ghost use Rattle.messages.specs.told.Asked.{CheckedTold, FoundTold, FoundFrom, FoundAt, numberTold, numberIn, pieceIn, BytesTold, indexTold, indexIn, EmbeddedTold, pieceIf, NextBodyTold};
 
 pub mod repeated; // repeated.rt: repeated numbers, single and packed
 pub mod reader; // reader.rt: a reader over a message
@@ -66,6 +68,19 @@ pub fn check(s: &[u8], base: u32) -> Checked
     ensures { λ r. ⌜ CheckedTold (cut (_from_ base (now (s .entry)))) r ⌝ }
 {
     check_from(&*s, base, 0)
+}
+
+// Cuts the message that a slice holds from a place to another. It is handed on as that part, with its own offset; where this is above 32 bits,
+// as in no payload, the message is cut in its place.
+fn check_part(s: &[u8], base: u32, start: usize, end: usize) -> Checked
+    requires { ⌜ (start ≤ end) × (end ≤ length (now s)) ⌝ }
+    ensures { λ r. ⌜ CheckedTold (cut (partBetween base (now (s .entry)) start end)) r ⌝ }
+{
+    let place = base as usize + start;
+    if 4294967295 < place {
+        return check_from(&s[..end], base, start);
+    }
+    check(&s[start..end], place as u32)
 }
 
 pub enum Found {
@@ -194,10 +209,10 @@ impl Found {
     pub fn varint(self) -> Number
         ensures { λ r. ⌜ r ≡ numberIn self ⌝ }
     {
-        match self {
-            Found::Value { value } => value.varint(),
-            Found::Nothing => Number::Nothing,
-        }
+        let Found::Value { value } = self else {
+            return Number::Nothing;
+        };
+        value.varint()
     }
 
     pub fn index(self) -> Indexed
@@ -218,10 +233,10 @@ impl Found {
     pub fn bytes(self) -> Piece
         ensures { λ r. ⌜ r ≡ pieceIn self ⌝ }
     {
-        match self {
-            Found::Value { value } => value.bytes(),
-            Found::Nothing => Piece::Nothing,
-        }
+        let Found::Value { value } = self else {
+            return Piece::Nothing;
+        };
+        value.bytes()
     }
 }
 
@@ -281,7 +296,7 @@ pub fn message(s: &[u8], base: u32, number: u32) -> Embedded
     let Piece::Body { start, end } = found else {
         return Embedded::Nothing;
     };
-    let checked = check_from(&s[..end], base, start);
+    let checked = check_part(&*s, base, start, end);
     let Checked::Whole = checked else {
         return Embedded::Refused {
             error: checked.error(),
@@ -302,7 +317,7 @@ fn body_of(asked: u32, number: u32, value: WireValue) -> Piece
 
 // The next length-delimited occurrence of a field from a place on, field by field.
 fn long_next_body(s: &[u8], base: u32, number: u32, at: usize) -> Piece
-    ensures { λ r. ⌜ NextTold base (now (s .entry)) number at r ⌝ }
+    ensures { λ r. ⌜ NextBodyTold base (now (s .entry)) number at r ⌝ }
 {
     let mut i = at;
     while i < s.len() {
@@ -326,7 +341,7 @@ fn long_next_body(s: &[u8], base: u32, number: u32, at: usize) -> Piece
 
 // The next length-delimited occurrence of a field from a place on; those after it are found from its end on.
 pub fn next_body(s: &[u8], base: u32, number: u32, at: usize) -> Piece
-    ensures { λ r. ⌜ NextTold base (now (s .entry)) number at r ⌝ }
+    ensures { λ r. ⌜ NextBodyTold base (now (s .entry)) number at r ⌝ }
 {
     let i = skip_fields(&*s, number, at);
     if s.len() <= i {
@@ -350,7 +365,7 @@ pub fn check_messages(s: &[u8], base: u32, number: u32) -> Checked
         let Piece::Body { start, end } = piece else {
             return Checked::Whole;
         };
-        let checked = check_from(&s[..end], base, start);
+        let checked = check_part(&*s, base, start, end);
         let Checked::Whole = checked else {
             return checked;
         };

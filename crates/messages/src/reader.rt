@@ -1,28 +1,18 @@
-// A reader over a message: the lent bytes and the offset of the next one. Its methods leave the work to functions on a slice and a place, so
-// that each proof by hand has no branch. The definitions of what they tell: specs/Reader.antt.
+// A reader over a payload: the lent bytes and the offset of the next one. Its methods leave the work to functions on a slice and a place, so
+// that each proof by hand has no branch. The definitions of what they tell: specs/told/Reader.antt.
 ghost use mathlib.Core.Path.{_≡_};
-ghost use lib.ListN.{drop};
+ghost use Prim.Native.Nat.{_-_, _≤_};
+ghost use lib.ListN.{length, drop};
 ghost use Rattle.foundation.specs.Results.{_from_};
 ghost use Rattle.wire.specs.Wire.{readDelimited};
-ghost use Rattle.messages.specs.Reader.{emptyAt, afterVarint, VarintRead, afterDelimited, DelimitedRead, NextTold, afterNext, NextRead, partsOf, SplitTold};
+ghost use Rattle.messages.specs.told.Reader.{afterDelimited, DelimitedRead, partsOf, SplitTold};
 use wire::Delimited;
-use wire::FieldStep;
-use wire::Varint;
 use wire::WireError;
-use wire::WireValue;
 use wire::delimited_at;
-use wire::field_at;
-use wire::varint_at;
 
 struct WireReader<'a> {
     data: &'a [u8],
     offset: usize,
-}
-
-fn empty_at(s: &[u8], at: usize) -> bool
-    ensures { λ r. ⌜ r ≡ emptyAt (now (s .entry)) at ⌝ }
-{
-    s.len() <= at
 }
 
 // The bytes from a place on, none past the end.
@@ -36,71 +26,14 @@ fn rest_at(s: &[u8], at: usize) -> &[u8]
     &s[end..]
 }
 
-// Where a reader at `at` stands after a varint. One that is refused leaves it where it stood.
-fn after_varint(read: Varint, at: usize) -> usize
-    ensures { λ r. ⌜ r ≡ afterVarint at read ⌝ }
-{
-    match read {
-        Varint::Read { value: _, next } => next,
-        Varint::Refused { error: _ } => at,
-    }
-}
-
+// Where a reader at `at` stands after a message. One that is refused leaves it where it stood.
 fn after_delimited(read: Delimited, at: usize) -> usize
     ensures { λ r. ⌜ r ≡ afterDelimited at read ⌝ }
 {
-    match read {
-        Delimited::Body { start: _, end } => end,
-        Delimited::Refused { error: _ } => at,
-    }
-}
-
-// The next field of a message, or its end.
-enum NextField {
-    Field {
-        number: u32,
-        value: WireValue,
-        next: usize,
-    },
-    End,
-    Refused {
-        error: WireError,
-    },
-}
-
-fn next_at(s: &[u8], base: u32, at: usize) -> NextField
-    ensures { λ r. ⌜ NextTold base (now (s .entry)) at r ⌝ }
-{
-    if s.len() <= at {
-        return NextField::End;
-    }
-    let step = field_at(s, base, at);
-    match step {
-        FieldStep::Field {
-            number,
-            value,
-            next,
-        } => NextField::Field {
-            number,
-            value,
-            next,
-        },
-        FieldStep::Refused { error } => NextField::Refused { error },
-    }
-}
-
-fn after_next(read: NextField, at: usize) -> usize
-    ensures { λ r. ⌜ r ≡ afterNext at read ⌝ }
-{
-    match read {
-        NextField::Field {
-            number: _,
-            value: _,
-            next,
-        } => next,
-        NextField::End => at,
-        NextField::Refused { error: _ } => at,
-    }
+    let Delimited::Body { start: _, end } = read else {
+        return at;
+    };
+    end
 }
 
 impl<'a> WireReader<'a> {
@@ -110,26 +43,11 @@ impl<'a> WireReader<'a> {
         WireReader { data, offset: 0 }
     }
 
-    fn is_empty(&self) -> bool
-        ensures { λ r. ⌜ r ≡ emptyAt (now (now (self .entry) .«data»)) (now (self .entry) .offset) ⌝ }
-    {
-        empty_at(self.data, self.offset)
-    }
-
     // What is not read yet.
     fn remainder(&self) -> &'a [u8]
         ensures { λ r. ⌜ now r ≡ drop (now (self .entry) .offset) (now (now (self .entry) .«data»)) ⌝ }
     {
         rest_at(self.data, self.offset)
-    }
-
-    // The next varint. The answer tells its place too, as `varint_at` does.
-    pub(crate) fn varint(&mut self) -> Varint
-        ensures { λ r. ⌜ (now (self .exit) .«data» ≡ now (self .entry) .«data») × VarintRead (now (now (self .entry) .«data»)) (now (self .entry) .offset) r (now (self .exit) .offset) ⌝ }
-    {
-        let read = varint_at(self.data, 0, self.offset);
-        self.offset = after_varint(read, self.offset);
-        read
     }
 
     // The next length-delimited message, by its places: no enum can hold a part of a slice.
@@ -138,14 +56,6 @@ impl<'a> WireReader<'a> {
     {
         let read = delimited_at(self.data, 0, self.offset);
         self.offset = after_delimited(read, self.offset);
-        read
-    }
-
-    fn next(&mut self) -> NextField
-        ensures { λ r. ⌜ (now (self .exit) .«data» ≡ now (self .entry) .«data») × NextRead (now (now (self .entry) .«data»)) (now (self .entry) .offset) r (now (self .exit) .offset) ⌝ }
-    {
-        let read = next_at(self.data, 0, self.offset);
-        self.offset = after_next(read, self.offset);
         read
     }
 }
@@ -163,7 +73,7 @@ pub enum Split {
 }
 
 impl Split {
-    fn error(self) -> WireError
+    pub fn error(self) -> WireError
         ensures { λ r. ⌜ ((e : WireError) → self ≡ Split.Refused e → r ≡ e) ⌝ }
     {
         match self {
@@ -177,12 +87,21 @@ impl Split {
     }
 }
 
-fn parts(table: Delimited, rest: usize) -> Split
-    ensures { λ r. ⌜ r ≡ partsOf table rest ⌝ }
+// The parts of a payload, by the answer to its name table and what was left after that.
+fn parts<'a>(table: Delimited, bytes: &'a [u8], rest: &'a [u8]) -> Split
+    requires { ⌜ length (now rest) ≤ length (now bytes) ⌝ }
+    ensures { λ r. ⌜ r ≡ partsOf table (length (now (bytes .entry)) - length (now (rest .entry))) ⌝ }
 {
-    match table {
-        Delimited::Body { start, end } => Split::Parts { start, end, rest },
-        Delimited::Refused { error } => Split::Refused { error },
+    let Delimited::Body { start, end } = table else {
+        return Split::Refused {
+            error: table.error(),
+        };
+    };
+    let from = bytes.len() - rest.len();
+    Split::Parts {
+        start,
+        end,
+        rest: from,
     }
 }
 
@@ -192,5 +111,6 @@ pub fn split_payload(bytes: &[u8]) -> Split
 {
     let mut reader = WireReader::new(bytes);
     let table = reader.delimited();
-    parts(table, reader.offset)
+    let rest = reader.remainder();
+    parts(table, bytes, rest)
 }

@@ -3,9 +3,9 @@ ghost use mathlib.Core.Path.{_≡_};
 ghost use Rattle.foundation.specs.Results.{ok, _from_};
 ghost use Rattle.wire.specs.Wire.{cut, packed, Message};
 ghost use Rattle.wire.specs.Messages.{varintsIn, varints};
-ghost use Rattle.wire.specs.Told.{restOf, valueOf, Inside};
-ghost use Rattle.messages.specs.Asked.{CheckedTold};
-ghost use Rattle.messages.specs.Repeated.{pushed, pushedTo, twoOf, twoTold};
+ghost use Rattle.wire.specs.told.WireTold.{restOf, valueOf, Inside};
+ghost use Rattle.messages.specs.told.Asked.{CheckedTold};
+ghost use Rattle.messages.specs.told.Repeated.{pushed, pushedTo, firstTwoOf, twoTold};
 use crate::Checked;
 use wire::FieldStep;
 use wire::Varint;
@@ -85,7 +85,7 @@ fn push_value(s: &[u8], base: u32, value: WireValue, two: Two) -> FirstTwo
 
 // The first two numbers of a field. An error anywhere in it refuses, also after them.
 pub fn first_two(s: &[u8], base: u32, number: u32) -> FirstTwo
-    ensures { λ r. ⌜ ((m : Message) → cut (_from_ base (now (s .entry))) ≡ ok m → twoOf (varints number m) ≡ twoTold r) ⌝ }
+    ensures { λ r. ⌜ ((m : Message) → cut (_from_ base (now (s .entry))) ≡ ok m → firstTwoOf (varints number m) ≡ twoTold r) ⌝ }
 {
     let mut at = 0;
     let mut two = Two::Neither;

@@ -17,40 +17,39 @@ use Rattle.foundation.specs.Results.{Res, Cause, d1TooLong, d2TooLong, stringEn
 use Rattle.foundation.proofs.ChoiceLaws.{if-ind, and-left, and-right}
 use Rattle.foundation.specs.Texts.{Text}
 use Rattle.encoding.specs.Encoding.{unitLimit}
-use Rattle.lookup.specs.Strings.{codesFrom}
-use Rattle.names.specs.Name.{nameText, absentName}
+use Rattle.lookup.specs.told.Strings.{codesFrom}
+use Rattle.names.specs.told.Name.{nameText, absentName}
 use Rattle.names.specs.Names.{endsFit}
 use Rattle.names.specs.declared.name.Name.{Name}
 use Rattle.sheet.specs.Rows.{Row, row, sheetFrom, texts, bodyBytes, bodyText}
-use Rattle.sheet.specs.Put.{PutHead, PutRows, past}
+use Rattle.sheet.specs.told.Put.{PutHead, PutRows, past}
 use Rattle.sheet.specs.declared.State.{State}
 use Rattle.sheet.proofs.PutLaws.{put-none, put-front}
 use Rattle.sheet.proofs.RowLaws.{rowsLength, bodyLength, sheet-length}
 use Rattle.declaration_rows.specs.Declarations.{Declarations}
 use Rattle.schema.specs.Reading.{allowance}
-use Rattle.declaration_rows.specs.Written as written
-use Rattle.declaration_rows.specs.Written.{headCells, headCounts}
+use Rattle.declaration_rows.specs.told.Written as written
+use Rattle.declaration_rows.specs.told.Written.{headCells, headCounts}
 use Rattle.declaration_rows.proofs.RecordLaws.{head-put}
 use Rattle.declaration_rows.proofs.WrittenLaws.{head-room, head-small}
 use Rattle.declarations.specs.Payload.{declarationRows}
 use Rattle.declarations.proofs.BodyLaws.{no-name}
 use Rattle.inputs.specs.Refusals.{numberOf, detailOf}
-use Rattle.inputs.specs.Inputs.{Input, kindOf, carriesDeclarations, stringLimit, supportedMajor, major, laterFault, faultOf}
-use Rattle.inputs.specs.Told.{input, faultCause, faultTold}
+use Rattle.inputs.specs.Inputs.{Input, kindOf, carriesDeclarations, stringLimit, supportedMajor, major, laterFault, faultOf, input}
+use Rattle.inputs.specs.told.OutcomesTold.{faultCause, faultTold, told, RefusedAs}
 use Rattle.inputs.specs.Outcomes as definition
-use Rattle.inputs.specs.Outcomes.{told, RefusedAs}
 use Rattle.inputs.specs.declared.Fault.{Fault}
 use Rattle.inputs.specs.declared.Inspected.{Inspected}
 use Rattle.inputs.specs.declared.Inspected.the-variants as inspected
 use Rattle.inputs.specs.declared.outcome.Outcome.{Outcome}
 use Rattle.passes.specs.Answered as answers
 use Rattle.passes.specs.Answered.{headAlone, nothingRead, sheetWritten, answered}
-use Rattle.passes.specs.AreaTold.{InLimits, start}
-use Rattle.passes.specs.PassTold.{PassedTold, readingOf, readingBy}
+use Rattle.passes.specs.told.AreaTold.{InLimits, start}
+use Rattle.passes.specs.told.PassTold.{PassedTold, readingOf, readingBy}
 use Rattle.passes.specs.declared.Passed.{Passed}
 use Rattle.passes.specs.declared.Passed.the-variants as passed
 use Rattle.metadata.specs.Read.{reading, read}
-use Rattle.metadata.specs.ReadTold.{toldBy}
+use Rattle.metadata.specs.told.ReadTold.{toldBy}
 use Rattle.metadata.specs.declared.Answer.{Answer}
 use Rattle.inputs.proofs.OutcomeLaws.{refused-as}
 

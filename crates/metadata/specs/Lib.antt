@@ -1,2 +1,2 @@
 pub mod Read
-pub mod ReadTold
+pub mod told

@@ -3,13 +3,13 @@
 ghost use mathlib.Core.Path.{_≡_};
 ghost use Prim.Native.Nat.{_≤_};
 ghost use lib.ListN.{length};
-ghost use Rattle.inputs.specs.Told.{input};
-ghost use Rattle.inputs.specs.Outcomes.{told};
+ghost use Rattle.inputs.specs.Inputs.{input};
+ghost use Rattle.inputs.specs.told.OutcomesTold.{told};
 ghost use Rattle.passes.specs.Answered.{nothingRead, answered};
-ghost use Rattle.passes.specs.AreaTold.{InLimits};
-ghost use Rattle.passes.specs.PassTold.{readingOf, readingBy};
+ghost use Rattle.passes.specs.told.AreaTold.{InLimits};
+ghost use Rattle.passes.specs.told.PassTold.{readingOf, readingBy};
 ghost use Rattle.metadata.specs.Read.{read};
-ghost use Rattle.metadata.specs.ReadTold.{toldBy};
+ghost use Rattle.metadata.specs.told.ReadTold.{toldBy};
 use declaration_rows::put_head;
 use declaration_rows::put_head_counts;
 use fields::OMITTED_FLAGS;
@@ -91,10 +91,10 @@ fn read_small(
         sheet,
         text,
     );
-    match passed {
-        Passed::Answered { outcome } => outcome,
-        Passed::NoRoom => refused(0, 0),
-    }
+    let Passed::Answered { outcome } = passed else {
+        return refused(0, 0);
+    };
+    outcome
 }
 
 // A d1 of 1,024 units at most: a frame of 26 KB.
@@ -125,10 +125,10 @@ fn read_medium(
         sheet,
         text,
     );
-    match passed {
-        Passed::Answered { outcome } => outcome,
-        Passed::NoRoom => refused(0, 0),
-    }
+    let Passed::Answered { outcome } = passed else {
+        return refused(0, 0);
+    };
+    outcome
 }
 
 // A d1 of 8,192 units at most: a frame of 181 KB.
@@ -159,10 +159,10 @@ fn read_big(
         sheet,
         text,
     );
-    match passed {
-        Passed::Answered { outcome } => outcome,
-        Passed::NoRoom => refused(0, 0),
-    }
+    let Passed::Answered { outcome } = passed else {
+        return refused(0, 0);
+    };
+    outcome
 }
 
 // Any d1: a frame of 557 KB.
@@ -193,10 +193,10 @@ fn read_large(
         sheet,
         text,
     );
-    match passed {
-        Passed::Answered { outcome } => outcome,
-        Passed::NoRoom => refused(0, 0),
-    }
+    let Passed::Answered { outcome } = passed else {
+        return refused(0, 0);
+    };
+    outcome
 }
 
 // A longer d1, in the frame that is enough.

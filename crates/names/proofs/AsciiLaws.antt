@@ -14,10 +14,10 @@ use Rattle.foundation.specs.Texts.{Text}
 use Rattle.foundation.proofs.ChoiceLaws.{if-ind}
 use Rattle.foundation.proofs.OverlayLaws.{sets-out}
 use Rattle.characters.specs.Characters.{utf8Of, utf8, fromUtf8, fromUtf16}
-use Rattle.characters.specs.Plain.{instead, withDots, withSlashes, isAscii, shown}
+use Rattle.characters.specs.told.Plain.{instead, withDots, slashedCharacter, isAscii, shown}
 use Rattle.characters.proofs.AsciiLaws.{all-below, units-alone}
 use Rattle.characters.proofs.SeamLaws.{from-ascii}
-use Rattle.names.specs.Stream.{changed, changedBytes, PutText}
+use Rattle.names.specs.told.Stream.{changed, changedBytes, PutText}
 use Rattle.names.specs.declared.name.Change.{Change}
 
 -- Changed, if none is replaced.
@@ -34,7 +34,7 @@ shown-below dots slashes c h = slashed slashes (dotted dots)
     dotted true = instead-below 0x2f 0x2e (instead 0x24 0x2e c) (omega arith) (instead-below 0x24 0x2e c (omega arith) h)
     dotted false = h
 
-    slashed : (t : Bool) → withDots dots c < 128 → withSlashes t (withDots dots c) < 128
+    slashed : (t : Bool) → withDots dots c < 128 → slashedCharacter t (withDots dots c) < 128
     slashed true k = instead-below 0x2e 0x2f (withDots dots c) (omega arith) k
     slashed false k = k
 

@@ -14,16 +14,17 @@ use Rattle.foundation.specs.Choices.{if_then_else_}
 use Rattle.foundation.specs.Texts.{Text}
 use Rattle.foundation.proofs.ChoiceLaws.{if-ind}
 use Rattle.foundation.proofs.OverlayLaws.{sets-out}
-use Rattle.characters.specs.Characters.{width, utf8Of, utf8, fromUtf8After, fromUtf8, fromUtf16, partFrom}
-use Rattle.characters.specs.Told.{PutCharacter, utf8At, utf16At}
+use Rattle.characters.specs.Characters.{width, utf8Of, utf8, fromUtf8After, fromUtf8, fromUtf16}
+use Rattle.characters.specs.told.Places.{partFrom}
+use Rattle.characters.specs.told.CharactersTold.{PutCharacter, utf8At, utf16At}
 use Rattle.characters.specs.declared.Character.{Character}
 use Rattle.characters.specs.declared.Character.the-variants.{Read, End}
 use Rattle.characters.proofs.LengthLaws.{width-most, bytes-cons}
 use Rattle.characters.proofs.CharacterLaws.{utf8-end, utf8-next}
 use Rattle.characters.proofs.UnitLaws.{units-ended, utf16-end, utf16-next}
 use Rattle.characters.proofs.WriteLaws.{put-next}
-use Rattle.names.specs.Name.{fitted, isMeasured, sized}
-use Rattle.names.specs.Stream.{changed, fittedOf}
+use Rattle.names.specs.told.Name.{fitted, isMeasured, sized}
+use Rattle.names.specs.told.Stream.{changed, fittedOf}
 use Rattle.names.specs.declared.name.Change.{Change}
 use Rattle.names.specs.declared.stream.Fitted.{Fitted}
 

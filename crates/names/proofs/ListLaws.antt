@@ -12,11 +12,12 @@ use lib.ListN.{length, getD, getElem?}
 use Rattle.foundation.specs.Choices.{ifSome, mapOption}
 use Rattle.foundation.specs.Texts.{Text, ascii, same}
 use Rattle.foundation.proofs.ChoiceLaws.{same-true}
-use Rattle.characters.specs.Characters.{leadOf, run, step, fromUtf8After, fromUtf8, partFrom}
+use Rattle.characters.specs.Characters.{leadOf, run, step, fromUtf8After, fromUtf8}
+use Rattle.characters.specs.told.Places.{partFrom}
 use Rattle.foundation.proofs.EveryLaws.{each}
 use Rattle.characters.proofs.TestLaws.{holds, below}
 use Rattle.names.specs.Records.{predefinedStrings, predefinedText}
-use Rattle.names.specs.Name.{predefinedList}
+use Rattle.names.specs.told.Name.{predefinedList}
 
 -- where each of some texts starts, one after the other, and where the last ends
 abbrev pub places : ℕ → List String → List ℕ

@@ -10,9 +10,9 @@ use lib.ListN.{length, length-map}
 use lib.Seq.{sets}
 use Rattle.foundation.specs.Texts.{Text}
 use Rattle.characters.specs.Characters.{fromUtf8, utf8}
-use Rattle.characters.specs.Plain.{isAscii, shown}
-use Rattle.names.specs.Name.{sourceText, fitted, isMeasured}
-use Rattle.names.specs.Stream.{changed, changedBytes, sourceBytes, PutText}
+use Rattle.characters.specs.told.Plain.{isAscii, shown}
+use Rattle.names.specs.told.Name.{sourceText, fitted, isMeasured}
+use Rattle.names.specs.told.Stream.{changed, changedBytes, sourceBytes, PutText}
 use Rattle.names.specs.declared.name.Name.{Name}
 use Rattle.names.specs.declared.name.Change.{Change}
 use Rattle.names.proofs.AsciiLaws.{bytes-bytes}

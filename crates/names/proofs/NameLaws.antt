@@ -13,13 +13,14 @@ use lib.Seq.{take-all}
 use Rattle.foundation.specs.Choices.{if_then_else_}
 use Rattle.foundation.specs.Texts.{Text, ascii}
 use Rattle.foundation.proofs.ChoiceLaws.{if-ind}
-use Rattle.characters.specs.Characters.{utf8Of, utf8, fromUtf8, fromUtf16, partFrom}
-use Rattle.characters.specs.Plain.{instead, withDots, withSlashes}
+use Rattle.characters.specs.Characters.{utf8Of, utf8, fromUtf8, fromUtf16}
+use Rattle.characters.specs.told.Places.{partFrom}
+use Rattle.characters.specs.told.Plain.{instead, withDots, slashedCharacter}
 use Rattle.characters.proofs.TestLaws.{below}
 use Rattle.characters.proofs.Utf8Laws.{utf8-append}
-use Rattle.names.specs.Name.{predefinedList, sourceText, fitted, isMeasured, sized, steppedBy, nameText}
+use Rattle.names.specs.told.Name.{predefinedList, sourceText, fitted, isMeasured, sized, steppedBy, nameText}
 use Rattle.names.specs.Records.{substituted, dotted, operated}
-use Rattle.names.specs.Stream.{changed, changeOf, prefixOf, printed, baseOf, changedBytes, sizedBytes, sourceBytes, nameBytes}
+use Rattle.names.specs.told.Stream.{changed, changeOf, prefixOf, slashedText, baseOf, changedBytes, sizedBytes, sourceBytes, nameBytes}
 use Rattle.names.specs.declared.name.Name.{Name}
 use Rattle.names.specs.declared.name.Change.{Change}
 use Rattle.names.proofs.FittedLaws.{sized-map}
@@ -79,29 +80,29 @@ stepped-cases t false true false h = ap (λ (u : Text). ascii "kotlin.collection
 stepped-cases t false false true h = dotted-each t
 stepped-cases t false false false h = map-same t
 
-zero-shown : (dots slashes : Bool) → withSlashes slashes (withDots dots 0) ≡ 0
+zero-shown : (dots slashes : Bool) → slashedCharacter slashes (withDots dots 0) ≡ 0
 zero-shown true true = refl
 zero-shown true false = refl
 zero-shown false true = refl
 zero-shown false false = refl
 
 printed-parts : (slashes : Bool) (f : ℕ → ℕ) (p t : Text)
-    → printed slashes (p ++ map f t) ≡ printed slashes p ++ map (λ c. withSlashes slashes (f c)) t
+    → slashedText slashes (p ++ map f t) ≡ slashedText slashes p ++ map (λ c. slashedCharacter slashes (f c)) t
 printed-parts true f p t = map-parts (instead 0x2e 0x2f) f p t
 printed-parts false f p t = refl
 
 pub stepped-is : (n : Name) (t : Text) (slashes : Bool)
-    → printed slashes (steppedBy n t) ≡ printed slashes (prefixOf (n .operation)) ++ sized (n .size) (map (changed (changeOf n slashes)) t)
+    → slashedText slashes (steppedBy n t) ≡ slashedText slashes (prefixOf (n .operation)) ++ sized (n .size) (map (changed (changeOf n slashes)) t)
 unfolding operated changed
 stepped-is n t slashes =
     let op = n .operation in
     let dots = eqb op 1 || n .qualified in
     let u = sized (n .size) (substituted (n .from) (n .to) t) in
-    let f : ℕ → ℕ = λ c. withSlashes slashes (withDots dots c) in
+    let f : ℕ → ℕ = λ c. slashedCharacter slashes (withDots dots c) in
     let h : eqb op 1 ≡ true → eqb op 2 ≡ false = λ e. ne-eqb op 2 λ g. omega (arith, eqb-true op 1 e) in
-    ap (printed slashes) (stepped-cases u (eqb op 1) (eqb op 2) (n .qualified) h)
+    ap (slashedText slashes) (stepped-cases u (eqb op 1) (eqb op 2) (n .qualified) h)
     ∙ printed-parts slashes (withDots dots) (prefixOf op) u
-    ∙ ap (λ (v : Text). printed slashes (prefixOf op) ++ v)
+    ∙ ap (λ (v : Text). slashedText slashes (prefixOf op) ++ v)
     (sized-map f (λ c. slashes-width slashes (withDots dots c) ∙ dots-width dots c) (zero-shown dots slashes) (n .size) (substituted (n .from) (n .to) t)
     ∙ ap (sized (n .size)) (map-parts f (instead (n .from) (n .to)) [] t))
 
@@ -163,23 +164,23 @@ module _ (payload d2 : List ℕ) (n : Name) where
     past-bytes e = none-bytes (source-past e)
 
     pub some-bytes : (t : Text) → sourceText payload d2 n ≡ some t
-        → nameBytes payload d2 n slashes ≡ utf8 (printed slashes (prefixOf (n .operation))) ++ sourceBytes (n .size) (changeOf n slashes) (sourceText payload d2 n)
+        → nameBytes payload d2 n slashes ≡ utf8 (slashedText slashes (prefixOf (n .operation))) ++ sourceBytes (n .size) (changeOf n slashes) (sourceText payload d2 n)
     unfolding nameBytes nameText
     some-bytes t e =
-        rw e (ap utf8 (stepped-is n t slashes) ∙ utf8-append (printed slashes (prefixOf (n .operation))) (sized (n .size) (map (changed (changeOf n slashes)) t)))
+        rw e (ap utf8 (stepped-is n t slashes) ∙ utf8-append (slashedText slashes (prefixOf (n .operation))) (sized (n .size) (map (changed (changeOf n slashes)) t)))
 
     pub name-bytes : 0 < n .source → n .source ≤ 3
-        → nameBytes payload d2 n slashes ≡ utf8 (printed slashes (prefixOf (n .operation))) ++ sourceBytes (n .size) (changeOf n slashes) (sourceText payload d2 n)
+        → nameBytes payload d2 n slashes ≡ utf8 (slashedText slashes (prefixOf (n .operation))) ++ sourceBytes (n .size) (changeOf n slashes) (sourceText payload d2 n)
     name-bytes g h =
         let s = source-there g h in
         some-bytes (s .0) (s .1)
 
     -- by the change that the code made
     pub name-parts : {h : Change} → h ≡ changeOf n slashes → 0 < n .source → n .source ≤ 3
-        → nameBytes payload d2 n slashes ≡ utf8 (printed slashes (prefixOf (n .operation))) ++ sourceBytes (n .size) h (sourceText payload d2 n)
+        → nameBytes payload d2 n slashes ≡ utf8 (slashedText slashes (prefixOf (n .operation))) ++ sourceBytes (n .size) h (sourceText payload d2 n)
     name-parts e g i =
         name-bytes g i
-        ∙ ap (λ (k : Change). utf8 (printed slashes (prefixOf (n .operation))) ++ sourceBytes (n .size) k (sourceText payload d2 n)) (sym e)
+        ∙ ap (λ (k : Change). utf8 (slashedText slashes (prefixOf (n .operation))) ++ sourceBytes (n .size) k (sourceText payload d2 n)) (sym e)
 
 pub source-some : (size : ℕ) (h : Change) {o : Option Text} {t : Text} → o ≡ some t → sizedBytes size h t ≡ sourceBytes size h o
 source-some size h e = ap (sourceBytes size h) (sym e)
@@ -196,27 +197,27 @@ source-fitted size h {o} {t} m e =
 
 -- What operation 2 puts in front, and its bytes.
 module _ (operation : ℕ) (slashes : Bool) where
-  pub front-none : (operation ≡ 2 → ⊥) → printed slashes (prefixOf operation) ≡ []
+  pub front-none : (operation ≡ 2 → ⊥) → slashedText slashes (prefixOf operation) ≡ []
   front-none f = rw (ne-eqb operation 2 f) (go slashes)
     where
-      go : (b : Bool) → printed b [] ≡ []
+      go : (b : Bool) → slashedText b [] ≡ []
       go true = refl
       go false = refl
 
-  pub front-slashes : operation ≡ 2 → slashes ≡ true → printed slashes (prefixOf operation) ≡ ascii "kotlin/collections/"
+  pub front-slashes : operation ≡ 2 → slashes ≡ true → slashedText slashes (prefixOf operation) ≡ ascii "kotlin/collections/"
   front-slashes e f = rw (e, f)
 
-  pub front-dots : operation ≡ 2 → slashes ≡ false → printed slashes (prefixOf operation) ≡ ascii "kotlin.collections."
+  pub front-dots : operation ≡ 2 → slashes ≡ false → slashedText slashes (prefixOf operation) ≡ ascii "kotlin.collections."
   front-dots e f = rw (e, f)
 
-  pub prefix-none : (operation ≡ 2 → ⊥) → utf8 (printed slashes (prefixOf operation)) ≡ []
+  pub prefix-none : (operation ≡ 2 → ⊥) → utf8 (slashedText slashes (prefixOf operation)) ≡ []
   unfolding utf8
   prefix-none f = ap utf8 (front-none f)
 
-  pub prefix-slashes : operation ≡ 2 → slashes ≡ true → utf8 (printed slashes (prefixOf operation)) ≡ ascii "kotlin/collections/"
+  pub prefix-slashes : operation ≡ 2 → slashes ≡ true → utf8 (slashedText slashes (prefixOf operation)) ≡ ascii "kotlin/collections/"
   unfolding utf8 utf8Of
   prefix-slashes e f = ap utf8 (front-slashes e f)
 
-  pub prefix-dots : operation ≡ 2 → slashes ≡ false → utf8 (printed slashes (prefixOf operation)) ≡ ascii "kotlin.collections."
+  pub prefix-dots : operation ≡ 2 → slashes ≡ false → utf8 (slashedText slashes (prefixOf operation)) ≡ ascii "kotlin.collections."
   unfolding utf8 utf8Of
   prefix-dots e f = ap utf8 (front-dots e f)

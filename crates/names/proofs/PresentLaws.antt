@@ -12,11 +12,12 @@ use lib.ListN.{length, drop, length-map, length-take, length-drop}
 use Rattle.foundation.specs.Choices.{if_then_else_, ifSome, isSome, mapOption, IfSome}
 use Rattle.foundation.specs.Texts.{Text}
 use Rattle.foundation.proofs.ChoiceLaws.{if-ind}
-use Rattle.characters.specs.Characters.{partFrom, width, fromUtf8, fromUtf16, utf8}
+use Rattle.characters.specs.Characters.{width, fromUtf8, fromUtf16, utf8}
+use Rattle.characters.specs.told.Places.{partFrom}
 use Rattle.characters.proofs.LengthLaws.{AtMost, InBytes, bytes-most, fromUtf8-length, fromUtf16-length}
 use Rattle.names.specs.Records.{substituted, operated}
-use Rattle.names.specs.Name.{predefinedList, sourceText, isMeasured, sized, steppedBy, nameText}
-use Rattle.names.specs.Stream.{printed, nameBytes}
+use Rattle.names.specs.told.Name.{predefinedList, sourceText, isMeasured, sized, steppedBy, nameText}
+use Rattle.names.specs.told.Stream.{slashedText, nameBytes}
 use Rattle.names.specs.declared.name.Name.{Name}
 use Rattle.names.proofs.LengthLaws.{substituted-bytes, dotted-bytes, operated-bytes}
 use Rattle.names.proofs.FittedLaws.{fitted-bytes}
@@ -88,7 +89,7 @@ module _ (payload d2 : List ℕ) (n : Name) (k : ℕ) (f : length payload ≤ k)
       let m : InBytes (4 * k + 19) it = omega (arith, sized-most r b, operated-bytes (n .operation) s) in
       if-ind (InBytes (4 * k + 19)) (n .qualified) (λ e. omega (arith, dotted-bytes it)) λ e. m
 
-  printed-most : (slashes : Bool) (t : Text) → InBytes (4 * k + 19) t → InBytes (4 * k + 19) (printed slashes t)
+  printed-most : (slashes : Bool) (t : Text) → InBytes (4 * k + 19) t → InBytes (4 * k + 19) (slashedText slashes t)
   unfolding width
   printed-most slashes t l =
       if-ind (InBytes (4 * k + 19)) slashes (λ e. omega (arith, substituted-bytes 0x2e 0x2f t refl)) λ e. l
@@ -97,6 +98,6 @@ module _ (payload d2 : List ℕ) (n : Name) (k : ℕ) (f : length payload ≤ k)
   unfolding nameBytes nameText
   name-most slashes = go (sourceText payload d2 n) source-most
     where
-      go : (o : Option Text) → IfSome (AtMost k) o → length (ifSome (mapOption (steppedBy n) o) [] λ t. utf8 (printed slashes t)) ≤ 4 * k + 19
+      go : (o : Option Text) → IfSome (AtMost k) o → length (ifSome (mapOption (steppedBy n) o) [] λ t. utf8 (slashedText slashes t)) ≤ 4 * k + 19
       go none l = omega arith
       go (some t) l = printed-most slashes (steppedBy n t) (stepped-most t l)

@@ -14,9 +14,9 @@ use Rattle.foundation.specs.Results.{Res, ok, refused, _from_}
 use Rattle.fields.specs.Fields.{Record·range, Record·predefined-index, Record·operation, Record·substring-index, Record·replace-char, Record·string}
 use Rattle.wire.specs.Wire.{Value, field, readField, Message, cut}
 use Rattle.wire.specs.Messages.{values, firstOf, value, joined, varints}
-use Rattle.wire.specs.Told.{refusal, restOf, valueOf, Inside, FieldTold}
-use Rattle.messages.specs.Asked.{foundTold, FoundInside, FoundTold, pieceIn, indexTold, indexIn}
-use Rattle.messages.specs.Repeated as wire
+use Rattle.wire.specs.told.WireTold.{wireRefused, restOf, valueOf, Inside, FieldTold}
+use Rattle.messages.specs.told.Asked.{foundTold, FoundInside, FoundTold, pieceIn, indexTold, indexIn}
+use Rattle.messages.specs.told.Repeated.{firstTwoOf}
 use Rattle.wire.specs.declared.WireError.{WireError}
 use Rattle.wire.specs.declared.WireValue.{WireValue}
 use Rattle.wire.specs.declared.FieldStep.{FieldStep}
@@ -30,7 +30,7 @@ use Rattle.messages.specs.declared.repeated.Two.the-variants.{Neither, One, Bot
 use Rattle.wire.proofs.WalkLaws.{field-is, Leads, leads-start, leads-next, leads-never, leads-end, values-found, values-passed}
 use Rattle.messages.proofs.FindLaws.{number-is, index-is, piece-is}
 use Rattle.names.specs.Records.{served, twoOf, recordOf}
-use Rattle.names.specs.RecordTold.{firstSeen, withField, FirstsTold, operationIn, bothOf, RecordTold}
+use Rattle.names.specs.told.RecordTold.{firstSeen, withField, FirstsTold, operationIn, bothNumbers, RecordTold}
 use Rattle.names.specs.declared.records.Firsts.{Firsts}
 use Rattle.names.specs.declared.records.Record.{Record}
 
@@ -155,7 +155,7 @@ module _ (base : ℕ) (s : List ℕ) (k : ℕ) (m : Message) (w : cut (_from_ ba
       go (v ∷ vs) e = let z : _≡_ {A = ℕ} 0 1 = cc in absurd (omega arith)
 
 -- a step's two numbers, as the wire tells them
-pub two-is : (r : Res (List ℕ)) {t : Two} → wire.twoOf r ≡ ok t → twoOf r ≡ bothOf t
+pub two-is : (r : Res (List ℕ)) {t : Two} → firstTwoOf r ≡ ok t → twoOf r ≡ bothNumbers t
 two-is (ok []) {t} e = let q : Neither ≡ t = cc in rw (← q)
 two-is (ok (a ∷ [])) {t} e = let q : One (a % 2 ^ 32) ≡ t = cc in rw (← q)
 two-is (ok (a ∷ b ∷ ns)) {t} e = let q : Both (a % 2 ^ 32) (b % 2 ^ 32) ≡ t = cc in rw (← q)
@@ -166,7 +166,7 @@ pub served-some : {o : Indexed} {n : ℕ} → o ≡ indexed.At n → (n ≡ 0 �
 served-some {n = zero} e h = absurd (h refl)
 served-some {n = suc n} e h = rw e
 
-pub two-refused : (r : Res (List ℕ)) (e : WireError) → wire.twoOf r ≡ refusal e → twoOf r ≡ none
+pub two-refused : (r : Res (List ℕ)) (e : WireError) → firstTwoOf r ≡ wireRefused e → twoOf r ≡ none
 two-refused (ok ns) e q = let z : _≡_ {A = ℕ} 0 1 = cc in absurd (omega arith)
 two-refused (refused c p) e q = refl
 
@@ -174,8 +174,8 @@ two-refused (refused c p) e q = refl
 pub record-is : (base : ℕ) (s : List ℕ) (f : Firsts) (r : Record) → FirstsTold base s f
     → (range : Indexed) → indexTold range ≡ indexIn (f .range) → r .range ≡ served (indexTold range)
     → r .string ≡ pieceIn (f .string) → indexTold (r .predefined) ≡ indexIn (f .predefined) → r .operation ≡ operationIn (f .operation)
-    → (FoundTold base s Record·substring-index (f .substring) → (m : Message) → cut (_from_ base s) ≡ ok m → twoOf (varints Record·substring-index m) ≡ bothOf (r .substring))
-    → (FoundTold base s Record·replace-char (f .replaced) → (m : Message) → cut (_from_ base s) ≡ ok m → twoOf (varints Record·replace-char m) ≡ bothOf (r .replaced))
+    → (FoundTold base s Record·substring-index (f .substring) → (m : Message) → cut (_from_ base s) ≡ ok m → twoOf (varints Record·substring-index m) ≡ bothNumbers (r .substring))
+    → (FoundTold base s Record·replace-char (f .replaced) → (m : Message) → cut (_from_ base s) ≡ ok m → twoOf (varints Record·replace-char m) ≡ bothNumbers (r .replaced))
     → RecordTold base s r
 unfolding recordOf
 record-is base s f r t range a b c d e g h =

@@ -14,7 +14,8 @@ use Rattle.foundation.proofs.ChoiceLaws.{if-ind, all-append, all-map}
 use Rattle.foundation.proofs.ResultLaws.{Gives}
 use Rattle.characters.specs.Characters.{isScalar}
 use Rattle.characters.proofs.ScalarLaws.{fromUtf8-characters, fromUtf16-characters}
-use Rattle.characters.specs.WellFormed.{Characters, Units}
+use Rattle.characters.specs.WellFormed.{Units}
+use Rattle.characters.specs.told.CharactersTold.{Characters}
 use Rattle.characters.proofs.TestLaws.{scalar-below}
 use Rattle.foundation.proofs.EveryLaws.{each, every, every-all, all-any, all-at, all-split, all-take, all-drop, some-map}
 use Rattle.names.specs.Records.{Record, predefinedStrings, predefinedText, substituted, replaceOf, dotted, operated, textOf}

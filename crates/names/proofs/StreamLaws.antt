@@ -9,10 +9,10 @@ use lib.Seq.{sets, length-sets}
 use Rattle.foundation.specs.Texts.{Text}
 use Rattle.foundation.proofs.OverlayLaws.{sets-then}
 use Rattle.characters.specs.Characters.{utf8Of, utf8}
-use Rattle.characters.specs.Told.{PutCharacter}
+use Rattle.characters.specs.told.CharactersTold.{PutCharacter}
 use Rattle.characters.proofs.Utf8Laws.{utf8-length}
 use Rattle.characters.proofs.WriteLaws.{put-next}
-use Rattle.names.specs.Stream.{changed, changedBytes, PutText}
+use Rattle.names.specs.told.Stream.{changed, changedBytes, PutText}
 use Rattle.names.specs.declared.name.Change.{Change}
 
 -- Of a whole text, written from `at` on over the area A₀, the rest is to be written from `to` on over A.

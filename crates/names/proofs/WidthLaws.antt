@@ -13,12 +13,12 @@ use Rattle.foundation.specs.Texts.{Text}
 use Rattle.foundation.proofs.ChoiceLaws.{if-ind}
 use Rattle.foundation.proofs.OverlayLaws.{sets-out}
 use Rattle.characters.specs.Characters.{width, utf8, fromUtf8}
-use Rattle.characters.specs.Plain.{instead, withDots, withSlashes, isAscii}
+use Rattle.characters.specs.told.Plain.{instead, withDots, slashedCharacter, isAscii}
 use Rattle.characters.proofs.AsciiLaws.{all-below}
 use Rattle.characters.proofs.SeamLaws.{from-ascii}
 use Rattle.characters.proofs.LengthLaws.{bytes-cons}
 use Rattle.characters.proofs.SizeLaws.{width-one}
-use Rattle.names.specs.Stream.{changed, changedBytes, KeepsWidth, PutText}
+use Rattle.names.specs.told.Stream.{changed, changedBytes, KeepsWidth, PutText}
 use Rattle.names.specs.declared.name.Change.{Change}
 
 instead-width : (a b c : ℕ) → width a ≡ width b → width (instead a b c) ≡ width c
@@ -30,7 +30,7 @@ unfolding width
 dots-width true c = instead-width 0x2f 0x2e (instead 0x24 0x2e c) refl ∙ instead-width 0x24 0x2e c refl
 dots-width false c = refl
 
-pub slashes-width : (t : Bool) (c : ℕ) → width (withSlashes t c) ≡ width c
+pub slashes-width : (t : Bool) (c : ℕ) → width (slashedCharacter t c) ≡ width c
 unfolding width
 slashes-width true c = instead-width 0x2e 0x2f c refl
 slashes-width false c = refl

@@ -1,6 +1,3 @@
 pub mod Records
 pub mod Names
-pub mod Name
-pub mod Stream
-pub mod Index
-pub mod RecordTold
+pub mod told

@@ -1,13 +1,13 @@
-// A name, by the part that it is made of and what is done to its characters. What it means: specs/Name.antt, `nameText`.
+// A name, by the part that it is made of and what is done to its characters. What it means: specs/told/Name.antt, `nameText`.
 ghost use mathlib.Core.Path.{_≡_};
 ghost use mathlib.Core.List.{List};
 ghost use Prim.Native.Nat.{ℕ};
 ghost use Rattle.foundation.specs.Choices.{isSome};
-ghost use Rattle.characters.specs.Characters.{partFrom};
-ghost use Rattle.characters.specs.Plain.{instead, withDots, withSlashes};
-ghost use Rattle.names.specs.Name.{nameText, absentName};
+ghost use Rattle.characters.specs.told.Places.{partFrom};
+ghost use Rattle.characters.specs.told.Plain.{instead, withDots, slashedCharacter};
+ghost use Rattle.names.specs.told.Name.{nameText, absentName};
 ghost use Rattle.names.specs.Records.{predefinedText};
-ghost use Rattle.names.specs.Stream.{listedText, baseOf, changeOf, changed};
+ghost use Rattle.names.specs.told.Stream.{listedText, baseOf, changeOf, changed};
 
 pub struct Name {
     // What the characters are a part of: 0 nothing, the name is absent; 1 the payload; 2 the predefined list; 3 d2.
@@ -221,7 +221,7 @@ fn with_dots(dots: bool, c: u32) -> u32
 }
 
 fn with_slashes(slashes: bool, c: u32) -> u32
-    ensures { λ r. ⌜ r ≡ withSlashes slashes c ⌝ }
+    ensures { λ r. ⌜ r ≡ slashedCharacter slashes c ⌝ }
 {
     if slashes {
         return instead(0x2e, 0x2f, c);

@@ -1,16 +1,16 @@
-// The records of the name table, read from their messages, and their index. The definitions: specs/Records.antt, specs/Index.antt; how
-// the answers tell them: specs/RecordTold.antt.
+// The records of the name table, read from their messages, and their index. The definitions: specs/Records.antt, specs/told/Index.antt; how
+// the answers tell them: specs/told/RecordTold.antt.
 ghost use mathlib.Core.Path.{_≡_};
 ghost use Prim.Native.Nat.{ℕ, _+_, _*_, _<_};
 ghost use lib.ListN.{length, set};
 ghost use Rattle.foundation.specs.Results.{ok, _from_};
 ghost use Rattle.wire.specs.Wire.{cut, Message};
 ghost use Rattle.wire.specs.Messages.{varints};
-ghost use Rattle.messages.specs.Asked.{FoundTold, indexTold};
-ghost use Rattle.wire.specs.Told.{restOf};
+ghost use Rattle.messages.specs.told.Asked.{FoundTold, indexTold};
+ghost use Rattle.wire.specs.told.WireTold.{restOf};
 ghost use Rattle.names.specs.Records.{served, twoOf};
-ghost use Rattle.names.specs.Index.{packed, NotedTold, IndexTold};
-ghost use Rattle.names.specs.RecordTold.{firstSeen, withField, FirstsTold, operationIn, bothOf, RecordTold};
+ghost use Rattle.names.specs.told.Index.{packedPlaces, NotedTold, IndexTold};
+ghost use Rattle.names.specs.told.RecordTold.{firstSeen, withField, FirstsTold, operationIn, bothNumbers, RecordTold};
 use fields::RECORD_OPERATION;
 use fields::RECORD_PREDEFINED_INDEX;
 use fields::RECORD_RANGE;
@@ -22,7 +22,7 @@ use fields::STRING_TABLE_TYPES_RECORD;
 use messages::Checked;
 use messages::Found;
 use messages::Indexed;
-use messages::check_from;
+use messages::check;
 use messages::index;
 use messages::next_body;
 use messages::repeated::FirstTwo;
@@ -134,7 +134,7 @@ fn operation_in(found: Found) -> u64
 
 // A step's two numbers. Errors in its values, or fewer than two of them, mean that the step isn't taken.
 fn two_in(s: &[u8], base: u32, number: u32, found: Found) -> Two
-    ensures { λ r. ⌜ (FoundTold base (now (s .entry)) number found → (m : Message) → cut (_from_ base (now (s .entry))) ≡ ok m → twoOf (varints number m) ≡ bothOf r) ⌝ }
+    ensures { λ r. ⌜ (FoundTold base (now (s .entry)) number found → (m : Message) → cut (_from_ base (now (s .entry))) ≡ ok m → twoOf (varints number m) ≡ bothNumbers r) ⌝ }
 {
     let Found::Value { value: _ } = found else {
         return Two::Neither;
@@ -186,7 +186,7 @@ pub enum RecordIndex {
 
 // Two places in one number.
 pub fn packed(start: u32, end: u32) -> u64
-    ensures { λ r. ⌜ r ≡ packed start end ⌝ }
+    ensures { λ r. ⌜ r ≡ packedPlaces start end ⌝ }
 {
     start as u64 + 4294967296 * end as u64
 }
@@ -198,7 +198,7 @@ pub const RECORD_WORDS: usize = 3;
 // The words of record `count`, which ends where the index `next` begins.
 fn put_entry(notes: &mut [u64], count: usize, start: u32, end: u32, next: u64)
     requires { ⌜ 3 * count + 2 < length (now notes) ⌝ }
-    ensures { λ _. ⌜ now (notes .exit) ≡ set (set (now (notes .entry)) (3 * count) (packed start end)) (3 * count + 2) next ⌝ }
+    ensures { λ _. ⌜ now (notes .exit) ≡ set (set (now (notes .entry)) (3 * count) (packedPlaces start end)) (3 * count + 2) next ⌝ }
 {
     let at = RECORD_WORDS * count;
     notes[at] = packed(start, end);
@@ -221,7 +221,7 @@ fn note_records(bytes: &[u8], at: usize, notes: &mut [u64]) -> RecordIndex
         let Piece::Body { start, end } = piece else {
             return RecordIndex::Records { count };
         };
-        let checked = check_from(&bytes[..end], 0, start);
+        let checked = check(&bytes[start..end], start as u32);
         let Checked::Whole = checked else {
             return RecordIndex::Refused {
                 error: checked.error(),
@@ -251,17 +251,14 @@ pub fn index_records(bytes: &[u8], at: usize, notes: &mut [u64]) -> RecordIndex
         return RecordIndex::NoRoom;
     }
     let noted = note_records(&*bytes, at, notes);
-    match noted {
-        RecordIndex::Records { count } => {
-            let checked = check_varints(&bytes[at..], at as u32, STRING_TABLE_TYPES_LOCAL_NAME);
-            let Checked::Whole = checked else {
-                return RecordIndex::Refused {
-                    error: checked.error(),
-                };
-            };
-            RecordIndex::Records { count }
-        }
-        RecordIndex::NoRoom => RecordIndex::NoRoom,
-        RecordIndex::Refused { error } => RecordIndex::Refused { error },
-    }
+    let RecordIndex::Records { count } = noted else {
+        return noted;
+    };
+    let checked = check_varints(&bytes[at..], at as u32, STRING_TABLE_TYPES_LOCAL_NAME);
+    let Checked::Whole = checked else {
+        return RecordIndex::Refused {
+            error: checked.error(),
+        };
+    };
+    RecordIndex::Records { count }
 }

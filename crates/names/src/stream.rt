@@ -14,9 +14,10 @@ ghost use Prim.Native.Nat.{_+_, _^_, _≤_, _<_};
 ghost use mathlib.Core.List.{map};
 ghost use lib.ListN.{length};
 ghost use lib.Seq.{sets};
-ghost use Rattle.characters.specs.Characters.{fromUtf8, fromUtf16, utf8, partFrom};
-ghost use Rattle.names.specs.Name.{predefinedList, sourceText, fitted, isMeasured};
-ghost use Rattle.names.specs.Stream.{changed, changedBytes, KeepsWidth, fittedOf, sourceBytes, nameBytes, PutText, PlainPart, prefixOf, printed};
+ghost use Rattle.characters.specs.Characters.{fromUtf8, fromUtf16, utf8};
+ghost use Rattle.characters.specs.told.Places.{partFrom};
+ghost use Rattle.names.specs.told.Name.{predefinedList, sourceText, fitted, isMeasured};
+ghost use Rattle.names.specs.told.Stream.{changed, changedBytes, KeepsWidth, fittedOf, sourceBytes, nameBytes, PutText, PlainPart, prefixOf, slashedText};
 
 // The text of some bytes, each character changed, one by one. Answers the place after it.
 fn put_utf8(s: &[u8], change: Change, area: &mut [u8], at: usize) -> usize
@@ -172,8 +173,8 @@ fn put_units(
 
 // What operation 2 puts in front.
 fn put_prefix(operation: u8, slashes: bool, area: &mut [u8], at: usize) -> usize
-    requires { ⌜ at + length (utf8 (printed slashes (prefixOf operation))) < 2 ^ 64 ⌝ }
-    ensures { λ r. ⌜ PutText (utf8 (printed slashes (prefixOf operation))) at r (now (area .entry)) (now (area .exit)) ⌝ }
+    requires { ⌜ at + length (utf8 (slashedText slashes (prefixOf operation))) < 2 ^ 64 ⌝ }
+    ensures { λ r. ⌜ PutText (utf8 (slashedText slashes (prefixOf operation))) at r (now (area .entry)) (now (area .exit)) ⌝ }
 {
     if operation != 2 {
         return at;

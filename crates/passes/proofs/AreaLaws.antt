@@ -13,34 +13,33 @@ use Rattle.foundation.specs.Results.{Res, ok, textTooLong, sheetTooLong, _from_
 use Rattle.foundation.proofs.OverlayLaws.{sets-front}
 use Rattle.foundation.proofs.ResultLaws.{gives-ok}
 use Rattle.wire.specs.Wire.{Message, cut}
-use Rattle.characters.specs.Characters.{partFrom}
+use Rattle.characters.specs.told.Places.{partFrom}
 use Rattle.characters.proofs.PartLaws.{part-short, rest-is}
 use Rattle.names.specs.Names.{Names}
 use Rattle.sheet.specs.Rows.{Row, sheetFrom, texts}
-use Rattle.sheet.specs.Put.{PutRows}
+use Rattle.sheet.specs.told.Put.{PutRows}
 use Rattle.sheet.specs.declared.State.{State}
 use Rattle.sheet.proofs.PutLaws.{put-sheet, put-text, put-types, put-front}
-use Rattle.schema.specs.Counting.{declarationsSize}
+use Rattle.schema.specs.told.TypeSizes.{declarationsSize}
 use Rattle.declaration_rows.specs.Declarations.{Declarations}
 use Rattle.schema.specs.Reading.{Scope, scope, allowance}
 use Rattle.schema.specs.Members.{afterTable}
-use Rattle.schema.specs.Told as schema
-use Rattle.schema.specs.Told.{lent, Scoped}
-use Rattle.schema.specs.MembersTold.{Affords}
+use Rattle.schema.specs.told.SchemaTold.{lent, Scoped, stopRefused}
+use Rattle.schema.specs.told.MembersTold.{Affords}
 use Rattle.schema.specs.declared.Tables.{Tables}
 use Rattle.schema.proofs.TypeCount.{body-enters}
 use Rattle.declarations.specs.Payload.{bodyOf, payload, declarationRows}
-use Rattle.declarations.specs.PayloadTold.{OpenedAt, LentAt}
-use Rattle.declarations.specs.BodyTold.{bodyCost, BodyTold, BodyWalked}
+use Rattle.declarations.specs.told.PayloadTold.{OpenedAt, LentAt}
+use Rattle.declarations.specs.told.BodyTold.{bodyCost, BodyTold, BodyWalked}
 use Rattle.declarations.specs.declared.body.Body.{Body}
 use Rattle.declarations.specs.declared.body.Body.the-variants as body
 use Rattle.declarations.proofs.PayloadLaws.{body-after}
 use Rattle.inputs.specs.Refusals.{numberOf, detailOf}
-use Rattle.inputs.specs.Outcomes.{told}
+use Rattle.inputs.specs.told.OutcomesTold.{told}
 use Rattle.inputs.specs.declared.outcome.Outcome.{Outcome}
 use Rattle.inputs.proofs.OutcomeLaws.{refused-as}
 use Rattle.passes.specs.Answered.{textLimit, sheetWritten, written, answered}
-use Rattle.passes.specs.AreaTold.{strings, InLimits, start, lastOf, MeasuredAt, WrittenOut}
+use Rattle.passes.specs.told.AreaTold.{strings, InLimits, start, lastOf, MeasuredAt, WrittenOut}
 use Rattle.passes.specs.declared.Measured.{Measured}
 
 -- The body, as it is lent.
@@ -194,6 +193,6 @@ module _ (kind : ℕ) (bytes d2 ends notes : List ℕ) (x : Measured) (SS TT : L
         × (T′ ≡ texts (declarationRows kind y) ++ drop (length (texts (declarationRows kind y))) T)) c′
         (put-front p′ (omega (arith, size-is)) (omega (arith, length-is)))
     walked-out (body.Refused y) f d left e =
-        let g : _≡_ {A = Res (Declarations × ℕ)} (schema.refusal y) (ok (d, left)) = sym f ∙ e in
+        let g : _≡_ {A = Res (Declarations × ℕ)} (stopRefused y) (ok (d, left)) = sym f ∙ e in
         let z : _≡_ {A = ℕ} 0 1 = cc in
         absurd (omega arith)

@@ -1,52 +1,68 @@
 -- The two passes over d1: decoded, opened, measured, answered.
 -- Assumes nothing.
 use mathlib.Core.Path.{_≡_, refl, ap, sym, subst, _∙_}
-use mathlib.Core.List.{List}
+use mathlib.Core.List.{List, [], _∷_}
 use mathlib.Core.Option.{some}
 use Prim.Native.Nat.{ℕ, _≤_}
 use native.Mathlib.Omega.{arith}
+use types.Run.{OneOf, miss}
+use denote.Enum.Declared.{tagOf}
 use lib.ListN.{length, take}
 use Rattle.foundation.specs.Results as Results
 use Rattle.foundation.specs.Results.{Res, ok, refused, Cause}
 use Rattle.foundation.proofs.ResultLaws.{gives-ok}
 use Rattle.encoding.specs.Encoding.{decoded}
-use Rattle.encoding.specs.Outcome as encoding
+use Rattle.encoding.specs.told.Outcome as encoding
+use Rattle.encoding.specs.told.Outcome.{DecodeTold}
 use Rattle.encoding.specs.declared.Decoded.{Decoded}
 use Rattle.encoding.specs.declared.Decoded.the-variants as bytesOf
 use Rattle.encoding.proofs.OutcomeLaws.{limited-within, limited-arm, told-inside, told-room}
 use Rattle.encoding.proofs.EncodingLaws.{decoded-length}
 use Rattle.wire.specs.declared.WireError.{WireError}
 use Rattle.declaration_rows.specs.Declarations.{Declarations}
-use Rattle.schema.specs.Told as schema
+use Rattle.schema.specs.told.SchemaTold.{stopCause, stopPlace, stopRefused}
 use Rattle.schema.specs.declared.Tables.{Tables}
 use Rattle.schema.specs.declared.Stop.{Stop}
 use Rattle.schema.specs.declared.Stop.the-variants as stop
 use Rattle.declarations.specs.Payload.{payload}
-use Rattle.declarations.specs.PayloadTold.{LentAt, LentRoom, LentTold}
-use Rattle.declarations.specs.BodyTold.{BodyTold}
+use Rattle.declarations.specs.told.PayloadTold.{LentAt, LentRoom, LentTold}
+use Rattle.declarations.specs.told.BodyTold.{BodyTold}
 use Rattle.declarations.specs.declared.body.Sections.{Sections}
 use Rattle.declarations.specs.declared.body.Body.{Body}
 use Rattle.declarations.specs.declared.body.Body.the-variants as body
 use Rattle.declarations.specs.declared.payload.Opened.{Opened}
 use Rattle.declarations.specs.declared.payload.Opened.the-variants as opened
-use Rattle.inputs.specs.Outcomes.{told, RefusedAs}
+use Rattle.declarations.proofs.payload.Opened as opened-type
+use Rattle.inputs.specs.told.OutcomesTold.{told, RefusedAs}
 use Rattle.inputs.specs.declared.outcome.Outcome.{Outcome}
 use Rattle.passes.specs.Answered.{answered}
-use Rattle.passes.specs.AreaTold.{strings, InLimits, start, MeasuredAt}
-use Rattle.passes.specs.PassTold.{FirstTold, PassedTold, FrameRoom, readingOf}
+use Rattle.passes.specs.told.AreaTold.{strings, InLimits, start, MeasuredAt}
+use Rattle.passes.specs.told.PassTold.{FirstTold, PassedTold, FrameRoom, readingOf}
 use Rattle.passes.specs.declared.Measured.{Measured}
 use Rattle.passes.specs.declared.FirstPass.{FirstPass}
 use Rattle.passes.specs.declared.FirstPass.the-variants as first
+use Rattle.passes.proofs.FirstPass as first-type
 use Rattle.passes.specs.declared.Passed.{Passed}
 use Rattle.passes.specs.declared.Passed.the-variants as passed
 
 -- An answer, whatever room it needs.
-pub pass-stops : (kind : ℕ) (x : Res (Declarations × ℕ)) (stop : Stop) (S T : List ℕ) {r : Outcome} → x ≡ schema.refusal stop → RefusedAs (schema.causeOf stop) (schema.placeOf stop) r
+pub pass-stops : (kind : ℕ) (x : Res (Declarations × ℕ)) (stop : Stop) (S T : List ℕ) {r : Outcome} → x ≡ stopRefused stop → RefusedAs (stopCause stop) (stopPlace stop) r
     → answered S T kind x ≡ told r S T
 pass-stops kind x stop S T e h = ap (answered S T kind) e ∙ h S T
 
+-- What neither gives what was asked for nor is refused had no room.
+pub opened-left : (r : Opened) → OneOf (1 ∷ 2 ∷ []) (tagOf opened-type.the-type r) → OneOf (0 ∷ 2 ∷ []) (tagOf opened-type.the-type r) → r ≡ opened.NoRoom
+opened-left (opened.Body at tables) k l = absurd (miss (1 ∷ 2 ∷ []) 0 tt k)
+opened-left (opened.Refused error) k l = absurd (miss (0 ∷ 2 ∷ []) 1 tt l)
+opened-left opened.NoRoom k l = refl
+
+pub first-left : (r : FirstPass) → OneOf (1 ∷ 2 ∷ []) (tagOf first-type.the-type r) → OneOf (0 ∷ 2 ∷ []) (tagOf first-type.the-type r) → r ≡ first.NoRoom
+first-left (first.Done measured) k l = absurd (miss (1 ∷ 2 ∷ []) 0 tt k)
+first-left (first.Refused stop) k l = absurd (miss (0 ∷ 2 ∷ []) 1 tt l)
+first-left first.NoRoom k l = refl
+
 -- What d1 is decoded to.
-module _ (kind : ℕ) (d1 d2 ends before after : List ℕ) (answer : Decoded) (k : InLimits d1 d2 ends) (t : encoding.Told (encoding.limited d1) before after answer) where
+module _ (kind : ℕ) (d1 d2 ends before after : List ℕ) (answer : Decoded) (k : InLimits d1 d2 ends) (t : DecodeTold (encoding.limited d1) before after answer) where
   arm-is : (arm : Decoded) {x : Res (List ℕ)} → answer ≡ arm → encoding.tells arm after ≡ some x → decoded d1 ≡ x
   arm-is arm e f = sym (limited-within d1 (k .bytes-short)) ∙ limited-arm d1 before after answer t arm e f
 
@@ -96,7 +112,7 @@ module _ (bytes d2 ends notes : List ℕ) (r : Opened) (t : LentTold bytes d2 en
   opened-is e = arm-opened e
 
   pub opened-refused : {error : WireError} → r ≡ opened.Refused error → (kind : ℕ)
-      → payload kind (strings d2 ends) bytes ≡ schema.refusal (stop.Wire error)
+      → payload kind (strings d2 ends) bytes ≡ stopRefused (stop.Wire error)
   opened-refused e kind = arm-opened e kind (strings d2 ends)
 
   pub opened-no-room : r ≡ opened.NoRoom → LentRoom bytes notes → ⊥
@@ -110,8 +126,8 @@ module _ (kind : ℕ) (bytes d2 ends notes : List ℕ) {at : ℕ} {tables : Tabl
       let x = subst (λ (y : Body). BodyTold kind (payload kind (strings d2 ends) bytes) start y S S′ T T′) g t in
       record { lent = o; declarations = x .0; left = x .1; reads = x .2; S₀ = S; T₀ = T; written = x .3 }
 
-  pub walked-stops : {stop : Stop} → r ≡ body.Refused stop → payload kind (strings d2 ends) bytes ≡ schema.refusal stop
-  walked-stops g = subst (λ (y : Body). BodyTold kind (payload kind (strings d2 ends) bytes) start y S S′ T T′) g t
+  pub walked-stops : {stop s : Stop} → r ≡ body.Refused stop → s ≡ stop → payload kind (strings d2 ends) bytes ≡ stopRefused s
+  walked-stops g e = subst (λ (y : Body). BodyTold kind (payload kind (strings d2 ends) bytes) start y S S′ T T′) g t ∙ ap stopRefused (sym e)
 
 module _ (kind : ℕ) (bytes d2 ends notes : List ℕ) (r : FirstPass) (S T : List ℕ) (t : FirstTold kind bytes d2 ends notes r S T) where
   arm-first : {y : FirstPass} → r ≡ y → FirstTold kind bytes d2 ends notes y S T
@@ -120,7 +136,7 @@ module _ (kind : ℕ) (bytes d2 ends notes : List ℕ) (r : FirstPass) (S T : Li
   pub first-done : {x : Measured} → r ≡ first.Done x → MeasuredAt kind bytes d2 ends notes x S T
   first-done e = arm-first e
 
-  pub first-refused : {x : Stop} → r ≡ first.Refused x → payload kind (strings d2 ends) bytes ≡ schema.refusal x
+  pub first-refused : {x : Stop} → r ≡ first.Refused x → payload kind (strings d2 ends) bytes ≡ stopRefused x
   first-refused e = arm-first e
 
   pub first-no-room : r ≡ first.NoRoom → LentRoom bytes notes → ⊥

@@ -1,3 +1,2 @@
 pub mod Answered
-pub mod AreaTold
-pub mod PassTold
+pub mod told

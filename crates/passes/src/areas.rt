@@ -1,12 +1,12 @@
 // What was measured, written into both areas: refusals 11 and 12 first; only then are the areas touched, copied from the scratch areas
-// if these hold the whole, else walked again. What the functions tell: specs/AreaTold.antt.
+// if these hold the whole, else walked again. What the functions tell: specs/told/AreaTold.antt.
 ghost use mathlib.Core.Path.{_≡_};
 ghost use Prim.Native.Nat.{_≤_};
 ghost use lib.ListN.{length};
-ghost use Rattle.inputs.specs.Outcomes.{told};
+ghost use Rattle.inputs.specs.told.OutcomesTold.{told};
 ghost use Rattle.declarations.specs.Payload.{payload};
 ghost use Rattle.passes.specs.Answered.{answered};
-ghost use Rattle.passes.specs.AreaTold.{strings, InLimits, lastOf, MeasuredAt, WrittenOut};
+ghost use Rattle.passes.specs.told.AreaTold.{strings, InLimits, lastOf, MeasuredAt, WrittenOut};
 use crate::Measured;
 use crate::walk;
 use inputs::outcome::Outcome;

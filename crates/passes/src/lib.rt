@@ -1,12 +1,12 @@
 // The two passes. d1 is decoded. The first pass walks the body into scratch areas, clipped, and finds refusals 7 to 10 and both lengths; only
-// then are 11 and 12 tested and the lent areas written (areas.rt). What the functions tell: specs/PassTold.antt.
+// then are 11 and 12 tested and the lent areas written (areas.rt). What the functions tell: specs/told/PassTold.antt.
 ghost use mathlib.Core.Path.{_≡_};
 ghost use Rattle.declarations.specs.Payload.{payload};
-ghost use Rattle.declarations.specs.PayloadTold.{LentAt, LentRoom};
-ghost use Rattle.declarations.specs.BodyTold.{BodyTold};
-ghost use Rattle.passes.specs.AreaTold as definition;
-ghost use Rattle.passes.specs.AreaTold.{strings, InLimits};
-ghost use Rattle.passes.specs.PassTold.{FirstTold, PassedTold, FrameRoom, readingOf};
+ghost use Rattle.declarations.specs.told.PayloadTold.{LentAt, LentRoom};
+ghost use Rattle.declarations.specs.told.BodyTold.{BodyTold};
+ghost use Rattle.passes.specs.told.AreaTold as definition;
+ghost use Rattle.passes.specs.told.AreaTold.{strings, InLimits};
+ghost use Rattle.passes.specs.told.PassTold.{FirstTold, PassedTold, FrameRoom, readingOf};
 use areas::write_in;
 use declarations::body::Body;
 use declarations::body::Sections;
@@ -100,34 +100,34 @@ fn measure(
     ensures { λ r. ⌜ FirstTold kind (now (bytes .entry)) (now (d2 .entry)) (now (ends .entry)) (now (notes .exit)) r (now («scratch_sheet» .exit)) (now («scratch_text» .exit)) ⌝ }
 {
     let opened = open_lent(&*bytes, &*d2, &*ends, notes);
-    match opened {
-        Opened::Body { at, tables } => {
-            let body = walk(
-                kind,
-                at,
-                tables,
-                &*bytes,
-                &*d2,
-                &*ends,
-                notes,
-                scratch_sheet,
-                scratch_text,
-            );
-            match body {
-                Body::Done { sections } => FirstPass::Done {
-                    measured: Measured {
-                        at,
-                        tables,
-                        sections,
-                    },
-                },
-                Body::Refused { stop } => FirstPass::Refused { stop },
-            }
-        }
-        Opened::Refused { error } => FirstPass::Refused {
+    let Opened::Body { at, tables } = opened else {
+        let Opened::Refused { error } = opened else {
+            return FirstPass::NoRoom;
+        };
+        return FirstPass::Refused {
             stop: Stop::Wire { error },
+        };
+    };
+    let body = walk(
+        kind,
+        at,
+        tables,
+        &*bytes,
+        &*d2,
+        &*ends,
+        notes,
+        scratch_sheet,
+        scratch_text,
+    );
+    let Body::Done { sections } = body else {
+        return FirstPass::Refused { stop: body.stop() };
+    };
+    FirstPass::Done {
+        measured: Measured {
+            at,
+            tables,
+            sections,
         },
-        Opened::NoRoom => FirstPass::NoRoom,
     }
 }
 
@@ -155,25 +155,27 @@ fn read_in(
         scratch_sheet,
         scratch_text,
     );
-    match first {
-        FirstPass::Done { measured } => Passed::Answered {
-            outcome: write_in(
-                kind,
-                measured,
-                &*bytes,
-                &*d2,
-                &*ends,
-                notes,
-                scratch_sheet,
-                scratch_text,
-                sheet,
-                text,
-            ),
-        },
-        FirstPass::Refused { stop } => Passed::Answered {
+    let FirstPass::Done { measured } = first else {
+        let FirstPass::Refused { stop } = first else {
+            return Passed::NoRoom;
+        };
+        return Passed::Answered {
             outcome: stop_refusal(stop),
-        },
-        FirstPass::NoRoom => Passed::NoRoom,
+        };
+    };
+    Passed::Answered {
+        outcome: write_in(
+            kind,
+            measured,
+            &*bytes,
+            &*d2,
+            &*ends,
+            notes,
+            scratch_sheet,
+            scratch_text,
+            sheet,
+            text,
+        ),
     }
 }
 

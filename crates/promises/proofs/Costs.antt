@@ -22,7 +22,17 @@ use Rattle.declaration_rows.specs.Rows.{argumentRole, typesRows, typeRows, para
 use Rattle.schema.specs.Reading.{Read, lift, keep, kept, Scope, scope, nameIn}
 use Rattle.schema.specs.Types.{declaredType, typeTableIn}
 use Rattle.schema.specs.Members.{named, signatureIn, fieldIn, ofSignature, parameterIn, listIn, constructorIn, functionIn, propertyIn, Head, headIn, listsIn, afterTable, bodyIn}
-use Rattle.schema.specs.Counting.{sizeIfSome, sizeOfAll, sizeOf, typeSize, parameterSize, constructorSize, functionSize, propertySize, declarationsSize}
+use Rattle.schema.specs.told.TypeSizes.{
+  sizeIfSome,
+  sizeOfAll,
+  sizeOf,
+  typeSize,
+  parameterSize,
+  constructorSize,
+  functionSize,
+  propertySize,
+  declarationsSize,
+}
 use Rattle.schema.proofs.Fine.{Reads, reads-pure, reads-lift, reads-bind, reads-ifSome, reads-weaken, reads-kept}
 use Rattle.descriptors.specs.Defaults.{defaultRow, constructorParts, closedConstructor, closedFunction}
 use Rattle.declarations.specs.Payload.{declarationRows}

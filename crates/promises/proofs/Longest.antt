@@ -14,7 +14,7 @@ use Rattle.sheet.specs.Rows.{Row, texts, sheetFrom}
 use Rattle.sheet.proofs.RowLaws.{sheet-length}
 use Rattle.declaration_rows.specs.Declarations.{Declarations}
 use Rattle.schema.specs.Reading.{allowance}
-use Rattle.schema.specs.Counting.{declarationsSize}
+use Rattle.schema.specs.told.TypeSizes.{declarationsSize}
 use Rattle.inputs.specs.Refusals.{numberOf}
 use Rattle.inputs.specs.Inputs.{Input, kindOf}
 use Rattle.inputs.specs.Outcomes.{Answer}

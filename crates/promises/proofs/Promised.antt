@@ -21,7 +21,8 @@ use Rattle.sheet.proofs.RefsInOrder.{RowHas, refs-in-order}
 use Rattle.declaration_rows.specs.Declarations.{Constructor, Function, Declarations}
 use Rattle.schema.specs.Reading.{allowance}
 use Rattle.declaration_rows.specs.Rows.{constructorRows, functionRows, propertyRows}
-use Rattle.schema.specs.Counting.{countKind, constructorSize, functionSize, propertySize, declarationsSize}
+use Rattle.schema.specs.Counting.{countKind}
+use Rattle.schema.specs.told.TypeSizes.{constructorSize, functionSize, propertySize, declarationsSize}
 use Rattle.schema.proofs.Fine.{FineDeclarations}
 use Rattle.schema.proofs.TypeCount.{count-append, count-all, constructor-count, function-count, property-count}
 use Rattle.inputs.specs.Inputs.{Input, kindOf}

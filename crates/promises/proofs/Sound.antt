@@ -19,12 +19,13 @@ use Rattle.encoding.specs.Encoding.{unitLimit, decoded, unpacked, firstAbove255
 use Rattle.wire.specs.Wire.{Message, cut, readDelimited}
 use Rattle.wire.proofs.Readers.{after-shorter, delimited-after}
 use Rattle.wire.proofs.Bounds.{Bounded, cut-bounded}
-use Rattle.characters.specs.WellFormed.{Characters, Units}
+use Rattle.characters.specs.WellFormed.{Units}
+use Rattle.characters.specs.told.CharactersTold.{Characters}
 use Rattle.names.specs.Names.{Names, recordsOf, stringsFrom, d2String}
 use Rattle.names.proofs.ScalarLaws.{string-characters, qualified-characters, d2-characters}
 use Rattle.declaration_rows.specs.Declarations.{Declarations}
 use Rattle.schema.specs.Reading.{allowance}
-use Rattle.schema.specs.Counting.{declarationsSize}
+use Rattle.schema.specs.told.TypeSizes.{declarationsSize}
 use Rattle.schema.proofs.Fine.{NamesFine, FineDeclarations, body-fine}
 use Rattle.schema.proofs.TypeCount.{body-enters}
 use Rattle.inputs.specs.Inputs.{Input, kindOf, carriesDeclarations, laterFault, faultOf}

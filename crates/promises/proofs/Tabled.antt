@@ -10,7 +10,8 @@ use Rattle.foundation.specs.Choices.{mapOption, concat, All, IfSome}
 use Rattle.foundation.specs.Texts.{Text}
 use Rattle.foundation.proofs.ChoiceLaws.{all-append, all-concat, all-map}
 use Rattle.characters.specs.Characters.{utf8}
-use Rattle.characters.specs.WellFormed.{Characters, WellFormed}
+use Rattle.characters.specs.WellFormed.{WellFormed}
+use Rattle.characters.specs.told.CharactersTold.{Characters}
 use Rattle.characters.proofs.Utf8Laws.{utf8-well-formed}
 use Rattle.sheet.specs.Rows.{bit, Row}
 use Rattle.sheet.proofs.ReadBack.{InTable, bit-fits}

@@ -15,12 +15,28 @@ use Rattle.characters.specs.Characters.{utf8, fromUtf8}
 use Rattle.sheet.specs.Rows.{bit, Row}
 use Rattle.declaration_rows.specs.Declarations.{Types, noTypes, andType, Ty, countOf, Signature, Parameter, Constructor, Function, Property, Declarations, signed}
 use Rattle.declaration_rows.specs.Rows.{returnRole, receiverRole, parameterRole, varargRole, argumentRole, typesRows, typeRows, parameterRows, parametersRows, constructorRows, functionRows, propertyRows}
-use Rattle.characters.specs.WellFormed.{Characters}
+use Rattle.characters.specs.told.CharactersTold.{Characters}
 use Rattle.characters.proofs.Utf8Laws.{utf8-back}
 use Rattle.schema.proofs.Fine.{Named, FineTypes, FineTy, FineParameter, FineSignature, FineConstructor, FineFunction, FineProperty, FineDeclarations}
 use Rattle.descriptors.specs.Defaults.{functionParts, constructorParts, descriptor, defaultRow, closedConstructor, closedFunction}
 use Rattle.declarations.specs.Payload.{declarationRows}
-use Rattle.promises.specs.Walk.{numOf, walked, Walker, times, isType, walkTypes, walkType, walkParameter, walkConstructor, walkFunction, walkProperty, walkSheet, closedOf, closedFunctionOf, sheetOf}
+use Rattle.promises.specs.Walk.{
+  numOf,
+  takenRows,
+  Walker,
+  times,
+  isType,
+  walkTypes,
+  walkType,
+  walkParameter,
+  walkConstructor,
+  walkFunction,
+  walkProperty,
+  walkSheet,
+  closedOf,
+  closedFunctionOf,
+  sheetOf,
+}
 
 one-bit : (b : Bool) → eqb (numOf (bit b)) 1 ≡ b
 one-bit true = refl
@@ -32,7 +48,7 @@ text-back (some t) h = ap some (utf8-back t h)
 
 -- k rows of types are enough steps
 types-walked : (k role : ℕ) (ts : Types) (rest : List Row) → FineTypes ts → length (typesRows role ts) ≤ k
-    → walkTypes k role (countOf ts) (typesRows role ts ++ rest) ≡ some (walked ts rest)
+    → walkTypes k role (countOf ts) (typesRows role ts ++ rest) ≡ some (takenRows ts rest)
 unfolding typesRows walkTypes
 types-walked zero role noTypes rest f h = refl
 types-walked (suc k) role noTypes rest f h = refl
@@ -52,7 +68,7 @@ abbrev Apart : ℕ → List Row → Type 0
 Apart role [] = Unit {0}
 Apart role (r ∷ rows) = isType role r ≡ false
 
-type-walked : (role : ℕ) (t : Option Ty) (rest : List Row) → IfSome FineTy t → Apart role rest → walkType role (typeRows role t ++ rest) ≡ some (walked t rest)
+type-walked : (role : ℕ) (t : Option Ty) (rest : List Row) → IfSome FineTy t → Apart role rest → walkType role (typeRows role t ++ rest) ≡ some (takenRows t rest)
 unfolding walkType typesRows
 type-walked role none [] f h = refl
 type-walked role none (r ∷ rest) f h = rw h
@@ -70,7 +86,7 @@ apart-from role other (some t) rest e h = e
 abbrev PastParameter : List Row → Type 0
 PastParameter rows = Apart parameterRole rows × Apart varargRole rows
 
-parameter-walked : (p : Parameter) (rest : List Row) → FineParameter p → PastParameter rest → walkParameter (parameterRows p ++ rest) ≡ some (walked p rest)
+parameter-walked : (p : Parameter) (rest : List Row) → FineParameter p → PastParameter rest → walkParameter (parameterRows p ++ rest) ≡ some (takenRows p rest)
 unfolding walkParameter parameterRows
 parameter-walked p rest f h =
     let vararg = type-walked varargRole (p .varargElement) rest (f .varargElement) (h .1) in
@@ -80,14 +96,14 @@ parameter-walked p rest f h =
 
 -- a list announced by its count: each of its members is walked where another, or what follows the list, stands next
 module _ {A B : Type 0} (w : Walker B) (given : A → B) (rows : A → List Row) (Good : A → Type 0) (Next : List Row → Type 0)
-    (one : (a : A) (rest : List Row) → Good a → Next rest → w (rows a ++ rest) ≡ some (walked (given a) rest))
+    (one : (a : A) (rest : List Row) → Good a → Next rest → w (rows a ++ rest) ≡ some (takenRows (given a) rest))
     (next : (a : A) (rest : List Row) → Next (rows a ++ rest)) where
   list-next : (xs : List A) (rest : List Row) → Next rest → Next (concat (map rows xs) ++ rest)
   list-next [] rest h = h
   list-next (x ∷ xs) rest h = subst Next (sym (append-assoc (rows x) (concat (map rows xs)) rest)) (next x (concat (map rows xs) ++ rest))
 
   list-walked : (xs : List A) (rest : List Row) → All Good xs → Next rest
-      → times (length xs) w (concat (map rows xs) ++ rest) ≡ some (walked (map given xs) rest)
+      → times (length xs) w (concat (map rows xs) ++ rest) ≡ some (takenRows (map given xs) rest)
   unfolding times
   list-walked [] rest g h = refl
   list-walked (x ∷ xs) rest g h =
@@ -103,10 +119,10 @@ unfolding parameterRows
 parameter-begins p rest = (refl, refl)
 
 parameters-walked : (ps : List Parameter) (rest : List Row) → All FineParameter ps → PastParameter rest
-    → times (length ps) walkParameter (parametersRows ps ++ rest) ≡ some (walked ps rest)
+    → times (length ps) walkParameter (parametersRows ps ++ rest) ≡ some (takenRows ps rest)
 parameters-walked ps rest f h =
     list-walked walkParameter (λ p. p) parameterRows FineParameter PastParameter parameter-walked parameter-begins ps rest f h
-    ∙ ap (λ (l : List Parameter). some (walked l rest)) (map-same ps)
+    ∙ ap (λ (l : List Parameter). some (takenRows l rest)) (map-same ps)
 
 signature-back : (s : Option Signature) → IfSome FineSignature s
     → bothOf signed (mapOption fromUtf8 (mapOption utf8 (mapOption (λ t. t .name) s))) (mapOption fromUtf8 (mapOption utf8 (mapOption (λ t. t .descriptor) s))) ≡ s
@@ -118,7 +134,7 @@ abbrev Anything : List Row → Type 0
 Anything rows = Unit {0}
 
 constructor-walked : (c : Constructor) (rest : List Row) → FineConstructor c → Anything rest
-    → walkConstructor (closedConstructor c ++ rest) ≡ some (walked (closedOf c) rest)
+    → walkConstructor (closedConstructor c ++ rest) ≡ some (takenRows (closedOf c) rest)
 unfolding walkConstructor closedConstructor constructorRows
 constructor-walked c rest f h =
     let closing = defaultRow (constructorParts c) in
@@ -126,7 +142,7 @@ constructor-walked c rest f h =
     rw (append-assoc (parametersRows (c .parameters)) (closing ∷ []) rest, parameters, signature-back (c .signature) (f .signature))
 
 function-walked : (g : Function) (rest : List Row) → FineFunction g → Anything rest
-    → walkFunction (closedFunction g ++ rest) ≡ some (walked (closedFunctionOf g) rest)
+    → walkFunction (closedFunction g ++ rest) ≡ some (takenRows (closedFunctionOf g) rest)
 unfolding walkFunction closedFunction functionRows
 function-walked g rest f h =
     let closing = defaultRow (functionParts g) in
@@ -157,7 +173,7 @@ function-walked g rest f h =
 abbrev PastProperty : List Row → Type 0
 PastProperty rows = Apart receiverRole rows × Apart returnRole rows
 
-property-walked : (p : Property) (rest : List Row) → FineProperty p → PastProperty rest → walkProperty (propertyRows p ++ rest) ≡ some (walked p rest)
+property-walked : (p : Property) (rest : List Row) → FineProperty p → PastProperty rest → walkProperty (propertyRows p ++ rest) ≡ some (takenRows p rest)
 unfolding walkProperty propertyRows
 property-walked p rest f h =
     let type = type-walked returnRole (p .type) rest (f .type) (h .1) in
@@ -181,7 +197,7 @@ unfolding propertyRows
 property-begins p rest = (refl, refl)
 
 -- the whole sheet, to its last row
-pub sheet-walked : (kind : ℕ) (d : Declarations) → FineDeclarations d → walkSheet (declarationRows kind d) ≡ some (walked (sheetOf kind d) [])
+pub sheet-walked : (kind : ℕ) (d : Declarations) → FineDeclarations d → walkSheet (declarationRows kind d) ≡ some (takenRows (sheetOf kind d) [])
 unfolding walkSheet declarationRows
 sheet-walked kind d f =
     let cs = concat (map closedConstructor (d .constructors)) in

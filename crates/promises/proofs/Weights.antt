@@ -17,7 +17,7 @@ use Rattle.wire.specs.Wire.{Value, varint, fixed, body, Field, field, Message, 
 use Rattle.wire.specs.Messages.{values, firstOf, asVarint, as32, varintOf, index, bodiesOf, cutAll, messages}
 use Rattle.wire.proofs.Readers.{after-shorter, varint-after, bytes-after}
 use Rattle.wire.proofs.Progress.{every-gives}
-use Rattle.schema.specs.Counting.{sizeOfAll}
+use Rattle.schema.specs.told.TypeSizes.{sizeOfAll}
 
 -- a field's tag takes a byte at least, and so does its value, or its body's length
 abbrev pub takes : Value → ℕ

@@ -19,9 +19,9 @@ abbrev pub numOf : Cell → ℕ
 numOf (num w n) = n
 numOf (ref t) = 0
 
-abbrev pub textOf : Cell → Option (List ℕ)
-textOf (num w n) = none
-textOf (ref t) = t
+abbrev pub refText : Cell → Option (List ℕ)
+refText (num w n) = none
+refText (ref t) = t
 
 -- the number in cell i, counted from 0
 abbrev pub numAt : ℕ → Row → ℕ
@@ -32,24 +32,24 @@ oneAt i r = eqb (numAt i r) 1
 
 -- the bytes of the text in cell i
 abbrev pub bytesAt : ℕ → Row → Option (List ℕ)
-bytesAt i r = ifSome (getElem? (r .body) i) none textOf
+bytesAt i r = ifSome (getElem? (r .body) i) none refText
 
 abbrev pub textAt : ℕ → Row → Option Text
 textAt i r = mapOption fromUtf8 (bytesAt i r)
 
 -- what was taken, and the rows after it
-pub record Walked (A : Type 0) : Type 0 where
+pub record TakenRows (A : Type 0) : Type 0 where
   pub it : A
   pub rest : List Row
 
-abbrev pub walked : {A : Type 0} → A → List Row → Walked A
-walked a rows = record { it = a; rest = rows }
+abbrev pub takenRows : {A : Type 0} → A → List Row → TakenRows A
+takenRows a rows = record { it = a; rest = rows }
 
 abbrev pub Walker : Type 0 → Type 0
-Walker A = List Row → Option (Walked A)
+Walker A = List Row → Option (TakenRows A)
 
 abbrev pub give : {A : Type 0} → A → Walker A
-give a rows = some (walked a rows)
+give a rows = some (takenRows a rows)
 
 infixl 20 _>>=_
 abbrev pub _>>=_ : {A B : Type 0} → Walker A → (A → Walker B) → Walker B
@@ -58,7 +58,7 @@ _>>=_ w f rows = ifSome (w rows) none λ t. f (t .it) (t .rest)
 -- the next record, which must be of that kind
 abbrev pub takeKind : ℕ → Walker Row
 takeKind kind [] = none
-takeKind kind (r ∷ rows) = if eqb (r .kind) kind then some (walked r rows) else none
+takeKind kind (r ∷ rows) = if eqb (r .kind) kind then some (takenRows r rows) else none
 
 -- what must be there
 abbrev pub present : {A : Type 0} → Option A → Walker A
@@ -75,7 +75,7 @@ isType role r = eqb (r .kind) 6 && eqb (numAt 0 r) role
 
 -- n types of that role, each followed by as many arguments as it announces
 abbrev pub walkStep : (ℕ → ℕ → Walker Types) → ℕ → ℕ → Walker Types
-walkStep inner role zero rows = some (walked noTypes rows)
+walkStep inner role zero rows = some (takenRows noTypes rows)
 walkStep inner role (suc n) [] = none
 walkStep inner role (suc n) (r ∷ rows) =
     let inside = inner argumentRole (numAt 3 r) >>= λ arguments.
@@ -93,10 +93,10 @@ firstType (andType nullable name arguments after) = some (record { nullable = nu
 
 -- the type of that role, if one stands next; each type takes a row
 unfoldable pub walkType : ℕ → Walker (Option Ty)
-walkType role [] = some (walked none [])
+walkType role [] = some (takenRows none [])
 walkType role (r ∷ rows) =
-    let there = mapOption (λ t. walked (firstType (t .it)) (t .rest)) (walkTypes (suc (length rows)) role 1 (r ∷ rows)) in
-    if isType role r then there else some (walked none (r ∷ rows))
+    let there = mapOption (λ t. takenRows (firstType (t .it)) (t .rest)) (walkTypes (suc (length rows)) role 1 (r ∷ rows)) in
+    if isType role r then there else some (takenRows none (r ∷ rows))
 
 -- name and descriptor in two cells
 abbrev pub signatureAt : ℕ → Row → Option Signature

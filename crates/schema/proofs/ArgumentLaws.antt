@@ -7,7 +7,7 @@ use lib.ListN.{length}
 use Rattle.sheet.specs.Rows.{Row, row}
 use Rattle.declaration_rows.specs.Declarations.{Ty, typesOf, countOf}
 use Rattle.declaration_rows.specs.Rows.{argumentRole, typeCells, typesRows}
-use Rattle.schema.specs.TypesTold.{rowsIn}
+use Rattle.schema.specs.told.TypesTold.{rowsIn}
 
 -- The rows of a type and of those after it, and how many they are.
 pub types-cons : (role : ℕ) (t : Ty) (ts : List Ty) → rowsIn role t ++ typesRows role (typesOf ts) ≡ typesRows role (typesOf (t ∷ ts))

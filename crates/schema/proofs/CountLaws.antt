@@ -7,13 +7,13 @@ use native.Mathlib.Omega.{arith}
 use lib.ListN.{length}
 use Rattle.foundation.specs.Choices.{All}
 use Rattle.sheet.specs.Rows.{Cell}
-use Rattle.sheet.specs.Put.{PutHead, past}
+use Rattle.sheet.specs.told.Put.{PutHead, past}
 use Rattle.sheet.specs.declared.State.{State}
 use Rattle.sheet.proofs.PutLaws.{put-types}
-use Rattle.declaration_rows.specs.Written as written
-use Rattle.declaration_rows.specs.Written.{cellLimit}
-use Rattle.schema.specs.Told.{Ready, Spends}
-use Rattle.schema.specs.MembersTold.{Affords, Within, PickedWithin, ListedWithin}
+use Rattle.declaration_rows.specs.told.Written as written
+use Rattle.declaration_rows.specs.told.Written.{cellLimit}
+use Rattle.schema.specs.told.SchemaTold.{Ready, Spends}
+use Rattle.schema.specs.told.MembersTold.{Affords, Within, PickedWithin, ListedWithin}
 use Rattle.schema.specs.declared.Listed.{Listed}
 use Rattle.schema.specs.declared.Listed.the-variants as listed
 use Rattle.schema.specs.declared.Picked.{Picked}

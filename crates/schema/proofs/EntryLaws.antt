@@ -12,16 +12,16 @@ use Rattle.foundation.specs.Results.{Res, ok}
 use Rattle.foundation.specs.Texts.{Text}
 use Rattle.foundation.proofs.PresenceLaws.{elem-none, elem-there}
 use Rattle.wire.specs.Wire.{Message}
-use Rattle.messages.specs.Asked.{indexTold}
+use Rattle.messages.specs.told.Asked.{indexTold}
 use Rattle.wire.specs.declared.Piece.{Piece}
 use Rattle.wire.specs.declared.Piece.the-variants as piece
 use Rattle.messages.specs.declared.Indexed.{Indexed}
 use Rattle.messages.specs.declared.Indexed.the-variants as indexed
-use Rattle.names.specs.Index.{startOf, endOf}
+use Rattle.names.specs.told.Index.{startOf, endOf}
 use Rattle.names.specs.Names.{Names, stringsFrom, d2String}
 use Rattle.schema.specs.Reading.{pure, lift}
-use Rattle.schema.specs.Told.{EntryAt, EntriesOf, NamesOf}
-use Rattle.schema.specs.TypesTold.{EntryInside, EntryBelow, EntryTold}
+use Rattle.schema.specs.told.SchemaTold.{EntryAt, EntriesOf, NamesOf}
+use Rattle.schema.specs.told.TypesTold.{EntryInside, EntryBelow, EntryTold}
 
 module _ (payload notes : List ℕ) (first count i : ℕ) {j : ℕ} (e : j ≡ i) where
   pub entry-past : count ≤ j → EntryTold payload (drop first notes) count i piece.Nothing

@@ -19,7 +19,7 @@ use Rattle.wire.specs.Wire.{Message}
 use Rattle.wire.specs.Messages.{varintOf, index, message, messages}
 use Rattle.wire.proofs.Bounds.{Bounded, varintOf-below, message-bounded, messages-bounded}
 use Rattle.characters.specs.Characters.{isScalar}
-use Rattle.characters.specs.WellFormed.{Characters}
+use Rattle.characters.specs.told.CharactersTold.{Characters}
 use Rattle.names.specs.Names.{Names, string, qualifiedName}
 use Rattle.declaration_rows.specs.Declarations.{Types, noTypes, andType, Ty, typesOf, countOf, Signature, Parameter, Constructor, Function, Property, Declarations, signed}
 use Rattle.schema.specs.Reading.{Read, pure, _>>=_, lift, enter, keep, kept, Scope, scope, nameIn, classNameIn, allowance}

@@ -4,7 +4,7 @@ use mathlib.Core.Path.{_≡_}
 use mathlib.Core.Option.{Option}
 use Prim.Native.Nat.{ℕ}
 use Rattle.foundation.specs.Choices.{ifSome}
-use Rattle.messages.specs.Asked.{numberTold}
+use Rattle.messages.specs.told.Asked.{numberTold}
 use Rattle.wire.specs.declared.Number.{Number}
 use Rattle.wire.specs.declared.Number.the-variants as number
 

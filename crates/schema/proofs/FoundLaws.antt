@@ -13,8 +13,8 @@ use Rattle.foundation.specs.Results.{Res, ok, refused, Part, _from_}
 use Rattle.fields.specs.Fields.{Type·argument, Type·Argument·type, Type·Argument·type-id}
 use Rattle.wire.specs.Wire.{Message, cut}
 use Rattle.wire.specs.Messages.{index, cutOption, message, messages, cutAll}
-use Rattle.wire.specs.Told.{restOf, bodyOf}
-use Rattle.messages.specs.Asked.{pieceTold, PieceInside, BytesTold, indexTold, bodies, NextIs, NextTold, PieceAfter}
+use Rattle.wire.specs.told.WireTold.{restOf, partBetween}
+use Rattle.messages.specs.told.Asked.{pieceTold, PieceInside, BytesTold, indexTold, bodies, NextIs, NextBodyTold, PieceAfter}
 use Rattle.wire.specs.declared.Piece.{Piece}
 use Rattle.wire.specs.declared.Piece.the-variants as piece
 use Rattle.messages.specs.declared.Indexed.{Indexed}
@@ -23,9 +23,9 @@ use Rattle.wire.proofs.WalkLaws.{whole, ok-same}
 use Rattle.declaration_rows.specs.Declarations.{Ty}
 use Rattle.schema.specs.Reading.{Read, pure, keep, kept, Scope, allowance}
 use Rattle.schema.specs.Types.{maxDepth, typeIn, argumentIn, typeAt, declaredType}
-use Rattle.schema.specs.Told.{EntryAt, Stands, entriesIn}
-use Rattle.schema.specs.TypesTold.{orNullable, EntryIs, EntryInside, EntryTold}
-use Rattle.schema.specs.PlacesTold.{TableOf, FoundTypeTold, FoundTypeFalls, EntryFound, PlaceFound, firstOf, DeclaredFound, ArgumentFound}
+use Rattle.schema.specs.told.SchemaTold.{EntryAt, Stands, entriesIn}
+use Rattle.schema.specs.told.TypesTold.{orNullable, EntryIs, EntryInside, EntryTold}
+use Rattle.schema.specs.told.PlacesTold.{TableOf, FoundTypeTold, FoundTypeFalls, EntryFound, PlaceFound, headType, DeclaredFound, ArgumentFound}
 use Rattle.schema.specs.declared.Tables.{Tables}
 use Rattle.schema.specs.declared.FoundType.{FoundType}
 use Rattle.schema.specs.declared.FoundType.the-variants as found
@@ -119,7 +119,7 @@ module _ (payload notes : List ℕ) (tables : Tables) (msg : List ℕ) (base inl
       → PlaceFound payload notes tables base (base + length msg) inline byIndex left (found.Type (base + a) (base + b) false left)
   place-inline {a} {b} g =
       let i = place-in g in
-      let body = bodyOf base msg a b in
+      let body = partBetween base msg a b in
       record {
         inside = (omega arith, omega (arith, st .inside));
         falls = (omega arith, omega arith);
@@ -188,7 +188,7 @@ pub record Passed (f : Message → Read (Option Ty)) (base : ℕ) (msg : List �
   pub given : kept f others before ≡ ok (ts, after)
 
 module _ (f : Message → Read (Option Ty)) (base : ℕ) (msg : List ℕ) (at : ℕ) (ts : List Ty) (g : Passed f base msg at ts) {x : Piece}
-    (t : NextTold base msg Type·argument at x) where
+    (t : NextBodyTold base msg Type·argument at x) where
   pub next-is : {y : Piece} → x ≡ y → NextIs base msg Type·argument (g .rest) y
   next-is e = subst (NextIs base msg Type·argument (g .rest)) e (t .is (g .rest) (g .cuts))
 
@@ -199,16 +199,16 @@ module _ (f : Message → Read (Option Ty)) (base : ℕ) (msg : List ℕ) (at : 
       sym (first-same (ap (λ (ms : List Message). kept f ms (g .before)) (sym none-left) ∙ g .given))
 
   module _ {a b : ℕ} (e : x ≡ piece.Body a b) where
-    pub next : First (bodyOf base msg a b) (bodies Type·argument (next-is e .0)) (g .others)
-    next = cut-first (bodyOf base msg a b) (bodies Type·argument (next-is e .0)) (g .others) (ap cutAll (sym (next-is e .2)) ∙ g .many)
+    pub next : First (partBetween base msg a b) (bodies Type·argument (next-is e .0)) (g .others)
+    next = cut-first (partBetween base msg a b) (bodies Type·argument (next-is e .0)) (g .others) (ap cutAll (sym (next-is e .2)) ∙ g .many)
 
     pub next-given : Kept f (next .first) (next .others) (g .before) ts
     next-given =
         kept-given f (next .first) (next .others) (g .before) ts (g .after)
         (ap (λ (ms : List Message). kept f ms (g .before)) (sym (next .are)) ∙ g .given)
 
-    passed-kept : {ty : Ty} → next-given .it ≡ some ty → firstOf ts ≡ some ty
-    passed-kept h = ap firstOf (next-given .are) ∙ ap (λ (o : Option Ty). firstOf (keep o (next-given .others))) h
+    passed-kept : {ty : Ty} → next-given .it ≡ some ty → headType ts ≡ some ty
+    passed-kept h = ap headType (next-given .are) ∙ ap (λ (o : Option Ty). headType (keep o (next-given .others))) h
 
     passed-dropped : next-given .it ≡ none → Passed f base msg b ts
     passed-dropped h =
@@ -245,13 +245,13 @@ module _ (payload notes : List ℕ) (tables : Tables) (msg : List ℕ) (base lef
     };
   }
 
-  module _ (at : ℕ) (g : Seeking payload notes tables msg base left at) {x : Piece} (t : NextTold base msg Type·argument at x) where
+  module _ (at : ℕ) (g : Seeking payload notes tables msg base left at) {x : Piece} (t : NextBodyTold base msg Type·argument at x) where
     pub seeking-end : x ≡ piece.Nothing → ArgumentFound payload notes tables base (base + length msg) left found.Nothing
     seeking-end q = record {
       inside = tt;
       falls = tt;
       is = λ c s m a ms h d deep ts l b e.
-          ap firstOf (passed-all (argumentIn (typeAt allowance c) c d) base msg at ts (g .passed c s m a ms h d deep ts l b e) t q);
+          ap headType (passed-all (argumentIn (typeAt allowance c) c d) base msg at ts (g .passed c s m a ms h d deep ts l b e) t q);
     }
 
     module _ {a b : ℕ} (q : x ≡ piece.Body a b) where
@@ -284,8 +284,8 @@ module _ (payload notes : List ℕ) (tables : Tables) (msg : List ℕ) (base lef
               let f = argumentIn (typeAt allowance c) c d in
               let k = g .passed c s m h ms i d deep ts l n j in
               let it = subst (FoundTypeTold payload c (next-given f base msg at ts k t q .it)) e (argument-found c s d deep ts k) in
-              let told : FoundTypeTold payload c (firstOf ts) (found.Type u v nullable w) = (it .0, it .1, passed-kept f base msg at ts k t q (it .2)) in
-              subst (FoundTypeTold payload c (firstOf ts)) (sym e) told;
+              let told : FoundTypeTold payload c (headType ts) (found.Type u v nullable w) = (it .0, it .1, passed-kept f base msg at ts k t q (it .2)) in
+              subst (FoundTypeTold payload c (headType ts)) (sym e) told;
         }
 
         pub seeking-on : r ≡ found.Nothing → Seeking payload notes tables msg base left b

@@ -13,8 +13,8 @@ use Rattle.foundation.specs.Results.{ok, Part, _from_}
 use Rattle.fields.specs.Fields.{Type·argument, Type·nullable, Type·class-name}
 use Rattle.wire.specs.Wire.{Value, field, readField, Message, cut}
 use Rattle.wire.specs.Messages.{values, firstOf, asVarint, as32, varintOf, index, flag, bodiesOf, cutAll, messages}
-use Rattle.wire.specs.Told.{restOf, valueOf, FieldTold, numberOf, pieceOf}
-use Rattle.messages.specs.Asked.{numberTold, pieceTold, indexTold, bodies}
+use Rattle.wire.specs.told.WireTold.{restOf, valueOf, FieldTold, valueNumber, pieceOf}
+use Rattle.messages.specs.told.Asked.{numberTold, pieceTold, indexTold, bodies}
 use Rattle.wire.specs.declared.WireError.{WireError}
 use Rattle.wire.specs.declared.WireValue.{WireValue}
 use Rattle.wire.specs.declared.FieldStep.{FieldStep}
@@ -25,7 +25,7 @@ use Rattle.messages.specs.declared.Indexed.{Indexed}
 use Rattle.messages.specs.declared.Indexed.the-variants as indexed
 use Rattle.wire.proofs.WalkLaws.{Leads, leads-start, leads-next, leads-never, leads-end, values-found, values-passed}
 use Rattle.messages.proofs.FindLaws.{as-number, as-piece}
-use Rattle.schema.specs.HeadTold.{isBody, anyOf, NameKnown, FlagKnown, ArgumentsKnown, Known, HeadTold}
+use Rattle.schema.specs.told.HeadTold.{isBody, anyOf, NameKnown, FlagKnown, ArgumentsKnown, Known, HeadTold}
 use Rattle.schema.specs.declared.head.Seen.{Seen}
 use Rattle.schema.specs.declared.head.TypeHead.{TypeHead}
 
@@ -47,7 +47,7 @@ module _ (k : ℕ) {n : ℕ} (v : Value) (m : Message) (h : n ≡ k → ⊥) whe
   bodies-passed = ap bodiesOf (values-passed k v m h)
 
 module _ (k base : ℕ) (s : List ℕ) (v : WireValue) (m : Message) where
-  varint-first : varintOf k (field k (valueOf base s v) ∷ m) ≡ numberTold (numberOf v)
+  varint-first : varintOf k (field k (valueOf base s v) ∷ m) ≡ numberTold (valueNumber v)
   unfolding varintOf
   varint-first = ap (λ (vs : List Value). ifSome (firstOf vs) none asVarint) (values-found k (valueOf base s v) m refl) ∙ as-number base s v
 
@@ -158,7 +158,7 @@ module _ (x : Seen) (v : WireValue) (base : ℕ) (s : List ℕ) (m rest : Messag
     }
 
     pub known-name : x .named ≡ false → (y : Indexed)
-        → ((k : ℕ) (m : Message) → varintOf k m ≡ numberTold (numberOf v) → index k m ≡ indexTold y)
+        → ((k : ℕ) (m : Message) → varintOf k m ≡ numberTold (valueNumber v) → index k m ≡ indexTold y)
         → Known (record { named = true; name = y; flagged = x .flagged; nullable = x .nullable; arguments = x .arguments }) m rest
     known-name h y t =
         let here = field Type·class-name (valueOf base s v) ∷ rest in
@@ -183,7 +183,7 @@ module _ (x : Seen) (v : WireValue) (base : ℕ) (s : List ℕ) (m rest : Messag
     }
 
     pub known-flag : x .flagged ≡ false → (y : Bool)
-        → ((k : ℕ) (m : Message) → varintOf k m ≡ numberTold (numberOf v) → flag k m ≡ y)
+        → ((k : ℕ) (m : Message) → varintOf k m ≡ numberTold (valueNumber v) → flag k m ≡ y)
         → Known (record { named = x .named; name = x .name; flagged = true; nullable = y; arguments = x .arguments }) m rest
     known-flag h y t =
         let here = field Type·nullable (valueOf base s v) ∷ rest in

@@ -12,8 +12,8 @@ use Rattle.foundation.specs.Results as Results
 use Rattle.foundation.specs.Results.{Res, ok, refused, Part, _from_}
 use Rattle.wire.specs.Wire.{Message, cut}
 use Rattle.wire.specs.Messages.{cutAll, messages}
-use Rattle.wire.specs.Told.{restOf, bodyOf}
-use Rattle.messages.specs.Asked.{CheckedTold, bodies, NextIs, NextTold, PieceInside, PieceBegins}
+use Rattle.wire.specs.told.WireTold.{restOf, partBetween}
+use Rattle.messages.specs.told.Asked.{CheckedTold, bodies, NextIs, NextBodyTold, PieceInside, PieceBegins}
 use Rattle.wire.specs.declared.WireError.{WireError}
 use Rattle.messages.specs.declared.Checked.{Checked}
 use Rattle.messages.specs.declared.Checked.the-variants as checked
@@ -21,14 +21,14 @@ use Rattle.wire.specs.declared.Piece.{Piece}
 use Rattle.wire.specs.declared.Piece.the-variants as piece
 use Rattle.wire.proofs.WalkLaws.{whole, ok-same}
 use Rattle.sheet.specs.Rows.{Row, sheetFrom, texts}
-use Rattle.sheet.specs.Put.{PutRows}
+use Rattle.sheet.specs.told.Put.{PutRows}
 use Rattle.sheet.specs.declared.State.{State}
 use Rattle.sheet.proofs.PutLaws.{put-none, put-types, rows-then}
 use Rattle.schema.specs.Reading.{Read, keep, kept, Scope}
 use Rattle.schema.specs.Members.{listIn}
-use Rattle.schema.specs.Told.{Lent, Scoped, PickedTold, refusal}
-use Rattle.schema.specs.MembersTold.{Affords, Within, ListedTold, MemberTold, ListTold}
-use Rattle.schema.specs.ListsTold.{ListAtTold}
+use Rattle.schema.specs.told.SchemaTold.{Lent, Scoped, PickedTold, stopRefused}
+use Rattle.schema.specs.told.MembersTold.{Affords, Within, ListedTold, MemberTold, ListTold}
+use Rattle.schema.specs.told.ListsTold.{ListAtTold}
 use Rattle.schema.specs.declared.Stop.{Stop}
 use Rattle.schema.specs.declared.Stop.the-variants as stop
 use Rattle.schema.specs.declared.Listed.{Listed}
@@ -76,7 +76,7 @@ pub record Going {A : Type 0} (f : Message → Read (Option A)) (rows : A → Li
   pub left : List Message
   pub cuts : cut (restOf base msg at) ≡ ok rest
   pub many : cutAll (bodies number rest) ≡ ok left
-  pub stopped : (stop : Stop) → kept f left (s .types) ≡ refusal stop → kept f all (s₀ .types) ≡ refusal stop
+  pub stopped : (stop : Stop) → kept f left (s .types) ≡ stopRefused stop → kept f all (s₀ .types) ≡ stopRefused stop
   pub done : (xs : List A) (b : ℕ) (s′ : State) (S′ T′ : List ℕ) → kept f left (s .types) ≡ ok (xs, b)
       → PutRows (concat (map rows xs)) b s s′ S S′ T T′
       → ListedTold (kept f all (s₀ .types)) rows s₀ (listed.Done s′ (count + length xs)) S₀ S′ T₀ T′
@@ -98,7 +98,7 @@ module _ {A : Type 0} (f : Message → Read (Option A)) (rows : A → List Row) 
     done = λ xs b s′ S′ T′ e p. (xs, b, e, zero-add (length xs), p);
   }
 
-  module _ (at count : ℕ) (s : State) (S T : List ℕ) (g : Going f rows number all s₀ S₀ T₀ base msg at count s S T) {x : Piece} (t : NextTold base msg number at x) where
+  module _ (at count : ℕ) (s : State) (S T : List ℕ) (g : Going f rows number all s₀ S₀ T₀ base msg at count s S T) {x : Piece} (t : NextBodyTold base msg number at x) where
     next-is : {y : Piece} → x ≡ y → NextIs base msg number (g .rest) y
     next-is e = subst (NextIs base msg number (g .rest)) e (t .is (g .rest) (g .cuts))
 
@@ -113,22 +113,22 @@ module _ {A : Type 0} (f : Message → Read (Option A)) (rows : A → List Row) 
       the-rest : Message
       the-rest = next-is e .0
 
-      first : First (bodyOf base msg a b) (bodies number the-rest) (g .left)
+      first : First (partBetween base msg a b) (bodies number the-rest) (g .left)
       unfolding the-rest
-      first = cut-first (bodyOf base msg a b) (bodies number (next-is e .0)) (g .left) (ap cutAll (sym (next-is e .2)) ∙ g .many)
+      first = cut-first (partBetween base msg a b) (bodies number (next-is e .0)) (g .left) (ap cutAll (sym (next-is e .2)) ∙ g .many)
 
       -- what the next member is read from
       pub member : Message
       member = first .first
 
-      pub member-cuts : cut (bodyOf base msg a b) ≡ ok member
+      pub member-cuts : cut (partBetween base msg a b) ≡ ok member
       unfolding member
       member-cuts = first .cuts
 
       left-is : (n : ℕ) → kept f (g .left) n ≡ kept f (first .first ∷ first .others) n
       left-is n = ap (λ (l : List Message). kept f l n) (first .are)
 
-      pub going-refused : (stop : Stop) → f member (s .types) ≡ refusal stop → kept f all (s₀ .types) ≡ refusal stop
+      pub going-refused : (stop : Stop) → f member (s .types) ≡ stopRefused stop → kept f all (s₀ .types) ≡ stopRefused stop
       unfolding member
       going-refused stop h = g .stopped stop (left-is (s .types) ∙ kept-refused f (first .first) (first .others) (s .types) h)
 
@@ -195,7 +195,7 @@ module _ {A : Type 0} {read : Scope → Message → Read (Option A)} {rows : A �
   }
 
   module _ {at count : ℕ} {s : State} {S T : List ℕ} (g : Looping read rows unit e msg base number s₀ S₀ T₀ at count s S T) {x : Piece}
-      (t : NextTold base msg number at x) where
+      (t : NextBodyTold base msg number at x) where
     pub loop-end : x ≡ piece.Nothing → ListAtTold read rows (unit * length msg) e msg base number s₀ (listed.Done s count) S₀ S T₀ T
     loop-end q = record {
       spends = within-less (unit * length msg) (mul-le-mul-left unit (g .inside)) (g .spends);
@@ -216,7 +216,7 @@ module _ {A : Type 0} {read : Scope → Message → Read (Option A)} {rows : A �
             affords-after h cost (g .spends) (omega arith)
 
         module _ {r : Picked} {S′ T′ : List ℕ} (u : MemberTold read rows cost e (take (b - a) (drop a msg)) (base + a) s r S S′ T T′) where
-          member-is : (c : Scope) → Scoped e c → (m : Message) → cut (bodyOf base msg a b) ≡ ok m → {y : Picked} → r ≡ y
+          member-is : (c : Scope) → Scoped e c → (m : Message) → cut (partBetween base msg a b) ≡ ok m → {y : Picked} → r ≡ y
               → PickedTold (read c m (s .types)) rows s y S S′ T T′
           member-is c o m k {y} w = subst (λ (z : Picked). PickedTold (read c m (s .types)) rows s z S S′ T T′) w (u .is c o m k)
 
@@ -271,7 +271,7 @@ module _ {A : Type 0} {read : Scope → Message → Read (Option A)} {rows : A �
   list-uncut {error} {err} g q = record {
     spends = tt;
     is = λ c o m k.
-        let cuts : messages number m ≡ refusal (stop.Wire error) = subst (CheckedTold (messages number m)) g (t m k) in
+        let cuts : messages number m ≡ stopRefused (stop.Wire error) = subst (CheckedTold (messages number m)) g (t m k) in
         rw (q, cuts);
   }
 

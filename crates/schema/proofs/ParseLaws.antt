@@ -17,8 +17,8 @@ use Rattle.sheet.specs.Rows.{num, bit, row}
 use Rattle.declaration_rows.specs.Declarations.{noTypes, andType, Ty, typesOf}
 use Rattle.schema.specs.Reading.{pure, _>>=_, lift, kept, Scope, classNameIn, allowance}
 use Rattle.schema.specs.Types.{argumentIn, parseAt, typeAt}
-use Rattle.declaration_rows.specs.Rows.{named, argumentRole, typesRows}
-use Rattle.schema.specs.Told.{refusal}
+use Rattle.declaration_rows.specs.Rows.{nameCell, argumentRole, typesRows}
+use Rattle.schema.specs.told.SchemaTold.{stopRefused}
 use Rattle.schema.specs.declared.Stop.the-variants as stop
 use Rattle.schema.proofs.TypeNext.{type-next}
 use Rattle.schema.proofs.ArgumentLaws.{types-many}
@@ -34,7 +34,7 @@ pub entry-inside : (l : List ℕ) (a b : ℕ) → a ≤ b → b ≤ length l →
 entry-inside l a b p q = omega (arith, part-short l a b p q)
 
 -- no type is left
-pub type-none : (c : Scope) (d : ℕ) (m : Message) (n : ℕ) → n ≡ 0 → typeAt allowance c d m n ≡ refusal stop.TooManyTypes
+pub type-none : (c : Scope) (d : ℕ) (m : Message) (n : ℕ) → n ≡ 0 → typeAt allowance c d m n ≡ stopRefused stop.TooManyTypes
 unfolding parseAt
 type-none c d m n h = ap (typeAt allowance c d m) h ∙ type-next allowance c d m 0 (omega arith)
 
@@ -50,7 +50,7 @@ type-entered c d m zero h l = absurd (omega arith)
 type-entered c d m (suc n) h l = let one-less : suc n - 1 ≡ n = omega arith in rw one-less (type-next allowance c d m (suc n) l)
 
 module _ (c : Scope) (d : ℕ) (m : Message) (n : ℕ) (h : 1 ≤ n) (l : n ≤ allowance) where
-  pub type-uncut : (error : WireError) → messages Type·argument m ≡ refusal (stop.Wire error) → typeAt allowance c d m n ≡ refusal (stop.Wire error)
+  pub type-uncut : (error : WireError) → messages Type·argument m ≡ stopRefused (stop.Wire error) → typeAt allowance c d m n ≡ stopRefused (stop.Wire error)
   type-uncut error e = type-entered c d m n h l ∙ rw e
 
   module _ {ms : List Message} (e : messages Type·argument m ≡ ok ms) {k : ℕ} (f : k ≡ n - 1) where
@@ -60,7 +60,7 @@ module _ (c : Scope) (d : ℕ) (m : Message) (n : ℕ) (h : 1 ≤ n) (l : n ≤ 
 
 -- a type's record, with its count, and its arguments' after it
 pub type-rows : (role : ℕ) (nullable : Bool) (name : Option Text) (ts : List Ty) (count : ℕ) → count ≡ length ts
-    → row 6 ((num 1 role ∷ bit nullable ∷ named name ∷ []) ++ (num 2 count ∷ [])) ∷ typesRows argumentRole (typesOf ts)
+    → row 6 ((num 1 role ∷ bit nullable ∷ nameCell name ∷ []) ++ (num 2 count ∷ [])) ∷ typesRows argumentRole (typesOf ts)
     ≡ typesRows role (andType nullable name (typesOf ts) noTypes)
 unfolding typesRows
 type-rows role nullable name ts count e = rw (append-nil, e, types-many ts)

@@ -12,7 +12,7 @@ use Rattle.foundation.specs.Results.{Res, ok, refused, Part}
 use Rattle.foundation.proofs.ResultLaws.{Gives, gives-bind, gives-ok}
 use Rattle.wire.specs.Wire.{Message, cut, Value}
 use Rattle.wire.specs.Messages.{value, varintOf, index, bytesOf, cutOption, message}
-use Rattle.messages.specs.Asked.{foundTold, FoundTold, pieceTold, BytesTold}
+use Rattle.messages.specs.told.Asked.{foundTold, FoundTold, pieceTold, BytesTold}
 use Rattle.wire.specs.declared.WireValue.{WireValue}
 use Rattle.messages.specs.declared.Found.{Found}
 use Rattle.messages.specs.declared.Found.the-variants as found
@@ -23,7 +23,7 @@ use Rattle.wire.proofs.WalkLaws.{ok-same}
 use Rattle.declaration_rows.specs.Declarations.{Ty}
 use Rattle.schema.specs.Reading.{Read, pure, _>>=_, Scope, lift}
 use Rattle.schema.specs.Types.{Walk, resolveAt, typeIn, declaredType}
-use Rattle.schema.specs.ReceiversTold.{ReceiverTold}
+use Rattle.schema.specs.told.ReceiversTold.{ReceiverTold}
 
 or-true : (b : Bool) → (b || true) ≡ true
 or-true true = refl

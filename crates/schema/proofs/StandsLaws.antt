@@ -7,10 +7,10 @@ use native.Mathlib.Omega.{arith}
 use lib.ListN.{length, take, drop}
 use Rattle.foundation.specs.Results.{ok, _from_}
 use Rattle.wire.specs.Wire.{Message, cut}
-use Rattle.wire.specs.Told.{bodyOf}
-use Rattle.characters.specs.Characters.{partFrom}
+use Rattle.wire.specs.told.WireTold.{partBetween}
+use Rattle.characters.specs.told.Places.{partFrom}
 use Rattle.characters.proofs.PartLaws.{part-part, part-long}
-use Rattle.schema.specs.Told.{EntryAt, Stands}
+use Rattle.schema.specs.told.SchemaTold.{EntryAt, Stands}
 
 -- a part of the decoded bytes that is lent
 pub part-ends : (payload : List ℕ) (start end : ℕ) → start ≤ end → end ≤ length payload → start + length (partFrom start end payload) ≡ end
@@ -50,7 +50,7 @@ module _ {payload msg : List ℕ} {base : ℕ} (s : Stands payload msg base) whe
       is = body-part ∙ ap (λ (n : ℕ). partFrom (base + a) n payload) (sym body-ends);
     }
 
-    pub body-entry : {m : Message} → cut (bodyOf base msg a b) ≡ ok m → EntryAt payload (base + a) (base + b) m
+    pub body-entry : {m : Message} → cut (partBetween base msg a b) ≡ ok m → EntryAt payload (base + a) (base + b) m
     body-entry e = record {
       ordered = omega arith;
       inside = omega (arith, s .inside);

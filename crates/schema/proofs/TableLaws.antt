@@ -14,8 +14,8 @@ use Rattle.foundation.specs.Results.{ok, Part, _from_}
 use Rattle.fields.specs.Fields.{TypeTable·type, TypeTable·first-nullable}
 use Rattle.wire.specs.Wire.{Message, cut}
 use Rattle.wire.specs.Messages.{index, as32, cutAll, messages}
-use Rattle.wire.specs.Told.{refusal, restOf, bodyOf}
-use Rattle.messages.specs.Asked.{CheckedTold, indexTold, bodies, NextTold, EmbeddedIs, EmbeddedInside, EmbeddedTold}
+use Rattle.wire.specs.told.WireTold.{wireRefused, restOf, partBetween}
+use Rattle.messages.specs.told.Asked.{CheckedTold, indexTold, bodies, NextBodyTold, EmbeddedIs, EmbeddedInside, EmbeddedTold}
 use Rattle.wire.specs.declared.WireError.{WireError}
 use Rattle.messages.specs.declared.Checked.{Checked}
 use Rattle.messages.specs.declared.Checked.the-variants as checked
@@ -25,15 +25,15 @@ use Rattle.wire.specs.declared.Piece.{Piece}
 use Rattle.wire.specs.declared.Piece.the-variants as piece
 use Rattle.messages.specs.declared.Embedded.{Embedded}
 use Rattle.messages.specs.declared.Embedded.the-variants as embedded
-use Rattle.messages.proofs.BodyLaws.{checked-part, part-is}
-use Rattle.characters.specs.Characters.{partFrom}
+use Rattle.messages.proofs.BodyLaws.{checked-at, part-is}
+use Rattle.characters.specs.told.Places.{partFrom}
 use Rattle.characters.proofs.PartLaws.{part-part}
-use Rattle.names.specs.Index.{packed, startOf, endOf}
+use Rattle.names.specs.told.Index.{packedPlaces, startOf, endOf}
 use Rattle.names.proofs.NoteLaws.{packed-start, packed-end, elem-snoc, after, after-none, after-one, after-refused}
 use Rattle.lookup.proofs.LookupLaws.{part-longer}
 use Rattle.schema.specs.Types.{noTable, typeTableIn}
-use Rattle.schema.specs.Told.{EntryAt, EntriesOf}
-use Rattle.schema.specs.TableTold.{EntriesTold, TableTold, TypeIndexTold}
+use Rattle.schema.specs.told.SchemaTold.{EntryAt, EntriesOf}
+use Rattle.schema.specs.told.TableTold.{EntriesTold, TableTold, TypeIndexTold}
 use Rattle.schema.specs.declared.table.Entries.{Entries}
 use Rattle.schema.specs.declared.table.Entries.the-variants as entries
 use Rattle.schema.specs.declared.table.TypeIndex.{TypeIndex}
@@ -49,7 +49,7 @@ entries-none bytes notes = record {
 
 module _ (bytes notes : List ℕ) (count : ℕ) (ms : List Message) (o : EntriesOf bytes notes count ms) where
   entries-more : count < length notes → {a b : ℕ} (m : Message) → a < 2 ^ 32 → EntryAt bytes a b m
-      → EntriesOf bytes (set notes count (packed a b)) (count + 1) (ms ++ (m ∷ []))
+      → EntriesOf bytes (set notes count (packedPlaces a b)) (count + 1) (ms ++ (m ∷ []))
   entries-more h {a} {b} m u at = record {
     many = length-append ms (m ∷ []) ∙ ap (λ (k : ℕ). k + 1) (o .many);
     long = rw length-set (omega arith);
@@ -57,13 +57,13 @@ module _ (bytes notes : List ℕ) (count : ℕ) (ms : List Message) (o : Entries
   }
     where
       go : (k : ℕ) (x : Message) → ((k < length ms) × (getElem? ms k ≡ some x)) ⊎ ((k ≡ length ms) × (m ≡ x))
-          → EntryAt bytes (startOf (getD (set notes count (packed a b)) k 0)) (endOf (getD (set notes count (packed a b)) k 0)) x
+          → EntryAt bytes (startOf (getD (set notes count (packedPlaces a b)) k 0)) (endOf (getD (set notes count (packedPlaces a b)) k 0)) x
       go k x (inl (l, q)) =
           let n : k ≡ count → ⊥ = λ z. omega (arith, o .many) in
-          rw (getD-set-other notes count k (packed a b) 0 n) (o .each k x q)
+          rw (getD-set-other notes count k (packedPlaces a b) 0 n) (o .each k x q)
       go k x (inr (l, q)) =
           let z : k ≡ count = l ∙ o .many in
-          rw (z, getD-set-same notes count (packed a b) 0 h, packed-start a b u, packed-end a b u, ← q) at
+          rw (z, getD-set-same notes count (packedPlaces a b) 0 h, packed-start a b u, packed-end a b u, ← q) at
 
 entries-longer : (bytes : List ℕ) (n : ℕ) (notes : List ℕ) (count : ℕ) (ms : List Message) → EntriesOf (take n bytes) notes count ms
     → EntriesOf bytes notes count ms
@@ -104,32 +104,32 @@ noting-start bytes at notes m w = record {
 }
 
 module _ (bytes : List ℕ) (start : ℕ) (notes : List ℕ) (count at : ℕ) (i : Noting bytes start notes count at) {r : Piece}
-    (t : NextTold 0 bytes TypeTable·type at r) where
+    (t : NextBodyTold 0 bytes TypeTable·type at r) where
   pub noting-none : r ≡ piece.Nothing → (m : Message) → cut (restOf 0 bytes start) ≡ ok m → EntriesTold bytes m notes (entries.Noted count)
   unfolding cutAll
   noting-none g m w =
       let n = i m w in
-      let e : bodies TypeTable·type (n .rest) ≡ [] = subst (NextTold 0 bytes TypeTable·type at) g t .is (n .rest) (n .cuts) in
+      let e : bodies TypeTable·type (n .rest) ≡ [] = subst (NextBodyTold 0 bytes TypeTable·type at) g t .is (n .rest) (n .cuts) in
       (n .before, n .whole ∙ rw e (ap ok (append-nil (n .before))), n .noted)
 
   module _ {a b : ℕ} (g : r ≡ piece.Body a b) where
-    next : NextTold 0 bytes TypeTable·type at (piece.Body a b)
-    next = subst (NextTold 0 bytes TypeTable·type at) g t
+    next : NextBodyTold 0 bytes TypeTable·type at (piece.Body a b)
+    next = subst (NextBodyTold 0 bytes TypeTable·type at) g t
 
     pub body-in : (a ≤ b) × (b ≤ length bytes) × (at < b)
     body-in = (next .inside .0, next .inside .1, next .later)
 
-    pub noting-refused : (c : Checked) → CheckedTold (cut (restOf 0 (take b bytes) a)) c → {error err : WireError} → c ≡ checked.Refused error
+    pub noting-refused : (c : Checked) → CheckedTold (cut (_from_ a (partFrom a b bytes))) c → {error err : WireError} → c ≡ checked.Refused error
         → err ≡ error → (m : Message) → cut (restOf 0 bytes start) ≡ ok m → EntriesTold bytes m notes (entries.Refused err)
     noting-refused c k {error} {err} q p m w =
         let n = i m w in
         let v = next .is (n .rest) (n .cuts) in
-        let f : cut (bodyOf 0 bytes a b) ≡ refusal error =
-        subst (CheckedTold (cut (bodyOf 0 bytes a b))) q (checked-part 0 bytes a b c (body-in .0) k) in
+        let f : cut (partBetween 0 bytes a b) ≡ wireRefused error =
+        subst (CheckedTold (cut (partBetween 0 bytes a b))) q (checked-at bytes a b c k) in
         n .whole
         ∙ ap (λ (ps : List Part). after (n .before) (cutAll ps)) (v .2)
-        ∙ after-refused (n .before) (bodyOf 0 bytes a b) (bodies TypeTable·type (v .0)) error f
-        ∙ ap (refusal {A = List Message}) (sym p)
+        ∙ after-refused (n .before) (partBetween 0 bytes a b) (bodies TypeTable·type (v .0)) error f
+        ∙ ap (wireRefused {A = List Message}) (sym p)
 
     -- there is one entry more than were noted
     one-more : (m : Message) (w : cut (restOf 0 bytes start) ≡ ok m) → count < length (bodies TypeTable·type m)
@@ -142,11 +142,11 @@ module _ (bytes : List ℕ) (start : ℕ) (notes : List ℕ) (count at : ℕ) (i
     pub no-place : length notes ≤ count → (m : Message) → cut (restOf 0 bytes start) ≡ ok m → EntriesTold bytes m notes entries.NoRoom
     no-place h m w room = omega (arith, one-more m w, room .long)
 
-    module _ (c : Checked) (k : CheckedTold (cut (restOf 0 (take b bytes) a)) c) (q : c ≡ checked.Whole) where
-      inner : (x : Message) × (cut (bodyOf 0 bytes a b) ≡ ok x)
-      inner = subst (CheckedTold (cut (bodyOf 0 bytes a b))) q (checked-part 0 bytes a b c (body-in .0) k)
+    module _ (c : Checked) (k : CheckedTold (cut (_from_ a (partFrom a b bytes))) c) (q : c ≡ checked.Whole) where
+      inner : (x : Message) × (cut (partBetween 0 bytes a b) ≡ ok x)
+      inner = subst (CheckedTold (cut (partBetween 0 bytes a b))) q (checked-at bytes a b c k)
 
-      pub noting-next : count < length notes → a < 2 ^ 32 → {notes′ : List ℕ} → notes′ ≡ set notes count (packed a b)
+      pub noting-next : count < length notes → a < 2 ^ 32 → {notes′ : List ℕ} → notes′ ≡ set notes count (packedPlaces a b)
           → Noting bytes start notes′ (count + 1) b
       noting-next hs short {notes′} ps m w =
           let n = i m w in
@@ -164,7 +164,7 @@ module _ (bytes : List ℕ) (start : ℕ) (notes : List ℕ) (count at : ℕ) (i
             whole =
                 n .whole
                 ∙ ap (λ (ps : List Part). after (n .before) (cutAll ps)) (v .2)
-                ∙ after-one (n .before) y (bodyOf 0 bytes a b) (bodies TypeTable·type (v .0)) (inner .1);
+                ∙ after-one (n .before) y (partBetween 0 bytes a b) (bodies TypeTable·type (v .0)) (inner .1);
             many = n .many ∙ ap (λ (ps : List Part). count + length ps) (v .2) ∙ omega arith;
             noted = rw ps (entries-more bytes notes count (n .before) (n .noted) hs y short here);
           }

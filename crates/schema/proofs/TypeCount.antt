@@ -53,7 +53,8 @@ use Rattle.declaration_rows.specs.Rows.{
   functionRows,
   propertyRows,
 }
-use Rattle.schema.specs.Counting.{
+use Rattle.schema.specs.Counting.{countKind}
+use Rattle.schema.specs.told.TypeSizes.{
   sizeIfSome,
   sizeOfAll,
   sizeOf,
@@ -63,7 +64,6 @@ use Rattle.schema.specs.Counting.{
   functionSize,
   propertySize,
   declarationsSize,
-  countKind,
 }
 
 -- Of what a reading gives, n types were entered before it, and all others by it.

@@ -14,7 +14,7 @@ use Rattle.foundation.specs.Results as Results
 use Rattle.foundation.specs.Results.{Res, ok, _from_}
 use Rattle.wire.specs.Wire.{Message, cut}
 use Rattle.wire.specs.Messages.{index, as32}
-use Rattle.messages.specs.Asked.{EmbeddedIs, EmbeddedInside, EmbeddedTold, indexTold}
+use Rattle.messages.specs.told.Asked.{EmbeddedIs, EmbeddedInside, EmbeddedTold, indexTold}
 use Rattle.wire.specs.declared.WireError.{WireError}
 use Rattle.wire.specs.declared.Piece.{Piece}
 use Rattle.wire.specs.declared.Piece.the-variants as piece
@@ -27,8 +27,8 @@ use Rattle.sheet.specs.declared.State.{State}
 use Rattle.declaration_rows.specs.Declarations.{Ty}
 use Rattle.schema.specs.Reading.{Read, pure, _>>=_, Scope, allowance}
 use Rattle.schema.specs.Types.{maxDepth, resolveAt, typeIn, typeAt, declaredType}
-use Rattle.schema.specs.Told.{Lent, entriesIn, Scoped, Ready, Spends, WalkedSpends, PickedSpends, WalkedTold, PickedTold}
-use Rattle.schema.specs.TypesTold.{orNullable, rowsIn, pickedOf, EntryIs, EntryTold, ParseTold, ResolveTold, TypeInTold, DeclaredTold}
+use Rattle.schema.specs.told.SchemaTold.{Lent, entriesIn, Scoped, Ready, Spends, WalkedSpends, PickedSpends, WalkedTold, PickedTold}
+use Rattle.schema.specs.told.TypesTold.{orNullable, rowsIn, pickedOf, EntryIs, EntryTold, ParseTold, ResolveTold, TypeInTold, DeclaredTold}
 use Rattle.schema.specs.declared.Stop.the-variants as stop
 use Rattle.schema.specs.declared.Walked.{Walked}
 use Rattle.schema.specs.declared.Walked.the-variants as walked

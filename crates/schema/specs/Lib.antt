@@ -2,11 +2,4 @@ pub mod Reading
 pub mod Types
 pub mod Members
 pub mod Counting
-pub mod Told
-pub mod TypesTold
-pub mod TableTold
-pub mod MembersTold
-pub mod PlacesTold
-pub mod ListsTold
-pub mod HeadTold
-pub mod ReceiversTold
+pub mod told

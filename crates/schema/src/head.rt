@@ -1,4 +1,4 @@
-// A type's own fields by one walk of its message. What is told: specs/HeadTold.antt.
+// A type's own fields by one walk of its message. What is told: specs/told/HeadTold.antt.
 ghost use mathlib.Core.Path.{_≡_};
 ghost use mathlib.Core.Bool.{false};
 ghost use mathlib.Core.List.{List, [], _∷_};
@@ -7,9 +7,9 @@ ghost use Rattle.foundation.specs.Results.{ok, _from_};
 ghost use Rattle.fields.specs.Fields.{Type·argument, Type·nullable, Type·class-name};
 ghost use Rattle.wire.specs.Wire.{field, Message, cut};
 ghost use Rattle.wire.specs.Messages.{varintOf, index, flag};
-ghost use Rattle.wire.specs.Told.{valueOf, numberOf, pieceOf};
-ghost use Rattle.messages.specs.Asked.{numberTold, indexTold};
-ghost use Rattle.schema.specs.HeadTold.{isBody, Known, HeadTold};
+ghost use Rattle.wire.specs.told.WireTold.{valueOf, valueNumber, pieceOf};
+ghost use Rattle.messages.specs.told.Asked.{numberTold, indexTold};
+ghost use Rattle.schema.specs.told.HeadTold.{isBody, Known, HeadTold};
 use fields::TYPE_ARGUMENT;
 use fields::TYPE_CLASS_NAME;
 use fields::TYPE_NULLABLE;
@@ -38,14 +38,14 @@ struct Seen {
 }
 
 fn index_of(value: WireValue) -> Indexed
-    ensures { λ r. ⌜ ((k : ℕ) (m : Message) → varintOf k m ≡ numberTold (numberOf value) → index k m ≡ indexTold r) ⌝ }
+    ensures { λ r. ⌜ ((k : ℕ) (m : Message) → varintOf k m ≡ numberTold (valueNumber value) → index k m ≡ indexTold r) ⌝ }
 {
     let found = Found::Value { value };
     found.index()
 }
 
 fn is_set(value: WireValue) -> bool
-    ensures { λ r. ⌜ ((k : ℕ) (m : Message) → varintOf k m ≡ numberTold (numberOf value) → flag k m ≡ r) ⌝ }
+    ensures { λ r. ⌜ ((k : ℕ) (m : Message) → varintOf k m ≡ numberTold (valueNumber value) → flag k m ≡ r) ⌝ }
 {
     let found = value.varint();
     let Number::Value { value: n } = found else {

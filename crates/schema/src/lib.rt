@@ -1,5 +1,6 @@
 // Declarations read from messages, in the specification's order. The definitions: specs/Types.antt, specs/Members.antt; how the answers
-// tell them: specs/Told.antt.
+// tell them: specs/told/SchemaTold.antt.
+ghost use mathlib.Core.Path.{_≡_};
 use sheet::State;
 use wire::WireError;
 
@@ -44,7 +45,19 @@ pub enum Walked {
     Refused { stop: Stop },
 }
 
-// The same of what may not be there.
+impl Walked {
+    // The refusal of a refused answer.
+    pub fn stop(self) -> Stop
+        ensures { λ r. ⌜ ((s : Stop) → self ≡ Walked.Refused s → r ≡ s) ⌝ }
+    {
+        match self {
+            Walked::Done { state: _ } => Stop::TooManyTypes,
+            Walked::Refused { stop } => stop,
+        }
+    }
+}
+
+// The answer of a reader of something that may be skipped: written, skipped or refused.
 pub enum Picked {
     Kept { state: State },
     Dropped,
@@ -55,6 +68,18 @@ pub enum Picked {
 pub enum Listed {
     Done { state: State, count: usize },
     Refused { stop: Stop },
+}
+
+impl Listed {
+    // The refusal of a refused answer.
+    pub fn stop(self) -> Stop
+        ensures { λ r. ⌜ ((s : Stop) → self ≡ Listed.Refused s → r ≡ s) ⌝ }
+    {
+        match self {
+            Listed::Done { state: _, count: _ } => Stop::TooManyTypes,
+            Listed::Refused { stop } => stop,
+        }
+    }
 }
 
 // Where the message of a type stands among the decoded bytes, whether it is nullable by its place in the type table, and what is left of

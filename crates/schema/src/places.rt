@@ -1,9 +1,9 @@
 // Where the message of a type stands among the decoded bytes: a declaration's own type, and the first kept argument of a type. What a
-// reading has accepted is found again, and nothing is refused. What is told: specs/PlacesTold.antt.
+// reading has accepted is found again, and nothing is refused. What is told: specs/told/PlacesTold.antt.
 ghost use Prim.Native.Nat.{_+_, _≤_};
 ghost use lib.ListN.{length};
-ghost use Rattle.schema.specs.Told.{Stands};
-ghost use Rattle.schema.specs.PlacesTold.{EntryFound, PlaceFound, DeclaredFound, ArgumentFound};
+ghost use Rattle.schema.specs.told.SchemaTold.{Stands};
+ghost use Rattle.schema.specs.told.PlacesTold.{EntryFound, PlaceFound, DeclaredFound, ArgumentFound};
 use crate::FoundType;
 use crate::MAX_DEPTH;
 use crate::Tables;

@@ -1,5 +1,5 @@
-// Whether a receiver is there. The definition: schema's specs/Members.antt, `receiverIn`; what the reader tells: specs/ReceiversTold.antt.
-ghost use Rattle.schema.specs.ReceiversTold.{ReceiverTold};
+// Whether a receiver is there. The definition: schema's specs/Members.antt, `receiverIn`; what the reader tells: specs/told/ReceiversTold.antt.
+ghost use Rattle.schema.specs.told.ReceiversTold.{ReceiverTold};
 use messages::Found;
 use messages::bytes;
 use messages::find;

@@ -1,5 +1,5 @@
 // The type table of a class or package: its entries cut, and noted where they stand among the decoded bytes. The definition:
-// specs/Types.antt, `typeTableIn`; what the answers tell: specs/TableTold.antt.
+// specs/Types.antt, `typeTableIn`; what the answers tell: specs/told/TableTold.antt.
 ghost use mathlib.Core.Path.{_≡_};
 ghost use Prim.Native.Nat.{_^_, _≤_, _<_};
 ghost use lib.ListN.{length, set, drop};
@@ -7,16 +7,16 @@ ghost use Rattle.foundation.specs.Results.{ok, _from_};
 ghost use Rattle.fields.specs.Fields.{TypeTable·first-nullable};
 ghost use Rattle.wire.specs.Wire.{cut, Message};
 ghost use Rattle.wire.specs.Messages.{as32, index};
-ghost use Rattle.wire.specs.Told.{restOf};
-ghost use Rattle.characters.specs.Characters.{partFrom};
-ghost use Rattle.names.specs.Index.{packed};
-ghost use Rattle.schema.specs.TableTold.{EntriesTold, TableTold, TypeIndexTold};
+ghost use Rattle.wire.specs.told.WireTold.{restOf};
+ghost use Rattle.characters.specs.told.Places.{partFrom};
+ghost use Rattle.names.specs.told.Index.{packedPlaces};
+ghost use Rattle.schema.specs.told.TableTold.{EntriesTold, TableTold, TypeIndexTold};
 use fields::TYPE_TABLE_FIRST_NULLABLE;
 use fields::TYPE_TABLE_TYPE;
 use messages::Checked;
 use messages::Embedded;
 use messages::Indexed;
-use messages::check_from;
+use messages::check;
 use messages::index;
 use messages::message;
 use messages::next_body;
@@ -41,7 +41,7 @@ enum Entries {
 
 fn put_entry(notes: &mut [u64], count: usize, start: u32, end: u32)
     requires { ⌜ count < length (now notes) ⌝ }
-    ensures { λ _. ⌜ now (notes .exit) ≡ set (now (notes .entry)) count (packed start end) ⌝ }
+    ensures { λ _. ⌜ now (notes .exit) ≡ set (now (notes .entry)) count (packedPlaces start end) ⌝ }
 {
     notes[count] = packed(start, end);
 }
@@ -58,7 +58,7 @@ fn note_entries(bytes: &[u8], at: usize, notes: &mut [u64]) -> Entries
         let Piece::Body { start, end } = piece else {
             return Entries::Noted { count };
         };
-        let checked = check_from(&bytes[..end], 0, start);
+        let checked = check(&bytes[start..end], start as u32);
         let Checked::Whole = checked else {
             return Entries::Refused {
                 error: checked.error(),

@@ -1,10 +1,10 @@
 // Small readers of types: an entry of the type table. Types are walked and written above, in `type_references`. What they tell:
-// specs/TypesTold.antt.
+// specs/told/TypesTold.antt.
 ghost use mathlib.Core.Path.{_≡_};
 ghost use mathlib.Core.Bool.{_||_};
 ghost use Prim.Native.Nat.{_-_};
-ghost use Rattle.schema.specs.Told.{entriesIn};
-ghost use Rattle.schema.specs.TypesTold.{pickedOf, EntryTold};
+ghost use Rattle.schema.specs.told.SchemaTold.{entriesIn};
+ghost use Rattle.schema.specs.told.TypesTold.{pickedOf, EntryTold};
 use crate::Picked;
 use crate::Tables;
 use crate::Walked;
@@ -33,10 +33,12 @@ pub fn either(a: bool, b: bool) -> bool
 pub fn picked(walked: Walked) -> Picked
     ensures { λ r. ⌜ r ≡ pickedOf walked ⌝ }
 {
-    match walked {
-        Walked::Done { state } => Picked::Kept { state },
-        Walked::Refused { stop } => Picked::Refused { stop },
-    }
+    let Walked::Done { state } = walked else {
+        return Picked::Refused {
+            stop: walked.stop(),
+        };
+    };
+    Picked::Kept { state }
 }
 
 // Where an entry of the type table stands, if there is one at the index.

@@ -11,7 +11,7 @@ use Rattle.foundation.proofs.DigitLaws.{length-digits}
 use Rattle.foundation.proofs.OverlayLaws.{sets-append, sets-patch, sets-front}
 use Rattle.sheet.specs.declared.State.{State}
 use Rattle.sheet.specs.Rows.{Cell, num, Row, row, cellBytes, cellText, bodyBytes, bodyText, sheetFrom, texts}
-use Rattle.sheet.specs.Put.{Put, PutCells, PutHead, PutRows, past}
+use Rattle.sheet.specs.told.Put.{Put, PutCells, PutHead, PutRows, past}
 use Rattle.sheet.proofs.RowLaws.{body-text-append, texts-append, body-bytes-append, sheet-append, row-split, texts-split, cellLength, cell-length}
 
 -- where a step's bytes and text end

@@ -15,7 +15,7 @@ use Rattle.foundation.specs.Choices.{ifSome, mapOption, All}
 use Rattle.foundation.specs.Digits.{number, little}
 use Rattle.foundation.proofs.DigitLaws.{length-digits, number-digits-fits}
 use Rattle.sheet.specs.Rows.{Cell, num, ref, Row, row, bit, Form, wide, text, formsOf, refBytes, cellBytes, cellText, bodyText, bodyBytes, texts, sheetFrom}
-use Rattle.sheet.specs.Reading.{taken, refAt, refOf, formWidth, cellOf, takeCells, takeRow, takeRows, rowsOf}
+use Rattle.sheet.specs.Reading.{takenBytes, refAt, refOf, formWidth, cellOf, takeCells, takeRow, takeRows, rowsOf}
 use Rattle.sheet.proofs.RowLaws.{cellLength, cell-length}
 
 -- A cell of a form: a number of its width that fits, or a ref to any text.
@@ -101,15 +101,15 @@ fit-width text (ref t) p = refl
 
 -- the cells of a body, one after the other
 cells-next : (txt : List ℕ) (f : Form) (fs : List Form) (bs more rest : List ℕ) (c : Cell) (cs : List Cell)
-    → length bs ≡ formWidth f → cellOf txt f (bs ++ more) ≡ c → takeCells txt fs more ≡ some (taken cs rest)
-    → takeCells txt (f ∷ fs) (bs ++ more) ≡ some (taken (c ∷ cs) rest)
+    → length bs ≡ formWidth f → cellOf txt f (bs ++ more) ≡ c → takeCells txt fs more ≡ some (takenBytes cs rest)
+    → takeCells txt (f ∷ fs) (bs ++ more) ≡ some (takenBytes (c ∷ cs) rest)
 unfolding takeCells
 cells-next txt f fs bs more rest c cs w e m =
     let fits : formWidth f ≤ length (bs ++ more) = rw length-append (omega arith) in
     rw (le-ltb (length (bs ++ more)) (formWidth f) fits, drop-at bs more (formWidth f) w, m, e)
 
 cells-back : (fs : List Form) (cs : List Cell) (txt : List ℕ) (o : ℕ) (rest : List ℕ) → Fit fs cs → TextAt txt o (bodyText cs)
-    → takeCells txt fs (bodyBytes o cs ++ rest) ≡ some (taken cs rest)
+    → takeCells txt fs (bodyBytes o cs ++ rest) ≡ some (takenBytes cs rest)
 unfolding takeCells bodyBytes bodyText
 cells-back [] [] txt o rest p a = refl
 cells-back [] (c ∷ cs) txt o rest p a = absurd p
@@ -124,12 +124,12 @@ cells-back (f ∷ fs) (c ∷ cs) txt o rest p a =
 
 body-back : (fs : Option (List Form)) (k : ℕ) (cs : List Cell) (txt : List ℕ) (o : ℕ) (rest : List ℕ)
     → FitBody fs cs → TextAt txt o (bodyText cs)
-    → ifSome fs none (λ gs. mapOption (λ t. taken (row k (t .it)) (t .rest)) (takeCells txt gs (bodyBytes o cs ++ rest))) ≡ some (taken (row k cs) rest)
+    → ifSome fs none (λ gs. mapOption (λ t. takenBytes (row k (t .it)) (t .rest)) (takeCells txt gs (bodyBytes o cs ++ rest))) ≡ some (takenBytes (row k cs) rest)
 body-back none k cs txt o rest p a = absurd p
 body-back (some fs) k cs txt o rest p a = rw (cells-back fs cs txt o rest p a)
 
 pub row-back : (r : Row) (txt : List ℕ) (o : ℕ) (rest : List ℕ) → InTable r → TextAt txt o (bodyText (r .body))
-    → takeRow txt (r .kind ∷ (bodyBytes o (r .body) ++ rest)) ≡ some (taken r rest)
+    → takeRow txt (r .kind ∷ (bodyBytes o (r .body) ++ rest)) ≡ some (takenBytes r rest)
 unfolding takeRow
 row-back r txt o rest p a = body-back (formsOf (r .kind)) (r .kind) (r .body) txt o rest p a
 

@@ -1,4 +1,4 @@
 pub mod Rows
 pub mod Reading
 pub mod Refs
-pub mod Put
+pub mod told

@@ -10,12 +10,12 @@ use Rattle.foundation.specs.Digits.{number}
 use Rattle.sheet.specs.Rows.{Cell, num, ref, Row, row, Form, wide, text, formsOf}
 
 -- what was taken, and the bytes after it
-pub record Taken (A : Type 0) : Type 0 where
+pub record TakenBytes (A : Type 0) : Type 0 where
   pub it : A
   pub rest : List ℕ
 
-abbrev pub taken : {A : Type 0} → A → List ℕ → Taken A
-taken a bs = record { it = a; rest = bs }
+abbrev pub takenBytes : {A : Type 0} → A → List ℕ → TakenBytes A
+takenBytes a bs = record { it = a; rest = bs }
 
 -- offset and length in the text area
 pub record Ref : Type 0 where
@@ -46,17 +46,17 @@ abbrev pub cellOf : List ℕ → Form → List ℕ → Cell
 cellOf txt (wide w) bs = num w (number 256 (take w bs))
 cellOf txt text bs = ref (cutOut txt bs)
 
-unfoldable pub takeCells : List ℕ → List Form → List ℕ → Option (Taken (List Cell))
-takeCells txt [] bs = some (taken [] bs)
+unfoldable pub takeCells : List ℕ → List Form → List ℕ → Option (TakenBytes (List Cell))
+takeCells txt [] bs = some (takenBytes [] bs)
 takeCells txt (f ∷ fs) bs =
-    let more = mapOption (λ t. taken (cellOf txt f bs ∷ t .it) (t .rest)) (takeCells txt fs (drop (formWidth f) bs)) in
+    let more = mapOption (λ t. takenBytes (cellOf txt f bs ∷ t .it) (t .rest)) (takeCells txt fs (drop (formWidth f) bs)) in
     if ltb (length bs) (formWidth f) then none else more
 
 -- A record: its kind, and the body that the table has for it.
-unfoldable pub takeRow : List ℕ → List ℕ → Option (Taken Row)
+unfoldable pub takeRow : List ℕ → List ℕ → Option (TakenBytes Row)
 takeRow txt [] = none
 takeRow txt (k ∷ bs) =
-    ifSome (formsOf k) none λ fs. mapOption (λ t. taken (row k (t .it)) (t .rest)) (takeCells txt fs bs)
+    ifSome (formsOf k) none λ fs. mapOption (λ t. takenBytes (row k (t .it)) (t .rest)) (takeCells txt fs bs)
 
 -- The records of a sheet up to its last byte, at most k of them; none if a kind is unknown or the last record isn't whole.
 unfoldable pub takeRows : ℕ → List ℕ → List ℕ → Option (List Row)

@@ -8,18 +8,17 @@ use mir.Facts.{toZ-ofZ}
 use mir.Syntax.{w32}
 use mir.Val.{SFits, ofZ, toZ}
 use Rattle.characters.specs.WellFormed.{Units}
-use Rattle.inputs.specs.Inputs.{Input}
+use Rattle.inputs.specs.Inputs.{Input, input}
 use Rattle.inputs.specs.Outcomes as definition
-use Rattle.inputs.specs.Told.{input}
 use Rattle.metadata.specs.Read.{read}
-use Rattle.metadata.specs.ReadTold.{toldBy}
+use Rattle.metadata.specs.told.ReadTold.{toldBy}
 use Rattle.metadata.specs.declared.Answer.{Answer}
 use Rattle.promises.specs.Promises.{Promised, Enough}
 use Rattle.promises.proofs.Answered.{answer-promised}
 use Rattle.promises.proofs.Longest.{areas-enough}
 use Rattle.defaults.specs.Demand.{Demand}
 use Rattle.defaults.proofs.Demand.{demand-3}
-use Rattle.sheet_calls.specs.CallTold.{toldIn, DemandWithAny}
+use Rattle.sheet_calls.specs.Calls.{toldIn, DemandWithAny}
 
 -- The answer as five numbers, of signed ones that came as bits.
 abbrev back : ℤ → ℤ

@@ -3,10 +3,10 @@ ghost use mathlib.Core.Path.{_≡_};
 ghost use mathlib.Core.List.{[], _∷_};
 ghost use lib.ListN.{getD};
 ghost use Rattle.characters.specs.WellFormed.{Units};
-ghost use Rattle.inputs.specs.Told.{input};
+ghost use Rattle.inputs.specs.Inputs.{input};
 ghost use Rattle.metadata.specs.Read.{read};
 ghost use Rattle.promises.specs.Promises.{Promised, Enough};
-ghost use Rattle.sheet_calls.specs.CallTold.{toldIn, DemandWithAny};
+ghost use Rattle.sheet_calls.specs.Calls.{toldIn, DemandWithAny};
 use metadata::read;
 
 // `read`, with the answer's number, detail, sheet length, text length and types in this order. Areas of 411,644 and 65,534 bytes are always enough.

@@ -15,8 +15,8 @@ use Rattle.foundation.specs.Results.{Res, ok, refused, Part, _from_}
 use Rattle.fields.specs.Fields.{Type·argument, Type·Argument·type, Type·Argument·type-id}
 use Rattle.wire.specs.Wire.{Message, cut}
 use Rattle.wire.specs.Messages.{as32, index, bytesOf, cutOption, message, messages}
-use Rattle.wire.specs.Told.{bodyOf}
-use Rattle.messages.specs.Asked.{BytesTold, EmbeddedIs, EmbeddedInside, EmbeddedTold, pieceTold, indexTold, NextTold, PieceInside, PieceAfter}
+use Rattle.wire.specs.told.WireTold.{partBetween}
+use Rattle.messages.specs.told.Asked.{BytesTold, EmbeddedIs, EmbeddedInside, EmbeddedTold, pieceTold, indexTold, NextBodyTold, PieceInside, PieceAfter}
 use Rattle.wire.specs.declared.WireError.{WireError}
 use Rattle.wire.specs.declared.Piece.{Piece}
 use Rattle.wire.specs.declared.Piece.the-variants as piece
@@ -25,18 +25,18 @@ use Rattle.messages.specs.declared.Indexed.the-variants as indexed
 use Rattle.messages.specs.declared.Embedded.{Embedded}
 use Rattle.messages.specs.declared.Embedded.the-variants as embedded
 use Rattle.wire.proofs.WalkLaws.{whole}
-use Rattle.characters.specs.Characters.{partFrom}
+use Rattle.characters.specs.told.Places.{partFrom}
 use Rattle.characters.proofs.PartLaws.{part-part, part-short}
 use Rattle.declaration_rows.specs.Declarations.{Ty}
 use Rattle.schema.specs.Reading.{Read, pure, keep, kept, Scope, allowance}
 use Rattle.schema.specs.Types.{maxDepth, typeIn, argumentIn, typeAt}
-use Rattle.schema.specs.Told.{entriesIn}
-use Rattle.schema.specs.TypesTold.{orNullable, EntryIs, EntryTold}
-use Rattle.schema.specs.PlacesTold.{TableOf}
+use Rattle.schema.specs.told.SchemaTold.{entriesIn}
+use Rattle.schema.specs.told.TypesTold.{orNullable, EntryIs, EntryTold}
+use Rattle.schema.specs.told.PlacesTold.{TableOf}
 use Rattle.schema.specs.declared.Tables.{Tables}
 use Rattle.schema.proofs.TypeLaws.{resolve-nothing, resolve-deep, resolve-entry}
 use Rattle.schema.proofs.FoundLaws.{never-given, bind-given, first-same, Passed, next-is, passed-all, next, next-given}
-use Rattle.type_references.specs.ParseTold.{TypeIs, ArgumentInside, TypeFieldTold, ArgumentTold, KeptTold, CountTold}
+use Rattle.type_references.specs.told.ParseTold.{TypeIs, ArgumentInside, TypeFieldTold, ArgumentTold, KeptTold, CountTold}
 use Rattle.type_references.specs.declared.arguments.Argument.{Argument}
 use Rattle.type_references.specs.declared.arguments.Argument.the-variants as argument
 use Rattle.type_references.proofs.PendingLaws.{argument-nowhere, argument-indexed}
@@ -99,7 +99,7 @@ module _ (base : ℕ) (msg : List ℕ) (start end : ℕ) (ordered : start ≤ en
   argument-inline {a} {b} g =
       let i = subst (EmbeddedInside (partFrom start end msg)) g (t .inside) in
       let p = inline-in g in
-      let same : cut (_from_ (base + (start + a)) (partFrom (start + a) (start + b) msg)) ≡ cut (bodyOf (base + start) (partFrom start end msg) a b) =
+      let same : cut (_from_ (base + (start + a)) (partFrom (start + a) (start + b) msg)) ≡ cut (partBetween (base + start) (partFrom start end msg) a b) =
       ap (λ (n : ℕ). cut (_from_ n (partFrom (start + a) (start + b) msg))) (sym (add-assoc base start a))
       ∙ ap (λ (l : List ℕ). cut (_from_ (base + start + a) l)) (sym (part-part msg start end a b (i .0) (i .1))) in
       record { is = λ m k. let it = here g m k in (it .0, same ∙ it .1, it .2); inside = (omega arith, omega arith, omega arith) }
@@ -171,7 +171,7 @@ module _ (payload notes : List ℕ) (tables : Tables) (msg : List ℕ) (base lef
   bytes-are g m k = t .is m k ∙ ap (pieceTold base msg) g
 
   pub kept-inline : {a b : ℕ} → x ≡ piece.Body a b → KeptTold payload notes tables msg base left true
-  kept-inline {a} {b} g = record { is = λ c s m k d deep o l n e. body-kept c d m l o n e (bodyOf base msg a b) (bytes-are g m k) }
+  kept-inline {a} {b} g = record { is = λ c s m k d deep o l n e. body-kept c d m l o n e (partBetween base msg a b) (bytes-are g m k) }
 
   module _ (g : x ≡ piece.Nothing) where
     not-inline : (m : Message) → cut (_from_ base msg) ≡ ok m → message Type·Argument·type m ≡ ok none
@@ -215,7 +215,7 @@ record Counted (f : Message → Read (Option Ty)) (base : ℕ) (msg : List ℕ) 
   all : length ts ≡ count + length later
 
 module _ (f : Message → Read (Option Ty)) (base : ℕ) (msg : List ℕ) (at count : ℕ) (ts : List Ty) (g : Counted f base msg at count ts) {x : Piece}
-    (t : NextTold base msg Type·argument at x) where
+    (t : NextBodyTold base msg Type·argument at x) where
   counted-all : x ≡ piece.Nothing → count ≡ length ts
   counted-all e = omega (arith, g .all, ap length (passed-all f base msg at (g .later) (g .passed) t e))
 
@@ -263,7 +263,7 @@ module _ (payload notes : List ℕ) (tables : Tables) (msg : List ℕ) (base lef
     };
   }
 
-  module _ (at count : ℕ) (g : Counting payload notes tables msg base left at count) {x : Piece} (t : NextTold base msg Type·argument at x) where
+  module _ (at count : ℕ) (g : Counting payload notes tables msg base left at count) {x : Piece} (t : NextBodyTold base msg Type·argument at x) where
     pub counting-end : x ≡ piece.Nothing → CountTold payload notes tables msg base left count
     counting-end q = record {
       is = λ c s m k ms h d deep ts l b e.

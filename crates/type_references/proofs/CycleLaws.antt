@@ -8,34 +8,54 @@ use native.Mathlib.Omega.{arith}
 use lib.ListN.{length, take, drop}
 use lib.Seq.{take-length}
 use Rattle.fields.specs.Fields.{Type·argument}
-use Rattle.messages.specs.Asked.{NextTold}
+use Rattle.messages.specs.told.Asked.{NextBodyTold}
 use Rattle.wire.specs.declared.Piece.{Piece}
 use Rattle.wire.specs.declared.Piece.the-variants as piece
 use Rattle.sheet.specs.declared.State.{State}
 use Rattle.schema.specs.Reading.{kept, allowance}
 use Rattle.schema.specs.Types.{argumentIn, typeAt}
-use Rattle.schema.specs.Told.{Lent, Ready, Spends, WalkedSpends}
-use Rattle.schema.specs.TypesTold.{orNullable, rowsIn, ParseTold}
+use Rattle.schema.specs.told.SchemaTold.{Lent, Ready, Spends, WalkedSpends}
+use Rattle.schema.specs.told.TypesTold.{orNullable, rowsIn, ParseTold}
 use Rattle.schema.specs.declared.Tables.{Tables}
 use Rattle.schema.specs.declared.Stop.{Stop}
 use Rattle.schema.specs.declared.Walked.{Walked}
 use Rattle.schema.specs.declared.Walked.the-variants as walked
 use Rattle.schema.proofs.TypeLaws.{spends-then, ready-after}
 use Rattle.schema.proofs.ParseLaws.{entry-inside}
-use Rattle.type_references.specs.Pending.{argumentRows}
-use Rattle.type_references.specs.ParseTold.{EnteredIs, EnterTold, ArgumentsTold, Fits, asTypes, asBytes, FitsEntry, roomy, nowhere, NestRoom}
+use Rattle.type_references.specs.told.Pending.{argumentRows}
+use Rattle.type_references.specs.told.ParseTold.{
+  EnteredIs,
+  EnterTold,
+  ArgumentsTold,
+  WaitingRoom,
+  asTypes,
+  asBytes,
+  FitsEntry,
+  roomy,
+  nowhere,
+  NestRoom,
+}
 use Rattle.type_references.proofs.PendingLaws.{walked-then}
 use Rattle.type_references.proofs.WalkLaws.{loop-start, loop-end}
 
--- What falls: the depth left, of which each look-up takes one.
-pub falls-arguments : (left : ℕ) {less t : ℕ} → 3 * left + 2 ≡ t → less ≡ left - 1 → 3 * less + 1 < t
-falls-arguments left e h = omega arith
+-- What falls: one number of the depth left and of the bytes left. A look-up starts with no bytes and takes one of the depth for those of an
+-- entry, which are fewer than the number that a depth counts for.
+abbrev pub remaining : ℕ → ℕ → ℕ
+remaining left bytes = 65536 * left + bytes
 
-pub falls-look-up : (left : ℕ) {deep t : ℕ} → 3 * left + 1 ≡ t → deep ≤ left → 3 * deep < t
-falls-look-up left e h = omega arith
+pub falls-arguments : (left bytes : ℕ) {less t : ℕ} → 3 * remaining left bytes + 2 ≡ t → less ≡ left - 1 → 3 * remaining less bytes + 1 < t
+falls-arguments left bytes e h = omega arith
 
-pub falls-entry : (left : ℕ) {t : ℕ} → 3 * left ≡ t → (left ≡ 0 → ⊥) → 3 * (left - 1) + 2 < t
-falls-entry left e h = omega arith
+pub falls-look-up : (left bytes : ℕ) {deep t : ℕ} → 3 * remaining left bytes + 1 ≡ t → deep ≤ left → 3 * remaining deep 0 < t
+falls-look-up left bytes e h = omega arith
+
+falls-inside : (left bytes : ℕ) {t : ℕ} → 3 * remaining left 0 ≡ t → (left ≡ 0 → ⊥) → bytes ≤ 32768 → 3 * remaining (left - 1) bytes + 2 < t
+falls-inside left bytes e h k = omega arith
+
+pub falls-entry : (left : ℕ) {t : ℕ} → 3 * remaining left 0 ≡ t → (left ≡ 0 → ⊥) → (payload : List ℕ) → length payload ≤ 32768
+    → (a b : ℕ) → a ≤ b → b ≤ length payload → 3 * remaining (left - 1) (length (take (b - a) (drop a payload))) + 2 < t
+falls-entry left e h payload k a b p q =
+    falls-inside left (length (take (b - a) (drop a payload))) e h (omega (arith, entry-inside payload a b p q))
 
 -- What is asked for where an entry of the type table is read.
 pub entry-room : {payload d2 nest : List ℕ} {tables : Tables} {left : ℕ} {s : State} → Ready payload d2 s → left ≤ 64
@@ -65,7 +85,7 @@ module _ {e : Lent} {msg : List ℕ} {base left role : ℕ} {nullable : Bool} {s
       subst (λ (x : Walked). ParseTold e msg base left role nullable s x S S₁ T T₁) (sym q) told
 
   module _ {s₁ : State} (q : w ≡ walked.Done s₁) {less : ℕ} (f : less ≡ left - 1) where
-    entered-fits : {tables : Tables} {bytes room : ℕ} → Fits tables (s .types) bytes room → Fits tables (s₁ .types) bytes room
+    entered-fits : {tables : Tables} {bytes room : ℕ} → WaitingRoom tables (s .types) bytes room → WaitingRoom tables (s₁ .types) bytes room
     entered-fits (asTypes h) = let one = subst (WalkedSpends s) q (n .spends) in asTypes (omega (arith, one .types))
     entered-fits (asBytes z h) = asBytes z h
 
@@ -95,8 +115,8 @@ module _ {e : Lent} {msg : List ℕ} {base left role : ℕ} {nullable : Bool} {s
     }
 
     -- a type with no argument
-    pub parse-alone : {x : Piece} → NextTold base msg Type·argument 0 x → x ≡ piece.Nothing → ParseTold e msg base left role nullable s (walked.Done s₁) S S₁ T T₁
+    pub parse-alone : {x : Piece} → NextBodyTold base msg Type·argument 0 x → x ≡ piece.Nothing → ParseTold e msg base left role nullable s (walked.Done s₁) S S₁ T T₁
     parse-alone {x} t g =
-        let all : NextTold base (take (length msg) msg) Type·argument 0 x = subst (λ (l : List ℕ). NextTold base l Type·argument 0 x) (sym (take-length msg)) t in
+        let all : NextBodyTold base (take (length msg) msg) Type·argument 0 x = subst (λ (l : List ℕ). NextBodyTold base l Type·argument 0 x) (sym (take-length msg)) t in
         let none : ArgumentsTold e msg base less s₁ (walked.Done s₁) S₁ S₁ T₁ T₁ = loop-end (loop-start {nest = []}) all g refl in
         parse-entered none

@@ -14,26 +14,26 @@ use Rattle.foundation.specs.Texts.{Text}
 use Rattle.fields.specs.Fields.{Type·argument, Type·nullable, Type·class-name}
 use Rattle.wire.specs.Wire.{Message, cut}
 use Rattle.wire.specs.Messages.{index, flag, messages}
-use Rattle.messages.specs.Asked.{CheckedTold, indexTold, bodies}
+use Rattle.messages.specs.told.Asked.{CheckedTold, indexTold, bodies}
 use Rattle.wire.specs.declared.WireError.{WireError}
 use Rattle.messages.specs.declared.Checked.{Checked}
 use Rattle.messages.specs.declared.Checked.the-variants as checked
 use Rattle.wire.proofs.WalkLaws.{ok-same}
-use Rattle.names.specs.Name.{nameText}
+use Rattle.names.specs.told.Name.{nameText}
 use Rattle.names.specs.declared.name.Name.{Name}
 use Rattle.sheet.specs.Rows.{num, bit, oneIf, Row, row, cellText, bodyText, texts, sheetFrom}
-use Rattle.sheet.specs.Put.{PutCells, PutRows, past}
+use Rattle.sheet.specs.told.Put.{PutCells, PutRows, past}
 use Rattle.sheet.specs.declared.State.{State}
 use Rattle.sheet.proofs.PutLaws.{put-sheet, put-text, put-types, put-left, put-none, row-counted}
 use Rattle.sheet.proofs.RowLaws.{bodyLength, rowsLength, sheet-length}
 use Rattle.declaration_rows.specs.Declarations.{noTypes, andType, Ty, typesOf}
 use Rattle.schema.specs.Reading.{pure, kept, Scope, classNameIn, allowance}
 use Rattle.schema.specs.Types.{maxDepth, argumentIn, typeAt}
-use Rattle.declaration_rows.specs.Rows.{named, typeCells, typesRows}
-use Rattle.schema.specs.Told.{Lent, NamesOf, Ready, Spends, refusal}
-use Rattle.schema.specs.TypesTold.{orNullable, rowsIn}
-use Rattle.schema.specs.PlacesTold.{TableOf}
-use Rattle.schema.specs.HeadTold.{HeadTold}
+use Rattle.declaration_rows.specs.Rows.{nameCell, typeCells, typesRows}
+use Rattle.schema.specs.told.SchemaTold.{Lent, NamesOf, Ready, Spends, stopRefused}
+use Rattle.schema.specs.told.TypesTold.{orNullable, rowsIn}
+use Rattle.schema.specs.told.PlacesTold.{TableOf}
+use Rattle.schema.specs.told.HeadTold.{HeadTold}
 use Rattle.schema.specs.declared.Tables.{Tables}
 use Rattle.schema.specs.declared.Stop.the-variants as stop
 use Rattle.schema.specs.declared.Walked.the-variants as walked
@@ -41,8 +41,8 @@ use Rattle.schema.specs.declared.head.TypeHead.{TypeHead}
 use Rattle.schema.proofs.HeadLaws.{no-messages}
 use Rattle.schema.proofs.NamedLaws.{cell-length, head-put}
 use Rattle.schema.proofs.ParseLaws.{type-none, ofFields, type-entered, type-uncut, type-done, type-rows}
-use Rattle.type_references.specs.Pending.{rowsRead, prefixed, argumentRows}
-use Rattle.type_references.specs.ParseTold.{CountTold, ArgumentsCut, ArgumentsKept, CountedTold, EnterTold}
+use Rattle.type_references.specs.told.Pending.{rowsRead, prefixed, argumentRows}
+use Rattle.type_references.specs.told.ParseTold.{CountTold, ArgumentsCut, ArgumentsKept, CountedTold, EnterTold}
 use Rattle.type_references.specs.declared.enter.Counted.{Counted}
 use Rattle.type_references.specs.declared.enter.Counted.the-variants as counted
 
@@ -55,21 +55,21 @@ row-length : (o role : ℕ) (nullable : Bool) (name : Option Text) (count : ℕ)
 unfolding rowsLength bodyLength
 row-length o role nullable name count = sheet-length o (typeRow role nullable name count)
 
-row-text : (role : ℕ) (nullable : Bool) (name : Option Text) (count : ℕ) → texts (typeRow role nullable name count) ≡ cellText (named name)
+row-text : (role : ℕ) (nullable : Bool) (name : Option Text) (count : ℕ) → texts (typeRow role nullable name count) ≡ cellText (nameCell name)
 unfolding texts bodyText
 row-text role nullable name count = simp append-nil
 
 -- and that it is written
 pub type-put : (role : ℕ) (nullable : Bool) (name : Option Text) (count : ℕ) (s : State) (S T : List ℕ) {S₁ S₂ S₃ S₄ S₅ T₄ : List ℕ} {head : State}
     → S₁ ≡ set S (s .sheet) 6 → S₂ ≡ sets S₁ (s .sheet + 1) (little 1 role) → S₃ ≡ sets S₂ (s .sheet + 2) (little 1 (oneIf nullable))
-    → PutCells (named name ∷ []) (s .types - 1) (record { sheet = s .sheet + 3; text = s .text; types = s .types - 1 }) head S₃ S₄ T T₄
+    → PutCells (nameCell name ∷ []) (s .types - 1) (record { sheet = s .sheet + 3; text = s .text; types = s .types - 1 }) head S₃ S₄ T T₄
     → S₅ ≡ sets S₄ (head .sheet) (little 2 count)
     → PutRows (typeRow role nullable name count) (s .types - 1) s (past 2 head) S S₅ T T₄
 unfolding texts sheetFrom
 type-put role nullable name count s S T {S₄ = S₄} {T₄ = T₄} {head} p q u v w =
     let written = head-put role nullable name s S T p q u v in
     let none-after = put-left (put-none (past 2 head) S₄ T₄) (put-types written) in
-    row-counted 6 (num 1 role ∷ bit nullable ∷ named name ∷ []) 2 count [] written none-after w
+    row-counted 6 (num 1 role ∷ bit nullable ∷ nameCell name ∷ []) 2 count [] written none-after w
 
 -- A type that is entered: its rows are its own, then those of its arguments, if these are as many as its own row says.
 module _ (c : Scope) (d : ℕ) (m : Message) (n : ℕ) (h : 1 ≤ n) (l : n ≤ allowance) {ms : List Message} (e : messages Type·argument m ≡ ok ms)
@@ -128,14 +128,16 @@ module _ (e : Lent) (msg : List ℕ) (base left role : ℕ) (nullable : Bool) (s
     some-left : 1 ≤ s .types
     some-left = omega arith
 
-    pub enter-uncut : {error : WireError} → x ≡ counted.Refused error → {S S′ T T′ : List ℕ}
-        → EnterTold e msg base left role nullable s (walked.Refused (stop.Wire error)) S S′ T T′
-    enter-uncut {error} g = record {
+    pub enter-uncut : {error err : WireError} → x ≡ counted.Refused error → err ≡ error → {S S′ T T′ : List ℕ}
+        → EnterTold e msg base left role nullable s (walked.Refused (stop.Wire err)) S S′ T T′
+    enter-uncut {error} {err} g q = record {
       spends = tt;
       one = tt;
       is = λ c o m k d l.
-          let cuts : messages Type·argument m ≡ refusal (stop.Wire error) = subst (ArgumentsCut (messages Type·argument m)) g (t .cuts m k) in
-          type-uncut c d m (s .types) some-left (ready .room .types) error cuts;
+          let cuts : messages Type·argument m ≡ stopRefused (stop.Wire error) = subst (ArgumentsCut (messages Type·argument m)) g (t .cuts m k) in
+          let same : messages Type·argument m ≡ stopRefused (stop.Wire err) =
+          subst (λ (y : WireError). messages Type·argument m ≡ stopRefused (stop.Wire y)) (sym q) cuts in
+          type-uncut c d m (s .types) some-left (ready .room .types) err same;
     }
 
     module _ {count : ℕ} (g : x ≡ counted.Count count) {own : TypeHead} (f : HeadTold base msg own) {either : Bool} (q : either ≡ (nullable || own .nullable)) (name : Name)

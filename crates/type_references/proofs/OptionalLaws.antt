@@ -7,15 +7,15 @@ use Prim.Native.Nat.{ℕ}
 use Rattle.foundation.specs.Results.{ok, _from_}
 use Rattle.wire.specs.Wire.{Message, cut}
 use Rattle.sheet.specs.Rows.{sheetFrom, texts}
-use Rattle.sheet.specs.Put.{PutRows}
+use Rattle.sheet.specs.told.Put.{PutRows}
 use Rattle.sheet.specs.declared.State.{State}
 use Rattle.sheet.proofs.PutLaws.{put-none}
 use Rattle.schema.specs.Reading.{Scope}
 use Rattle.schema.specs.Types.{declaredType}
 use Rattle.declaration_rows.specs.Rows.{typeRows}
-use Rattle.schema.specs.Told.{Lent, Scoped, PickedSpends, PickedTold}
-use Rattle.schema.specs.TypesTold.{rowsIn, pickedOf, ResolveTold, DeclaredTold}
-use Rattle.type_references.specs.OptionalTold.{optionalOf, LookedTold, OptionalTold}
+use Rattle.schema.specs.told.SchemaTold.{Lent, Scoped, PickedSpends, PickedTold}
+use Rattle.schema.specs.told.TypesTold.{rowsIn, pickedOf, ResolveTold, DeclaredTold}
+use Rattle.type_references.specs.told.OptionalTold.{optionalOf, LookedTold, OptionalTold}
 use Rattle.schema.specs.declared.Stop.{Stop}
 use Rattle.schema.specs.declared.Walked.{Walked}
 use Rattle.schema.specs.declared.Walked.the-variants as walked

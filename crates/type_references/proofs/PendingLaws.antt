@@ -13,19 +13,19 @@ use Rattle.wire.specs.Wire.{Message}
 use Rattle.wire.specs.Messages.{message, index}
 use Rattle.wire.proofs.WalkLaws.{ok-same}
 use Rattle.sheet.specs.Rows.{Row, sheetFrom, texts}
-use Rattle.sheet.specs.Put.{PutRows}
+use Rattle.sheet.specs.told.Put.{PutRows}
 use Rattle.sheet.specs.declared.State.{State}
 use Rattle.sheet.proofs.PutLaws.{put-none, rows-then}
 use Rattle.declaration_rows.specs.Declarations.{Ty}
 use Rattle.schema.specs.Reading.{Read, pure, keep, kept, Scope, allowance}
 use Rattle.schema.specs.Types.{resolveAt, typeIn, argumentIn, typeAt}
 use Rattle.declaration_rows.specs.Rows.{argumentRole, typesRows, typeRows}
-use Rattle.schema.specs.Told.{WalkedTold}
-use Rattle.schema.specs.TypesTold.{orNullable, rowsIn}
+use Rattle.schema.specs.told.SchemaTold.{WalkedTold}
+use Rattle.schema.specs.told.TypesTold.{orNullable, rowsIn}
 use Rattle.schema.specs.declared.Walked.{Walked}
 use Rattle.schema.specs.declared.Walked.the-variants as walked
 use Rattle.schema.proofs.ArgumentLaws.{types-cons}
-use Rattle.type_references.specs.Pending.{rowsRead, prefixed, argumentRows, Wait, waits, pending}
+use Rattle.type_references.specs.told.Pending.{rowsRead, prefixed, argumentRows, Wait, waits, pending}
 
 -- Some rows, then those that are read.
 pub prefixed-none : (r : Res (List Row × ℕ)) → prefixed [] r ≡ r

@@ -7,7 +7,7 @@ use native.Mathlib.Numerals.{add-one}
 use native.Mathlib.Omega.{arith}
 use lib.ListN.{length, take, set, getD}
 use lib.Seq.{getD-take, getD-set-same, take-set-le, take-take}
-use Rattle.type_references.specs.Pending.{Wait, waitingCode, atIn, endIn, leftIn, Pends, Stacked, Inside, weight}
+use Rattle.type_references.specs.told.Pending.{Wait, waitingCode, atIn, endIn, leftIn, Pends, Stacked, PendingInside, weight}
 
 -- Places of 16 bits are read back from the number.
 module _ (at end left : ℕ) (h : at ≤ 32768) (k : end ≤ 32768) where
@@ -47,9 +47,9 @@ module _ (nest nest′ : List ℕ) where
         stacked-same base msg h ws (take-less h height (omega arith) e) s,
       )
 
-  pub inside-same : (msg : List ℕ) (left height i : ℕ) → i < height → take height nest′ ≡ take height nest → Inside msg left (getD nest i 0)
-      → Inside msg left (getD nest′ i 0)
-  inside-same msg left height i l e s = subst (Inside msg left) (sym (getD-below height i l e)) s
+  pub inside-same : (msg : List ℕ) (left height i : ℕ) → i < height → take height nest′ ≡ take height nest → PendingInside msg left (getD nest i 0)
+      → PendingInside msg left (getD nest′ i 0)
+  inside-same msg left height i l e s = subst (PendingInside msg left) (sym (getD-below height i l e)) s
 
 -- Each that waits counts.
 pub weight-more : (nest : List ℕ) (height : ℕ) → height ≤ weight nest height
@@ -79,7 +79,7 @@ module _ (nest : List ℕ) (height at end left : ℕ) (room : height < length ne
       stacked-same nest nest′ base msg height ws push-below s,
     )
 
-    pub inside-push : (msg : List ℕ) (left₀ : ℕ) → at ≤ end → end ≤ length msg → left ≤ left₀ → Inside msg left₀ (getD nest′ height 0)
+    pub inside-push : (msg : List ℕ) (left₀ : ℕ) → at ≤ end → end ≤ length msg → left ≤ left₀ → PendingInside msg left₀ (getD nest′ height 0)
     inside-push msg left₀ o s d =
         rw push-here (record {
           ordered = rw (at-in at end left h k, end-in at end left h k) o;

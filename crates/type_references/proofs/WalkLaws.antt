@@ -14,8 +14,8 @@ use Rattle.foundation.specs.Results.{Res, ok, refused, Cause, _from_}
 use Rattle.fields.specs.Fields.{Type·argument, Type·Argument·type}
 use Rattle.wire.specs.Wire.{Message, cut}
 use Rattle.wire.specs.Messages.{message, cutAll, messages}
-use Rattle.wire.specs.Told.{bodyOf}
-use Rattle.messages.specs.Asked.{bodies, NextIs, NextTold, PieceInside, PieceBegins}
+use Rattle.wire.specs.told.WireTold.{partBetween}
+use Rattle.messages.specs.told.Asked.{bodies, NextIs, NextBodyTold, PieceInside, PieceBegins}
 use Rattle.wire.specs.declared.WireError.{WireError}
 use Rattle.wire.specs.declared.Piece.{Piece}
 use Rattle.wire.specs.declared.Piece.the-variants as piece
@@ -24,15 +24,15 @@ use Rattle.messages.proofs.BodyLaws.{part-is}
 use Rattle.lookup.proofs.LookupLaws.{part-longer}
 use Rattle.characters.proofs.PartLaws.{rest-is}
 use Rattle.sheet.specs.Rows.{Row}
-use Rattle.sheet.specs.Put.{PutRows}
+use Rattle.sheet.specs.told.Put.{PutRows}
 use Rattle.sheet.specs.declared.State.{State}
 use Rattle.sheet.proofs.PutLaws.{put-types, put-left}
 use Rattle.declaration_rows.specs.Declarations.{Ty}
 use Rattle.schema.specs.Reading.{kept, Scope, allowance}
 use Rattle.schema.specs.Types.{maxDepth, resolveAt, argumentIn, typeAt}
 use Rattle.declaration_rows.specs.Rows.{argumentRole}
-use Rattle.schema.specs.Told.{Lent, Scoped, Ready, Spends, WalkedSpends, PickedSpends, PickedTold, refusal}
-use Rattle.schema.specs.TypesTold.{orNullable, rowsIn, ResolveTold}
+use Rattle.schema.specs.told.SchemaTold.{Lent, Scoped, Ready, Spends, WalkedSpends, PickedSpends, PickedTold, stopRefused}
+use Rattle.schema.specs.told.TypesTold.{orNullable, rowsIn, ResolveTold}
 use Rattle.schema.specs.declared.Tables.{Tables}
 use Rattle.schema.specs.declared.Stop.{Stop}
 use Rattle.schema.specs.declared.Stop.the-variants as stop
@@ -42,8 +42,37 @@ use Rattle.schema.specs.declared.Picked.{Picked}
 use Rattle.schema.specs.declared.Picked.the-variants as picked
 use Rattle.schema.proofs.TypeLaws.{spends-none, spends-then, ready-after}
 use Rattle.schema.proofs.ListLaws.{cut-first}
-use Rattle.type_references.specs.Pending.{rowsRead, prefixed, argumentRows, Wait, waits, pending, waitingCode, atIn, endIn, leftIn, Pends, Stacked, Inside, weight}
-use Rattle.type_references.specs.ParseTold.{ArgumentIs, ArgumentInside, ArgumentTold, EnteredIs, EnteredOne, EnterTold, ArgumentsTold, Fits, asTypes, asBytes, FitsEntry, roomy, nowhere}
+use Rattle.type_references.specs.told.Pending.{
+  rowsRead,
+  prefixed,
+  argumentRows,
+  Wait,
+  waits,
+  pending,
+  waitingCode,
+  atIn,
+  endIn,
+  leftIn,
+  Pends,
+  Stacked,
+  PendingInside,
+  weight,
+}
+use Rattle.type_references.specs.told.ParseTold.{
+  ArgumentIs,
+  ArgumentInside,
+  ArgumentTold,
+  EnteredIs,
+  EnteredOne,
+  EnterTold,
+  ArgumentsTold,
+  WaitingRoom,
+  asTypes,
+  asBytes,
+  FitsEntry,
+  roomy,
+  nowhere,
+}
 use Rattle.type_references.specs.declared.arguments.Argument.{Argument}
 use Rattle.type_references.specs.declared.arguments.Argument.the-variants as argument
 use Rattle.type_references.specs.declared.waiting.Waiting.{Waiting}
@@ -85,11 +114,11 @@ pub record Met (base : ℕ) (msg : List ℕ) (end left a b : ℕ) (w : Wait) : T
   pub first : Message
   pub others : List Message
   pub are : w .arguments ≡ first ∷ others
-  pub cuts : cut (bodyOf base msg a b) ≡ ok first
+  pub cuts : cut (partBetween base msg a b) ≡ ok first
   pub rest : Pends base msg b end left (waits (w .depth) others)
 
 module _ {base : ℕ} {msg : List ℕ} {at end left : ℕ} {w : Wait} (p : Pends base msg at end left w) (ordered : at ≤ end) {x : Piece}
-    (t : NextTold base (take end msg) Type·argument at x) where
+    (t : NextBodyTold base (take end msg) Type·argument at x) where
   next-is : {y : Piece} → x ≡ y → NextIs base (take end msg) Type·argument (p .rest) y
   next-is g = subst (NextIs base (take end msg) Type·argument (p .rest)) g (t .is (p .rest) (ap cut (part-is base msg at end ordered) ∙ p .cuts))
 
@@ -103,7 +132,7 @@ module _ {base : ℕ} {msg : List ℕ} {at end left : ℕ} {w : Wait} (p : Pends
       let i = subst (PieceInside (take end msg)) g (t .inside) in
       let few : b ≤ end = omega (arith, length-take end msg, i .1) in
       let n = next-is g in
-      let f = cut-first (bodyOf base (take end msg) a b) (bodies Type·argument (n .0)) (w .arguments) (ap cutAll (sym (n .2)) ∙ p .many) in
+      let f = cut-first (partBetween base (take end msg) a b) (bodies Type·argument (n .0)) (w .arguments) (ap cutAll (sym (n .2)) ∙ p .many) in
       record {
         first = f .first;
         others = f .others;
@@ -133,7 +162,7 @@ pub record Looping (e : Lent) (msg : List ℕ) (base left : ℕ) (s₀ : State) 
   pub room : height + s .types ≤ s₀ .types
   pub fewer : (end - at) + weight nest height ≤ length msg
   pub spends : Spends s₀ s
-  pub inside : (i : ℕ) → i < height → Inside msg left (getD nest i 0)
+  pub inside : (i : ℕ) → i < height → PendingInside msg left (getD nest i 0)
   pub going : (c : Scope) → Scoped e c → (m : Message) → cut (_from_ base msg) ≡ ok m → (ms : List Message) → messages Type·argument m ≡ ok ms
       → (d : ℕ) → left ≡ maxDepth - d
       → Goes (rowsRead argumentRows (kept (argumentIn (typeAt allowance c) c d) ms (s₀ .types))) c base msg nest height at end deep s₀ s S₀ S T₀ T
@@ -238,17 +267,17 @@ module _ {e : Lent} {msg : List ℕ} {base left : ℕ} {s₀ : State} {S₀ T₀
     few-wait = omega (arith, g .fewer, weight-more nest height)
 
     -- what waits stands in the area
-    pub loop-height : {tables : Tables} {k : ℕ} → Fits tables (s₀ .types) (length msg) k → height ≤ k
+    pub loop-height : {tables : Tables} {k : ℕ} → WaitingRoom tables (s₀ .types) (length msg) k → height ≤ k
     loop-height (asTypes h) = omega (arith, g .room)
     loop-height (asBytes z h) = omega (arith, few-wait)
 
     -- what is free of the area is lent: it has room, and what waits is as it was when it is back
-    pub loop-room : {tables : Tables} → Fits tables (s₀ .types) (length msg) (length nest)
+    pub loop-room : {tables : Tables} → WaitingRoom tables (s₀ .types) (length msg) (length nest)
         → FitsEntry tables (s .types) (length (midOf height (length nest - height) nest))
     loop-room (asTypes h) = roomy (omega (arith, g .room, mid-len height (length nest) nest (omega arith)))
     loop-room (asBytes z h) = nowhere z
 
-    pub waits-kept : {tables : Tables} → Fits tables (s₀ .types) (length msg) (length nest) → (part : List ℕ)
+    pub waits-kept : {tables : Tables} → WaitingRoom tables (s₀ .types) (length msg) (length nest) → (part : List ℕ)
         → take height (putMid height (length nest - height) nest part) ≡ take height nest
     waits-kept h part = take-put height (length nest - height) nest part (loop-height h)
 
@@ -260,14 +289,14 @@ module _ {e : Lent} {msg : List ℕ} {base left : ℕ} {s₀ : State} {S₀ T₀
       pub pop-some : 1 ≤ height
       pop-some = omega arith
 
-      pub pop-room : {tables : Tables} {k : ℕ} → Fits tables (s₀ .types) (length msg) k → height - 1 < k
+      pub pop-room : {tables : Tables} {k : ℕ} → WaitingRoom tables (s₀ .types) (length msg) k → height - 1 < k
       pop-room (asTypes h) = omega (arith, g .room, pop-some)
       pop-room (asBytes z h) = omega (arith, few-wait, pop-some)
 
-      last-inside : Inside msg left (getD nest (height - 1) 0)
+      last-inside : PendingInside msg left (getD nest (height - 1) 0)
       last-inside = g .inside (height - 1) (omega (arith, pop-some))
 
-    module _ {x : Piece} (t : NextTold base (take end msg) Type·argument at x) where
+    module _ {x : Piece} (t : NextBodyTold base (take end msg) Type·argument at x) where
       -- no argument is left here
       module _ (q : x ≡ piece.Nothing) where
         passed-all : {told : Res (List Row × ℕ)} {c : Scope} (o : Goes told c base msg nest height at end deep s₀ s S₀ S T₀ T)
@@ -328,7 +357,7 @@ module _ {e : Lent} {msg : List ℕ} {base left : ℕ} {s₀ : State} {S₀ T₀
               → Met base msg end deep a b (o .wait)
           next-argument o = met (o .here) (g .ordered) t q
 
-          argument-is : {y : Argument} → r ≡ y → (m : Message) → cut (bodyOf base msg a b) ≡ ok m → ArgumentIs base msg m y
+          argument-is : {y : Argument} → r ≡ y → (m : Message) → cut (partBetween base msg a b) ≡ ok m → ArgumentIs base msg m y
           argument-is v m k = subst (ArgumentIs base msg m) v (u .is m k)
 
           -- the loop from b on, once it is known what it tells
@@ -354,8 +383,8 @@ module _ {e : Lent} {msg : List ℕ} {base left : ℕ} {s₀ : State} {S₀ T₀
               goes-dropped go n nest refl (argument-nowhere c (go .wait .depth) (n .first) (s .types) (i .0) (i .1))
 
           -- what refuses an argument refuses them all
-          refused-all : (stop : Stop) → ((c : Scope) → Scoped e c → (m : Message) → cut (bodyOf base msg a b) ≡ ok m → (d : ℕ) → deep ≡ maxDepth - d
-              → argumentIn (typeAt allowance c) c d m (s .types) ≡ refusal stop) → {S′ T′ : List ℕ}
+          refused-all : (stop : Stop) → ((c : Scope) → Scoped e c → (m : Message) → cut (partBetween base msg a b) ≡ ok m → (d : ℕ) → deep ≡ maxDepth - d
+              → argumentIn (typeAt allowance c) c d m (s .types) ≡ stopRefused stop) → {S′ T′ : List ℕ}
               → ArgumentsTold e msg base left s₀ (walked.Refused stop) S₀ S′ T₀ T′
           refused-all stop f = record {
             spends = tt;
@@ -378,7 +407,7 @@ module _ {e : Lent} {msg : List ℕ} {base left : ℕ} {s₀ : State} {S₀ T₀
                 (i .0, i .1, i .2, omega (arith, i .2, body-in))
 
             module _ {w : Walked} {S′ T′ : List ℕ} (n : EnterTold e (take (last - first) (drop first msg)) (base + first) deep argumentRole false s w S S′ T T′) where
-              entered-is : {z : Walked} → w ≡ z → (c : Scope) → Scoped e c → (m : Message) (k : cut (bodyOf base msg a b) ≡ ok m) (d : ℕ) → deep ≡ maxDepth - d
+              entered-is : {z : Walked} → w ≡ z → (c : Scope) → Scoped e c → (m : Message) (k : cut (partBetween base msg a b) ≡ ok m) (d : ℕ) → deep ≡ maxDepth - d
                   → EnteredIs c d (argument-is v m k .0) argumentRole false s z S S′ T T′
               entered-is {z} h c o m k d l =
                   let i = argument-is v m k in
@@ -395,7 +424,7 @@ module _ {e : Lent} {msg : List ℕ} {base left : ℕ} {s₀ : State} {S₀ T₀
                 one-less : s .types ≡ 1 + s′ .types
                 one-less = subst (EnteredOne s) h (n .one)
 
-                pub push-room : {tables : Tables} {k : ℕ} → Fits tables (s₀ .types) (length msg) k → height < k
+                pub push-room : {tables : Tables} {k : ℕ} → WaitingRoom tables (s₀ .types) (length msg) k → height < k
                 push-room (asTypes l) = omega (arith, g .room, one-less)
                 push-room (asBytes z l) = omega (arith, few-wait, body-in)
 
@@ -403,10 +432,10 @@ module _ {e : Lent} {msg : List ℕ} {base left : ℕ} {s₀ : State} {S₀ T₀
                   few-here : (b ≤ 32768) × (end ≤ 32768)
                   few-here = (omega (arith, body-in), omega (arith, g .short))
 
-                  pushed-inside : (i : ℕ) → i < height + 1 → Inside msg left (getD nest′ i 0)
+                  pushed-inside : (i : ℕ) → i < height + 1 → PendingInside msg left (getD nest′ i 0)
                   pushed-inside i k = go (ltb i height) refl
                     where
-                      go : (t : Bool) → ltb i height ≡ t → Inside msg left (getD nest′ i 0)
+                      go : (t : Bool) → ltb i height ≡ t → PendingInside msg left (getD nest′ i 0)
                       go true f =
                           let below : i < height = ltb-true i height f in
                           inside-same nest nest′ msg left height i below (push-below nest height b end deep room p) (g .inside i below)
@@ -447,7 +476,7 @@ module _ {e : Lent} {msg : List ℕ} {base left : ℕ} {s₀ : State} {S₀ T₀
 
           -- its type by an index
           module _ {i : ℕ} (v : r ≡ argument.ByIndex i) {p : Picked} {S′ T′ : List ℕ} (n : ResolveTold e i deep argumentRole s p S S′ T T′) where
-            resolved-is : {z : Picked} → p ≡ z → (c : Scope) → Scoped e c → (m : Message) → cut (bodyOf base msg a b) ≡ ok m → (d : ℕ) → deep ≡ maxDepth - d
+            resolved-is : {z : Picked} → p ≡ z → (c : Scope) → Scoped e c → (m : Message) → cut (partBetween base msg a b) ≡ ok m → (d : ℕ) → deep ≡ maxDepth - d
                 → PickedTold (argumentIn (typeAt allowance c) c d m (s .types)) (rowsIn argumentRole) s z S S′ T T′
             resolved-is {z} h c o m k d l =
                 let j = argument-is v m k in

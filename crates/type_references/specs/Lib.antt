@@ -1,3 +1,1 @@
-pub mod Pending
-pub mod ParseTold
-pub mod OptionalTold
+pub mod told

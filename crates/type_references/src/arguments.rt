@@ -1,7 +1,7 @@
-// The arguments of a type: where the type of each stands, and how many are kept. What is told: specs/ParseTold.antt.
+// The arguments of a type: where the type of each stands, and how many are kept. What is told: specs/told/ParseTold.antt.
 ghost use Prim.Native.Nat.{_+_, _≤_};
 ghost use lib.ListN.{length};
-ghost use Rattle.type_references.specs.ParseTold.{TypeFieldTold, ArgumentTold, KeptTold, CountTold};
+ghost use Rattle.type_references.specs.told.ParseTold.{TypeFieldTold, ArgumentTold, KeptTold, CountTold};
 use fields::TYPE_ARGUMENT;
 use fields::TYPE_ARGUMENT_TYPE;
 use fields::TYPE_ARGUMENT_TYPE_ID;

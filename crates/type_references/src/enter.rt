@@ -1,4 +1,4 @@
-// A type is entered: its row, with how many of its arguments are kept. What is told: specs/ParseTold.antt.
+// A type is entered: its row, with how many of its arguments are kept. What is told: specs/told/ParseTold.antt.
 ghost use mathlib.Core.Path.{_≡_};
 ghost use mathlib.Core.Bool.{false};
 ghost use mathlib.Core.List.{[], _∷_};
@@ -7,13 +7,13 @@ ghost use lib.ListN.{length};
 ghost use Rattle.foundation.specs.Results.{ok, _from_};
 ghost use Rattle.fields.specs.Fields.{Type·argument};
 ghost use Rattle.wire.specs.Wire.{cut, Message};
-ghost use Rattle.messages.specs.Asked.{bodies};
-ghost use Rattle.names.specs.Name.{nameText};
+ghost use Rattle.messages.specs.told.Asked.{bodies};
+ghost use Rattle.names.specs.told.Name.{nameText};
 ghost use Rattle.sheet.specs.Rows.{row};
-ghost use Rattle.sheet.specs.Put.{PutRows};
+ghost use Rattle.sheet.specs.told.Put.{PutRows};
 ghost use Rattle.declaration_rows.specs.Rows.{typeCells};
-ghost use Rattle.schema.specs.Told.{lent, Ready};
-ghost use Rattle.type_references.specs.ParseTold.{CountedTold, EnterTold};
+ghost use Rattle.schema.specs.told.SchemaTold.{lent, Ready};
+ghost use Rattle.type_references.specs.told.ParseTold.{CountedTold, EnterTold};
 use crate::arguments::count_kept;
 use declaration_rows::put_named;
 use fields::TYPE_ARGUMENT;
@@ -80,6 +80,17 @@ enum Counted {
     Refused { error: WireError },
 }
 
+impl Counted {
+    fn error(self) -> WireError
+        ensures { λ r. ⌜ ((e : WireError) → self ≡ Counted.Refused e → r ≡ e) ⌝ }
+    {
+        match self {
+            Counted::Count { count: _ } => WireError::VarintCutShort { place: 0 },
+            Counted::Refused { error } => error,
+        }
+    }
+}
+
 // The arguments of a type are cut and counted, if it has any. `left` is left at them.
 fn count_arguments(
     msg: &[u8],
@@ -140,26 +151,26 @@ pub(crate) fn enter_type(
         &*notes,
         tables,
     );
-    match arguments {
-        Counted::Refused { error } => Walked::Refused {
-            stop: Stop::Wire { error },
-        },
-        Counted::Count { count } => {
-            let nulls = either(place.nullable, own.nullable);
-            let found = own.name;
-            let name = class_name_at(found, &*payload, &*d2, &*ends, &*notes, tables.records);
-            let after = put_type(
-                place.role,
-                nulls,
-                &*payload,
-                &*d2,
-                name,
-                count,
-                state,
-                sheet,
-                text,
-            );
-            Walked::Done { state: after }
-        }
-    }
+    let Counted::Count { count } = arguments else {
+        return Walked::Refused {
+            stop: Stop::Wire {
+                error: arguments.error(),
+            },
+        };
+    };
+    let nulls = either(place.nullable, own.nullable);
+    let found = own.name;
+    let name = class_name_at(found, &*payload, &*d2, &*ends, &*notes, tables.records);
+    let after = put_type(
+        place.role,
+        nulls,
+        &*payload,
+        &*d2,
+        name,
+        count,
+        state,
+        sheet,
+        text,
+    );
+    Walked::Done { state: after }
 }

@@ -1,13 +1,13 @@
 // Type references: a declaration's own type and those in its arguments, inline or by their index in the type table. Depth is counted down from
 // 64, and so are the types that may still be entered. The definitions: schema's specs/Types.antt; what waits while inner types are read:
-// specs/Pending.antt.
+// specs/told/Pending.antt.
 ghost use mathlib.Core.Path.{_≡_};
 ghost use Prim.Native.Nat.{_+_, _≤_};
 ghost use lib.ListN.{length};
-ghost use Rattle.schema.specs.Told.{lent, Ready};
-ghost use Rattle.schema.specs.TypesTold.{ParseTold};
-ghost use Rattle.type_references.specs.ParseTold.{ArgumentsTold};
-ghost use Rattle.type_references.specs.OptionalTold.{LookedTold, OptionalTold};
+ghost use Rattle.schema.specs.told.SchemaTold.{lent, Ready};
+ghost use Rattle.schema.specs.told.TypesTold.{ParseTold};
+ghost use Rattle.type_references.specs.told.ParseTold.{ArgumentsTold};
+ghost use Rattle.type_references.specs.told.OptionalTold.{LookedTold, OptionalTold};
 use arguments::Argument;
 use arguments::type_field;
 use enter::TypePlace;

@@ -1,11 +1,11 @@
-// Types and their arguments. `parse_at`, `arguments_at` and `resolve_at` are one cycle: what falls along it is the depth left, since a look-up
-// takes one of it. Types inside types are a loop, since an input can nest 2,048 of them: what falls there is the bytes left. What is told:
-// specs/ParseTold.antt and schema's specs/TypesTold.antt.
+// Types and their arguments. `parse_at`, `arguments_at` and `resolve_at` are one cycle: what falls along it is one number of the depth left, of
+// which a look-up takes one, and the bytes of the message (`remaining`). Types inside types are a loop, since an input can nest 2,048 of them:
+// what falls there is the bytes left. What is told: specs/told/ParseTold.antt and schema's specs/told/TypesTold.antt.
 ghost use Prim.Native.Nat.{_≤_};
 ghost use lib.ListN.{length};
-ghost use Rattle.schema.specs.Told.{lent, Ready};
-ghost use Rattle.schema.specs.TypesTold.{ParseTold, ResolveTold};
-ghost use Rattle.type_references.specs.ParseTold.{ArgumentsTold, FitsEntry, NestRoom};
+ghost use Rattle.schema.specs.told.SchemaTold.{lent, Ready};
+ghost use Rattle.schema.specs.told.TypesTold.{ParseTold, ResolveTold};
+ghost use Rattle.type_references.specs.told.ParseTold.{ArgumentsTold, FitsEntry, NestRoom};
 use crate::arguments::Argument;
 use crate::arguments::argument_at;
 use crate::enter::TypePlace;

@@ -1,9 +1,9 @@
 // What waits while an inner type is read: in a lent area, the arguments of the outer types, the innermost last. The numbers:
-// specs/Pending.antt, `waitingCode`.
+// specs/told/Pending.antt, `waitingCode`.
 ghost use mathlib.Core.Path.{_≡_};
 ghost use Prim.Native.Nat.{_≤_, _<_};
 ghost use lib.ListN.{length, set, getD};
-ghost use Rattle.type_references.specs.Pending.{waitingCode, atIn, endIn, leftIn};
+ghost use Rattle.type_references.specs.told.Pending.{waitingCode, atIn, endIn, leftIn};
 
 // The arguments from a place to an end of the message, and what is left of the depth there.
 pub(crate) struct Waiting {

@@ -24,7 +24,7 @@ use Rattle.wire.specs.Wire.{
   body,
   field,
 }
-use Rattle.wire.specs.Told.{refusal, restOf, bodyOf, varintTold, Inside, valueOf, ValueTold}
+use Rattle.wire.specs.told.WireTold.{wireRefused, restOf, partBetween, varintTold, Inside, valueOf, ValueTold}
 use Rattle.wire.specs.declared.WireError.{WireError}
 use Rattle.wire.specs.declared.Varint.{Varint}
 use Rattle.wire.specs.declared.Varint.the-variants as read
@@ -88,8 +88,8 @@ module _ (base : ℕ) (s : List ℕ) (at : ℕ) where
     varint-is g = e ∙ ap (varintTold base s) g
 
     -- err is the error that the answer holds
-    pub varint-refused : {error err : WireError} → r ≡ read.Refused error → err ≡ error → readVarint (restOf base s at) ≡ refusal err
-    varint-refused g h = e ∙ ap (varintTold base s) g ∙ ap (refusal {A = Got ℕ}) (sym h)
+    pub varint-refused : {error err : WireError} → r ≡ read.Refused error → err ≡ error → readVarint (restOf base s at) ≡ wireRefused err
+    varint-refused g h = e ∙ ap (varintTold base s) g ∙ ap (wireRefused {A = Got ℕ}) (sym h)
 
     module _ {n next : ℕ} (g : r ≡ read.Read n next) where
       pub varint-inside : at ≤ length s → (at + 1 ≤ next) × (next ≤ length s)
@@ -101,7 +101,7 @@ module _ (base : ℕ) (s : List ℕ) (at : ℕ) where
       delimited-past h = rw (varint-is g) (bytes-past (base + at) n (restOf base s next) (rw length-drop h))
 
       pub delimited-there : n ≤ length s - next
-          → readDelimited (restOf base s at) ≡ got (bodyOf base s next (next + n)) (restOf base s (next + n))
+          → readDelimited (restOf base s at) ≡ got (partBetween base s next (next + n)) (restOf base s (next + n))
       unfolding readDelimited
       delimited-there h =
           rw (varint-is g)
@@ -156,8 +156,8 @@ fixed-end s at width (suc k) h e = absurd (omega arith)
 
 -- the code's answer to a value
 module _ (base : ℕ) (s : List ℕ) {p : Res (Got Value)} {r : ValueStep} (e : ValueTold base s p r) where
-  pub value-refused : {error err : WireError} → r ≡ valueStep.Refused error → err ≡ error → p ≡ refusal err
-  value-refused g h = subst (ValueTold base s p) g e ∙ ap (refusal {A = Got Value}) (sym h)
+  pub value-refused : {error err : WireError} → r ≡ valueStep.Refused error → err ≡ error → p ≡ wireRefused err
+  value-refused g h = subst (ValueTold base s p) g e ∙ ap (wireRefused {A = Got Value}) (sym h)
 
   pub value-is : {v : WireValue} {next : ℕ} → r ≡ valueStep.Value v next → (p ≡ got (valueOf base s v) (restOf base s next)) × Inside s v
   value-is g = subst (ValueTold base s p) g e
@@ -169,7 +169,7 @@ value-told base s r {p} {q} e h = subst (λ (x : Res (Got Value)). ValueTold bas
 -- a field whose value the code has read
 module _ (base : ℕ) (s : List ℕ) (at : ℕ) {tag : ℕ} (next : ℕ) (e : readVarint (restOf base s at) ≡ got tag (restOf base s next))
     (h : tag / 8 ≤ 4294967295) {x : ValueStep} (t : ValueTold base s (readValue (base + at) (tag % 8) (restOf base s next)) x) where
-  pub field-not : {error err : WireError} → x ≡ valueStep.Refused error → err ≡ error → readField (restOf base s at) ≡ refusal err
+  pub field-not : {error err : WireError} → x ≡ valueStep.Refused error → err ≡ error → readField (restOf base s at) ≡ wireRefused err
   field-not z q = field-value (restOf base s at) e h ∙ ap (mapGot (field (tag / 8))) (value-refused base s t z q)
 
   pub field-read : {v : WireValue} {after : ℕ} → x ≡ valueStep.Value v after

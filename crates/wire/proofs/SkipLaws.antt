@@ -8,7 +8,7 @@ use lib.ListN.{length, getD}
 use Rattle.foundation.specs.Results.{Res, ok, refused, _>>=_, Part, mapGot}
 use Rattle.wire.specs.Wire.{varint, body, field, readField, Message, cut}
 use Rattle.wire.specs.Messages.{values}
-use Rattle.wire.specs.Told.{restOf, valueOf, FieldTold, ShortTold, ShortField, Skips, SkipTold}
+use Rattle.wire.specs.told.WireTold.{restOf, valueOf, FieldTold, ShortTold, ShortField, Skips, SkipTold}
 use Rattle.wire.specs.declared.ShortVarint.{ShortVarint}
 use Rattle.wire.specs.declared.WireValue.{WireValue}
 use Rattle.wire.specs.declared.WireValue.the-variants as wire

@@ -12,7 +12,7 @@ use lib.Seq.{drop-cons}
 use Rattle.foundation.specs.Results.{Res, ok, refused, varintCutShort, oversizedVarint, Got, got, mapGot}
 use Rattle.foundation.specs.Digits.{number}
 use Rattle.wire.specs.Wire.{group, groupsFrom, readVarint}
-use Rattle.wire.specs.Told.{restOf, joinedTo}
+use Rattle.wire.specs.told.WireTold.{restOf, joinedTo}
 
 pub joined-whole : (r : Res (Got (List ℕ))) → joinedTo 0 1 r ≡ mapGot (number 128) r
 joined-whole (ok g) = let e : 0 + 1 * number 128 (g .0) ≡ number 128 (g .0) = omega arith in ap (λ (n : ℕ). got n (g .1)) e

@@ -11,7 +11,7 @@ use Rattle.foundation.specs.Results.{Res, ok, refused, _>>=_, Part, _from_, got
 use Rattle.foundation.proofs.ResultLaws.{gives-ok}
 use Rattle.wire.specs.Wire.{Value, field, readField, Message, cut}
 use Rattle.wire.specs.Messages.{values}
-use Rattle.wire.specs.Told.{refusal, restOf, valueOf, Inside, FieldTold}
+use Rattle.wire.specs.told.WireTold.{wireRefused, restOf, valueOf, Inside, FieldTold}
 use Rattle.wire.specs.declared.WireError.{WireError}
 use Rattle.wire.specs.declared.WireValue.{WireValue}
 use Rattle.wire.specs.declared.FieldStep.{FieldStep}
@@ -56,11 +56,11 @@ module _ (base : ℕ) (s : List ℕ) where
         cut-field g = cut-next (restOf base s at) (byte-left s at h) ∙ rw (field-is g .0)
 
         -- err is the error that the answer holds
-        pub cut-refused : {error err : WireError} → r ≡ step.Refused error → err ≡ error → cut (restOf base s at) ≡ refusal err
+        pub cut-refused : {error err : WireError} → r ≡ step.Refused error → err ≡ error → cut (restOf base s at) ≡ wireRefused err
         cut-refused g q =
             cut-next (restOf base s at) (byte-left s at h)
             ∙ (rw (subst (FieldTold base s (readField (restOf base s at))) g e))
-            ∙ ap (refusal {A = Message}) (sym q)
+            ∙ ap (wireRefused {A = Message}) (sym q)
 
         -- of a message that is cut
         pub cut-goes-on : {m : Message} → cut (restOf base s at) ≡ ok m → {n : ℕ} {v : WireValue} {next : ℕ} → r ≡ step.Field n v next

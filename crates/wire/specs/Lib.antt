@@ -1,3 +1,3 @@
 pub mod Wire
 pub mod Messages
-pub mod Told
+pub mod told

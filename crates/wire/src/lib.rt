@@ -1,5 +1,5 @@
 // The wire format: varints and fields in a slice `s` whose first byte has the offset `base` among the decoded bytes. A place in it is
-// `at`. The definitions: specs/Wire.antt; how the answers tell them: specs/Told.antt.
+// `at`. The definitions: specs/Wire.antt; how the answers tell them: specs/told/WireTold.antt.
 ghost use mathlib.Core.Path.{_≡_};
 ghost use mathlib.Core.List.{List};
 ghost use Prim.Native.Nat.{ℕ, _+_, _^_, _≤_, _<_};
@@ -7,7 +7,7 @@ ghost use lib.ListN.{length, take, drop};
 ghost use Rattle.foundation.specs.Results.{Res, Part, Got, got, mapGot};
 ghost use Rattle.foundation.specs.Digits.{number};
 ghost use Rattle.wire.specs.Wire.{groupsFrom, readVarint, readFixed, readValue, readField, varint, body};
-ghost use Rattle.wire.specs.Told.{restOf, numberOf, pieceOf, varintTold, VarintAt, joinedTo, DelimitedTold, DelimitedAt, ValueTold, FieldTold, FieldAt, ShortTold, ShortField, SkipTold};
+ghost use Rattle.wire.specs.told.WireTold.{restOf, valueNumber, pieceOf, varintTold, VarintAt, joinedTo, DelimitedTold, DelimitedAt, ValueTold, FieldTold, FieldAt, ShortTold, ShortField, SkipTold};
 
 // Why a part is refused, with the offset among the decoded bytes that is told.
 pub enum WireError {
@@ -142,7 +142,7 @@ pub enum Piece {
 
 impl WireValue {
     pub fn varint(self) -> Number
-        ensures { λ r. ⌜ r ≡ numberOf self ⌝ }
+        ensures { λ r. ⌜ r ≡ valueNumber self ⌝ }
     {
         match self {
             WireValue::Varint { value } => Number::Value { value },
@@ -208,6 +208,17 @@ impl Varint {
     }
 }
 
+impl Delimited {
+    pub fn error(self) -> WireError
+        ensures { λ r. ⌜ ((e : WireError) → self ≡ Delimited.Refused e → r ≡ e) ⌝ }
+    {
+        match self {
+            Delimited::Body { start: _, end } => WireError::VarintCutShort { place: end },
+            Delimited::Refused { error } => error,
+        }
+    }
+}
+
 // A length as a varint and that many bytes; past the slice's end refused as its varint is.
 pub fn delimited_at(s: &[u8], base: u32, at: usize) -> Delimited
     ensures { λ r. ⌜ DelimitedAt base (now (s .entry)) at r ⌝ }
@@ -242,24 +253,28 @@ pub fn delimited_at(s: &[u8], base: u32, at: usize) -> Delimited
 fn varint_value(read: Varint) -> ValueStep
     ensures { λ r. ⌜ ((base : ℕ) (s : List ℕ) (p : Res (Got ℕ)) → p ≡ varintTold base s read → ValueTold base s (mapGot varint p) r) ⌝ }
 {
-    match read {
-        Varint::Read { value, next } => ValueStep::Value {
-            value: WireValue::Varint { value },
-            next,
-        },
-        Varint::Refused { error } => ValueStep::Refused { error },
+    let Varint::Read { value, next } = read else {
+        return ValueStep::Refused {
+            error: read.error(),
+        };
+    };
+    ValueStep::Value {
+        value: WireValue::Varint { value },
+        next,
     }
 }
 
 fn body_value(read: Delimited) -> ValueStep
     ensures { λ r. ⌜ ((base : ℕ) (s : List ℕ) (p : Res (Got Part)) → DelimitedTold base s p read → ValueTold base s (mapGot body p) r) ⌝ }
 {
-    match read {
-        Delimited::Body { start, end } => ValueStep::Value {
-            value: WireValue::Body { start, end },
-            next: end,
-        },
-        Delimited::Refused { error } => ValueStep::Refused { error },
+    let Delimited::Body { start, end } = read else {
+        return ValueStep::Refused {
+            error: read.error(),
+        };
+    };
+    ValueStep::Value {
+        value: WireValue::Body { start, end },
+        next: end,
     }
 }
 

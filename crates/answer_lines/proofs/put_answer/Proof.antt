@@ -9,35 +9,35 @@ use Rattle.answer_lines.proofs.put_kept.Reads as put-kept-reads
 use Rattle.line.proofs.input.input_end.Reads as input-end-reads
 use Rattle.sheet.proofs.put_all.Reads as put-all-reads
 
--- src/lib.rt:53:22
+-- src/lib.rt:54:22
 input-end-requires : tie.Need-input-end-requires
 input-end-requires c κs = search needs
 
--- src/lib.rt:54:33
+-- src/lib.rt:55:33
 slice-aggregate-put-all : tie.Need-slice-aggregate-put-all
 slice-aggregate-put-all c = search needs
 
--- src/lib.rt:54:9
+-- src/lib.rt:55:9
 put-all-requires : tie.Need-put-all-requires
 put-all-requires c κs = search needs
 
--- src/lib.rt:55:9
+-- src/lib.rt:56:9
 same-length : tie.Need-same-length
 same-length c = search needs
 
--- src/lib.rt:55:9
+-- src/lib.rt:56:9
 returns : tie.Need-returns
 returns c = λ bs s e. wrote-short bs (c .before .before .before .before .before .before .before .before .before .before .before .args .taken) s (omega (arith, c .before .before .before .before .before .before .before .input-end .ensures, c .before .before .before .before .before .if1 .taken)) (c .before .before .put-all .ensures)
 
--- src/lib.rt:57:5
+-- src/lib.rt:58:5
 put-kept-requires : tie.Need-put-kept-requires
 put-kept-requires c κs = search needs
 
--- src/lib.rt:48:1
+-- src/lib.rt:49:1
 same-length-2 : tie.Need-same-length-2
 same-length-2 c = search needs
 
--- src/lib.rt:48:1
+-- src/lib.rt:49:1
 returns-2 : tie.Need-returns-2
 returns-2 c = λ bs s e. wrote-whole bs (c .before .before .before .before .before .before .before .before .before .before .args .taken) s (omega (arith, c .before .before .before .before .before .before .input-end .ensures, c .before .before .before .before .if1 .left)) e (c .before .before .put-kept .ensures)
 

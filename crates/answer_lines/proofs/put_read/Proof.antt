@@ -12,62 +12,62 @@ use Rattle.line.proofs.input.signed_at.Reads as signed-at-reads
 use Rattle.line.proofs.output.put_line.Reads as put-line-reads
 use Rattle.metadata.proofs.read.Reads as read-reads
 
--- src/lib.rt:22:9
+-- src/lib.rt:23:9
 signed-at-requires : tie.Need-signed-at-requires
 signed-at-requires c κs = search needs
 
--- src/lib.rt:23:20
+-- src/lib.rt:24:20
 signed-at-requires-2 : tie.Need-signed-at-requires-2
 signed-at-requires-2 c κs = search needs
 
--- src/lib.rt:23:40
+-- src/lib.rt:24:40
 signed-at-requires-3 : tie.Need-signed-at-requires-3
 signed-at-requires-3 c κs = search needs
 
--- src/lib.rt:23:60
+-- src/lib.rt:24:60
 signed-at-requires-4 : tie.Need-signed-at-requires-4
 signed-at-requires-4 c κs = search needs
 
--- src/lib.rt:26:49
+-- src/lib.rt:27:49
 slice-aggregate-read : tie.Need-slice-aggregate-read
 slice-aggregate-read c = search needs
 
--- src/lib.rt:26:61
+-- src/lib.rt:27:61
 slice-aggregate-read-2 : tie.Need-slice-aggregate-read-2
 slice-aggregate-read-2 c = search needs
 
--- src/lib.rt:26:9
+-- src/lib.rt:27:9
 read-requires : tie.Need-read-requires
 read-requires c κs = search needs
 
--- src/lib.rt:33:9
+-- src/lib.rt:34:9
 array-share-prefix-sheet : tie.Need-array-share-prefix-sheet
 array-share-prefix-sheet c = entry-inside _ _ _ (c .before .before .before .read .result) (c .before .before .before .read .ensures .0) .sheetIn
 
--- src/lib.rt:33:9
+-- src/lib.rt:34:9
 slice-aggregate-put-line : tie.Need-slice-aggregate-put-line
 slice-aggregate-put-line c = sym (length-take-le _ _ (entry-inside _ _ _ (c .before .before .before .before .read .result) (c .before .before .before .before .read .ensures .0) .sheetIn))
 
--- src/lib.rt:34:9
+-- src/lib.rt:35:9
 array-share-prefix-text : tie.Need-array-share-prefix-text
 array-share-prefix-text c = entry-inside _ _ _ (c .before .before .before .before .read .result) (c .before .before .before .before .read .ensures .0) .textIn
 
--- src/lib.rt:34:9
+-- src/lib.rt:35:9
 slice-aggregate-put-line-2 : tie.Need-slice-aggregate-put-line-2
 slice-aggregate-put-line-2 c = sym (length-take-le _ _ (entry-inside _ _ _ (c .before .before .before .before .before .read .result) (c .before .before .before .before .before .read .ensures .0) .textIn))
 
--- src/lib.rt:29:5
+-- src/lib.rt:30:5
 put-line-requires : tie.Need-put-line-requires
 put-line-requires c κs = (
   part-short (c .before .before .before .before .before .read .result .sheet) (c .before .before .before .before .before .read .last .1 .1 .1 .1 .1 .0) (entry-inside _ _ _ (c .before .before .before .before .before .read .result) (c .before .before .before .before .before .read .ensures .0) .sheetIn) (c .before .before .before .before .before .read .kept .1 .1 .1 .1 .1 .0),
   part-short (c .before .before .before .before .before .read .result .text) (c .before .before .before .before .before .read .last .1 .1 .1 .1 .1 .1 .0) (entry-inside _ _ _ (c .before .before .before .before .before .read .result) (c .before .before .before .before .before .read .ensures .0) .textIn) (c .before .before .before .before .before .read .kept .1 .1 .1 .1 .1 .1 .0),
 )
 
--- src/lib.rt:19:1
+-- src/lib.rt:20:1
 same-length : tie.Need-same-length
 same-length c = search needs
 
--- src/lib.rt:19:1
+-- src/lib.rt:20:1
 returns : tie.Need-returns
 returns c =
     let a = c .before .before .before .before .before .before .before .before .before .before .before .before .before .before .before .before .before .before .before .before .args in

@@ -10,27 +10,27 @@ use Rattle.characters.proofs.put_three.Lts as lts
 use Rattle.characters.proofs.put_two.Reads as put-two-reads
 use Rattle.sheet.proofs.put.Reads as put-reads
 
--- src/lib.rt:220:9
+-- src/lib.rt:221:9
 returns : tie.Need-returns
 returns c = sym (sets-out (c .before .before .args .a ∷ c .before .before .args .b ∷ c .before .before .args .c ∷ []) (c .before .before .args .area .now) _ (c .if1 .taken))
 
--- src/lib.rt:222:5
+-- src/lib.rt:223:5
 put-requires : tie.Need-put-requires
 put-requires c κs = search needs
 
--- src/lib.rt:223:19
+-- src/lib.rt:224:19
 add-put-two : tie.Need-add-put-two
 add-put-two c = search needs
 
--- src/lib.rt:223:5
+-- src/lib.rt:224:5
 put-two-requires : tie.Need-put-two-requires
 put-two-requires c κs = search needs
 
--- src/lib.rt:216:1
+-- src/lib.rt:217:1
 same-length : tie.Need-same-length
 same-length c = search needs
 
--- src/lib.rt:216:1
+-- src/lib.rt:217:1
 returns-2 : tie.Need-returns-2
 returns-2 c = put-then (c .before .before .before .before .before .before .before .before .before .before .args .b ∷ c .before .before .before .before .before .before .before .before .before .before .args .c ∷ []) (c .before .before .before .before .before .before .before .before .before .before .args .area .now) _ _ (c .before .before .before .before .before .before .put .ensures) (c .before .before .put-two .ensures)
 

@@ -2,7 +2,7 @@ use mathlib.Core.List.{[], _∷_}
 use native.Mathlib.Omega.{arith}
 use Rattle.sheet.specs.Rows.{num}
 use Rattle.declaration_rows.specs.Rows.{signatureCells}
-use Rattle.declaration_rows.specs.Written.{initBy}
+use Rattle.declaration_rows.specs.told.Written.{initBy}
 use Rattle.declaration_rows.proofs.WrittenLaws.{head-next, room-within, head-room, cells-room}
 use borrow.Author.Needs.{needs}
 use Rattle.declaration_rows.proofs.put_constructor.Statement.{statement}

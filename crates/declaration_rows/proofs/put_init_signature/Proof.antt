@@ -2,8 +2,8 @@ use borrow.Author.Tests.{not-true, not-false}
 use mathlib.Core.Path.{_∙_}
 use mathlib.Core.List.{[], _∷_}
 use native.Mathlib.Omega.{arith}
-use Rattle.names.specs.Name.{nameText}
-use Rattle.declaration_rows.specs.Rows.{named}
+use Rattle.names.specs.told.Name.{nameText}
+use Rattle.declaration_rows.specs.Rows.{nameCell}
 use Rattle.foundation.specs.Texts.{ascii}
 use Rattle.foundation.specs.Choices.{orElse}
 use mathlib.Core.Option.{some}
@@ -61,7 +61,7 @@ put-init-requires c κs = search needs
 
 -- src/lib.rt:182:5
 put-named-requires : tie.Need-put-named-requires
-put-named-requires c κs = room-within _ (omega arith) (cells-room (named (some (ascii "<init>")) ∷ []) (init-name-small, tt) (c .before .before .before .before .before .before .before .before .before .before .before .before .before .before .before .before .before .before .before .pre) (c .before .before .before .before .before .before .put-init .ensures))
+put-named-requires c κs = room-within _ (omega arith) (cells-room (nameCell (some (ascii "<init>")) ∷ []) (init-name-small, tt) (c .before .before .before .before .before .before .before .before .before .before .before .before .before .before .before .before .before .before .before .pre) (c .before .before .before .before .before .before .put-init .ensures))
 
 -- src/lib.rt:162:1
 same-length-4 : tie.Need-same-length-4

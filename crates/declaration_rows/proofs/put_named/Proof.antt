@@ -1,5 +1,5 @@
 use borrow.Author.Tests.{not-true, not-false}
-use Rattle.names.specs.Name.{nameText}
+use Rattle.names.specs.told.Name.{nameText}
 use mathlib.Core.Path.{_∙_}
 use Rattle.declaration_rows.proofs.WrittenLaws.{named-absent, named-present, name-fits}
 use borrow.Author.Needs.{needs}

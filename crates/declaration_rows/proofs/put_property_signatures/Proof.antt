@@ -1,7 +1,7 @@
 use mathlib.Core.List.{_++_}
 use native.Mathlib.Omega.{arith}
 use Rattle.declaration_rows.specs.Rows.{signatureCells}
-use Rattle.declaration_rows.specs.Written.{signatureBy}
+use Rattle.declaration_rows.specs.told.Written.{signatureBy}
 use Rattle.declaration_rows.proofs.WrittenLaws.{cells-next, room-within, cells-room, signature-small}
 use borrow.Author.Needs.{needs}
 use Rattle.declaration_rows.proofs.put_property_signatures.Statement.{statement}

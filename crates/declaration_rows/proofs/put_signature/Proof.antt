@@ -2,8 +2,8 @@ use borrow.Author.Tests.{not-true, not-false}
 use mathlib.Core.Path.{_∙_}
 use mathlib.Core.List.{[], _∷_}
 use native.Mathlib.Omega.{arith}
-use Rattle.names.specs.Name.{nameText}
-use Rattle.declaration_rows.specs.Rows.{named}
+use Rattle.names.specs.told.Name.{nameText}
+use Rattle.declaration_rows.specs.Rows.{nameCell}
 use Rattle.declaration_rows.proofs.WrittenLaws.{signature-left, signature-right, signature-both, room-within, cells-room, name-small}
 use borrow.Author.Needs.{needs}
 use Rattle.declaration_rows.proofs.put_signature.Statement.{statement}
@@ -52,7 +52,7 @@ put-named-requires c κs = room-within _ (omega arith) (c .before .before .befor
 
 -- src/lib.rt:142:5
 put-named-requires-2 : tie.Need-put-named-requires-2
-put-named-requires-2 c κs = let a = c .before .before .before .before .before .before .before .before .before .before .before .before .before .before .before .before .before .before .before .args in room-within _ (omega arith) (cells-room (named (nameText (a .payload .now) (a .d2 .now) (a .signature .name)) ∷ []) (name-small (c .before .before .before .before .before .before .before .before .before .before .before .before .before .before .before .before .before .before .before .pre) (a .signature .name), tt) (c .before .before .before .before .before .before .before .before .before .before .before .before .before .before .before .before .before .before .before .pre) (c .before .before .before .before .before .before .put-named .ensures))
+put-named-requires-2 c κs = let a = c .before .before .before .before .before .before .before .before .before .before .before .before .before .before .before .before .before .before .before .args in room-within _ (omega arith) (cells-room (nameCell (nameText (a .payload .now) (a .d2 .now) (a .signature .name)) ∷ []) (name-small (c .before .before .before .before .before .before .before .before .before .before .before .before .before .before .before .before .before .before .before .pre) (a .signature .name), tt) (c .before .before .before .before .before .before .before .before .before .before .before .before .before .before .before .before .before .before .before .pre) (c .before .before .before .before .before .before .put-named .ensures))
 
 -- src/lib.rt:122:1
 same-length-3 : tie.Need-same-length-3

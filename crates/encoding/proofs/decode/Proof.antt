@@ -5,7 +5,7 @@ use mathlib.Core.List.{List}
 use Prim.Native.Nat.{ℕ}
 use Rattle.foundation.specs.Results.{ok}
 use Rattle.encoding.specs.Encoding.{unpacked}
-use Rattle.encoding.specs.Outcome.{limited}
+use Rattle.encoding.specs.told.Outcome.{limited}
 use Rattle.encoding.specs.declared.Decoded.the-variants.{TooLong, Empty, NotAByte}
 use Rattle.encoding.proofs.EncodingLaws.{above-nothing, afterMarker, none-after, length-unpacked}
 use Rattle.encoding.proofs.OutcomeLaws.{limited-long, limited-empty, limited-above, limited-marked, limited-old, told-refused, told-short, told-bytes}

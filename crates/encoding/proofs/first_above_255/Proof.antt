@@ -4,7 +4,7 @@ use mathlib.Core.Path.{_≡_, refl, sym, ap, _∙_}
 use Prim.Native.Nat.{_-_}
 use lib.ListN.{length, drop}
 use Rattle.encoding.specs.Encoding.{firstAbove255}
-use Rattle.encoding.specs.Outcome.{aboveOf}
+use Rattle.encoding.specs.told.Outcome.{aboveOf}
 use Rattle.encoding.proofs.EncodingLaws.{above-found, above-passed, above-end}
 use borrow.Author.Needs.{needs}
 use Rattle.encoding.proofs.first_above_255.Statement.{statement}

@@ -3,7 +3,7 @@
 use mathlib.Core.Path.{sym}
 use borrow.Author.Needs.{needs}
 use lib.Seq.{length-take-le}
-use Rattle.encoding.specs.Outcome.{limited}
+use Rattle.encoding.specs.told.Outcome.{limited}
 use Rattle.encoding.proofs.OutcomeLaws.{told-inside}
 use Rattle.encoding_vectors.proofs.write_answer.Statement.{statement}
 use Rattle.encoding_vectors.proofs.write_answer.Tie as tie

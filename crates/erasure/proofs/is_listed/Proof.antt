@@ -2,7 +2,7 @@
 -- Assumes nothing.
 use borrow.Author.Needs.{needs}
 use Rattle.characters.specs.Characters.{utf8, utf8Of}
-use Rattle.erasure.specs.Told.{rowAt, listedName}
+use Rattle.erasure.specs.told.ErasureTold.{rowAt, listedName}
 use Rattle.erasure.proofs.TableLaws.{packed, starts, part-ordered, part-inside, part-is}
 use Rattle.erasure.proofs.ListedLaws.{afterKotlin, listed-is}
 use Rattle.erasure.proofs.is_listed.Statement.{statement}

@@ -5,7 +5,7 @@ use Prim.Native.Nat.{_+_, _-_, _/_}
 use native.Mathlib.Omega.{arith}
 use borrow.Author.Needs.{needs}
 use Rattle.erasure.specs.Erasure.{primitive, primitiveArray, mapped}
-use Rattle.erasure.specs.Told.{primitiveAt, classAt, rowAt, listedMeaning}
+use Rattle.erasure.specs.told.ErasureTold.{primitiveAt, classAt, rowAt, listedMeaning}
 use Rattle.erasure.proofs.ListedLaws.{row-means}
 use Rattle.erasure.proofs.meaning_at.Statement.{statement}
 use Rattle.erasure.proofs.meaning_at.Tie as tie

@@ -3,7 +3,7 @@
 use borrow.Author.Needs.{needs}
 use Rattle.characters.specs.Characters.{utf8, utf8Of}
 use Rattle.erasure.specs.Erasure.{print}
-use Rattle.erasure.specs.Told.{fixedPart, rowText}
+use Rattle.erasure.specs.told.ErasureTold.{fixedPart, rowText}
 use Rattle.erasure.proofs.TableLaws.{packed, starts, part-ordered, part-inside}
 use Rattle.erasure.proofs.PartLaws.{put-packed}
 use Rattle.erasure.proofs.put_row.Statement.{statement}

@@ -3,7 +3,7 @@
 use native.Mathlib.Omega.{arith}
 use borrow.Author.Needs.{needs}
 use Rattle.characters.specs.Characters.{utf8, utf8Of}
-use Rattle.erasure.specs.Told.{rowAt, listedName}
+use Rattle.erasure.specs.told.ErasureTold.{rowAt, listedName}
 use Rattle.erasure.proofs.ListedLaws.{hashed, rowWith, too-short, too-long, no-kotlin, can-be}
 use Rattle.erasure.proofs.row_of.Statement.{statement}
 use Rattle.erasure.proofs.row_of.Tie as tie

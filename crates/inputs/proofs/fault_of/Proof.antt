@@ -1,7 +1,7 @@
 use mathlib.Core.Bool.{true, false}
 use mathlib.Core.Path.{_∙_}
 use borrow.Author.Tests.{not-true, not-false}
-use Rattle.inputs.specs.Told.{input}
+use Rattle.inputs.specs.Inputs.{input}
 use Rattle.inputs.proofs.InputLaws.{d1-long, d2-long, strings-many, ends-unfit, version-newer, no-fault, major-read}
 use borrow.Author.Needs.{needs}
 use Rattle.inputs.proofs.fault_of.Statement.{statement}

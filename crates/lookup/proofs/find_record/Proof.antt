@@ -2,7 +2,7 @@ use Prim.Native.Nat.{_≤_, _<_, _+_, _-_, _*_, _/_}
 use mathlib.Core.Path.{subst, sym}
 use native.Mathlib.Omega.{arith}
 use lib.ListN.{length, getD}
-use Rattle.names.specs.Index.{firstOf}
+use Rattle.names.specs.told.Index.{servedFrom}
 use Rattle.lookup.proofs.IndexLaws.{no-sums, no-records, past-all, served-by, first-at, first-least}
 use borrow.Author.Needs.{needs}
 use Rattle.lookup.proofs.find_record.Statement.{statement}
@@ -14,7 +14,7 @@ use Rattle.lookup.proofs.codes.code_at.Reads as code-at-reads
 use Rattle.lookup.proofs.serves.Reads as serves-reads
 
 abbrev Inv-loop : tie.InvT-loop
-Inv-loop notes count index wanted code low₀ high₀ low high = (low < high) × (high ≤ count) × (3 * count ≤ length notes) × (firstOf notes low ≤ wanted) × (wanted < firstOf notes high)
+Inv-loop notes count index wanted code low₀ high₀ low high = (low < high) × (high ≤ count) × (3 * count ≤ length notes) × (servedFrom notes low ≤ wanted) × (wanted < servedFrom notes high)
 
 abbrev μ-loop : tie.MeasureT-loop
 μ-loop notes count index wanted code low₀ high₀ low high = high - low

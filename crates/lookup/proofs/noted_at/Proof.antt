@@ -4,7 +4,7 @@ use Rattle.lookup.proofs.noted_at.Statement.{statement}
 use Rattle.lookup.proofs.noted_at.Tie as tie
 use Rattle.lookup.proofs.noted_at.Reads as reads
 use Rattle.lookup.proofs.noted_at.Lts as lts
-use Rattle.lookup.proofs.note.noted_as.Reads as noted-as-reads
+use Rattle.record_names.proofs.note.noted_as.Reads as noted-as-reads
 
 -- src/lib.rt:203:9
 returns : tie.Need-returns

@@ -3,8 +3,8 @@ use Prim.Native.Nat.{_-_}
 use native.Mathlib.Omega.{arith}
 use lib.ListN.{length}
 use Rattle.wire.specs.Wire.{cut}
-use Rattle.wire.specs.Told.{restOf}
-use Rattle.messages.specs.Asked.{CheckedTold}
+use Rattle.wire.specs.told.WireTold.{restOf}
+use Rattle.messages.specs.told.Asked.{CheckedTold}
 use Rattle.messages.specs.declared.Checked.{Checked}
 use Rattle.messages.specs.declared.Checked.the-variants as checked
 use Rattle.wire.proofs.WalkLaws.{field-inside, cut-end, cut-refused}

@@ -1,7 +1,7 @@
 use mathlib.Core.Path.{_∙_, ap, sym}
 use lib.IntN.{ℤ}
 use mir.Facts.{toZ-ofZ}
-use Rattle.inputs.specs.Told.{input}
+use Rattle.inputs.specs.Inputs.{input}
 use Rattle.metadata.specs.Read.{read as readOf}
 use Rattle.metadata.proofs.ReadLaws.{answer-is}
 use borrow.Author.Needs.{needs}

@@ -1,8 +1,8 @@
 use mathlib.Core.Path.{_≡_, sym, subst}
 use Prim.Native.Nat.{ℕ}
-use Rattle.inputs.specs.Outcomes.{told}
+use Rattle.inputs.specs.told.OutcomesTold.{told}
 use Rattle.passes.specs.Answered.{answered}
-use Rattle.passes.specs.PassTold.{readingOf}
+use Rattle.passes.specs.told.PassTold.{readingOf}
 use borrow.Author.Needs.{needs}
 use Rattle.metadata.proofs.read_any.Statement.{statement}
 use Rattle.metadata.proofs.read_any.Tie as tie

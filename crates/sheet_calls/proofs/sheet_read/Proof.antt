@@ -1,8 +1,8 @@
 use native.Mathlib.Omega.{arith}
 use mathlib.Core.List.{[], _∷_}
 use Rattle.descriptors.proofs.ErasedLaws.{units-each}
-use Rattle.inputs.specs.Told.{input}
-use Rattle.sheet_calls.specs.CallTold.{toldIn}
+use Rattle.inputs.specs.Inputs.{input}
+use Rattle.sheet_calls.specs.Calls.{toldIn}
 use Rattle.sheet_calls.proofs.CallLaws.{exported-is, answers}
 use borrow.Author.Needs.{needs}
 use Rattle.sheet_calls.proofs.sheet_read.Statement.{statement}

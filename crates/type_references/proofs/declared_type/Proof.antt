@@ -1,8 +1,8 @@
 use mathlib.Core.Path.{refl}
 use Rattle.type_references.proofs.ArgumentLaws.{inline-field, refused-field, absent-field, absent-index, by-index-field, by-index-index}
 use native.Mathlib.Omega.{arith}
-use Rattle.schema.specs.Told.{lent}
-use Rattle.schema.specs.TypesTold.{pickedOf}
+use Rattle.schema.specs.told.SchemaTold.{lent}
+use Rattle.schema.specs.told.TypesTold.{pickedOf}
 use Rattle.type_references.proofs.OptionalLaws.{optional, walked-optional}
 use Rattle.schema.proofs.TypeLaws.{inline-in, type-inline, type-refused, type-nowhere, type-indexed, declared}
 use Rattle.schema.proofs.ParseLaws.{part-inside}

@@ -1,5 +1,5 @@
-use Rattle.type_references.specs.ParseTold.{asTypes}
 use borrow.Author.Needs.{needs}
+use Rattle.type_references.specs.told.ParseTold.{asTypes}
 use Rattle.type_references.proofs.long_arguments.Statement.{statement}
 use Rattle.type_references.proofs.long_arguments.Tie as tie
 use Rattle.type_references.proofs.long_arguments.Reads as reads

@@ -1,8 +1,7 @@
-use Rattle.schema.specs.Told.{entriesIn}
+use Rattle.schema.specs.told.SchemaTold.{entriesIn, lent}
 use mathlib.Core.Path.{refl}
 use native.Mathlib.Omega.{arith}
-use Rattle.schema.specs.Told.{lent}
-use Rattle.schema.specs.TypesTold.{pickedOf}
+use Rattle.schema.specs.told.TypesTold.{pickedOf}
 use Rattle.type_references.proofs.OptionalLaws.{looked, walked-optional}
 use Rattle.schema.proofs.TypeLaws.{resolve-nowhere, resolve-found}
 use Rattle.schema.proofs.EntryLaws.{entry-in}

@@ -1,5 +1,5 @@
-use Rattle.type_references.specs.ParseTold.{asBytes}
 use borrow.Author.Needs.{needs}
+use Rattle.type_references.specs.told.ParseTold.{asBytes}
 use Rattle.type_references.proofs.short_arguments.Statement.{statement}
 use Rattle.type_references.proofs.short_arguments.Tie as tie
 use Rattle.type_references.proofs.short_arguments.Reads as reads

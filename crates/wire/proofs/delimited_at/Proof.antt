@@ -2,7 +2,7 @@
 -- Assumes nothing.
 use mathlib.Core.Path.{refl}
 use native.Mathlib.Omega.{arith}
-use Rattle.wire.specs.Told.{restOf}
+use Rattle.wire.specs.told.WireTold.{restOf}
 use Rattle.wire.proofs.VarintLaws.{varint-past}
 use Rattle.wire.proofs.FieldLaws.{varint-refused, varint-inside, delimited-refused, delimited-past, delimited-there}
 use borrow.Author.Needs.{needs}

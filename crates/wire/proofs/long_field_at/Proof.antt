@@ -1,6 +1,6 @@
 use mathlib.Core.Path.{refl}
 use native.Mathlib.Omega.{arith}
-use Rattle.wire.specs.Told.{restOf}
+use Rattle.wire.specs.told.WireTold.{restOf}
 use Rattle.wire.proofs.VarintLaws.{varint-past}
 use Rattle.wire.proofs.FieldLaws.{varint-is, varint-refused, varint-inside, field-refused}
 use borrow.Author.Needs.{needs}

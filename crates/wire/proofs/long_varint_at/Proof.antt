@@ -5,7 +5,7 @@ use Prim.Native.Nat.{suc, _+_, _*_, _^_, _≤_, _<_}
 use native.Mathlib.Omega.{arith}
 use lib.ListN.{length, drop}
 use Rattle.wire.specs.Wire.{groupsFrom, readVarint}
-use Rattle.wire.specs.Told.{restOf, joinedTo}
+use Rattle.wire.specs.told.WireTold.{restOf, joinedTo}
 use Rattle.wire.proofs.VarintLaws.{joined-whole, turn-cut, early-last, early-more, digit, scale-grows, scale-bound, last-scale, last-left}
 use borrow.Author.Needs.{needs}
 use Rattle.wire.proofs.long_varint_at.Statement.{statement}

@@ -1,7 +1,7 @@
 use Prim.Native.Nat.{_-_}
 use native.Mathlib.Omega.{arith}
 use lib.ListN.{length}
-use Rattle.wire.specs.Told.{SkipTold}
+use Rattle.wire.specs.told.WireTold.{SkipTold}
 use Rattle.wire.proofs.SkipLaws.{skip-none, skip-then}
 use borrow.Author.Needs.{needs}
 use Rattle.wire.proofs.skip_two.Statement.{statement}

@@ -1,6 +1,6 @@
 -- `wire::tagged_at` meets its contract.
 -- Assumes nothing.
-use Rattle.wire.specs.Told.{restOf}
+use Rattle.wire.specs.told.WireTold.{restOf}
 use Rattle.wire.proofs.FieldLaws.{field-large, field-not, field-read}
 use borrow.Author.Needs.{needs}
 use Rattle.wire.proofs.tagged_at.Statement.{statement}

@@ -2,7 +2,7 @@
 -- Assumes nothing.
 use mathlib.Core.Path.{_∙_, ap}
 use Prim.Native.Nat.{_+_}
-use Rattle.wire.specs.Told.{joinedTo}
+use Rattle.wire.specs.told.WireTold.{joinedTo}
 use Rattle.wire.proofs.VarintLaws.{groups-cut, groups-oversized, turn-cut, turn-last, turn-more}
 use borrow.Author.Needs.{needs}
 use Rattle.wire.proofs.tenth_at.Statement.{statement}

@@ -1,6 +1,6 @@
 -- `wire::value_at` meets its contract.
 -- Assumes nothing.
-use Rattle.wire.specs.Told.{restOf}
+use Rattle.wire.specs.told.WireTold.{restOf}
 use Rattle.wire.proofs.FieldLaws.{value-told, value-varint, value-fixed8, value-body, value-fixed4, value-other}
 use borrow.Author.Needs.{needs}
 use Rattle.wire.proofs.value_at.Statement.{statement}

@@ -4,7 +4,7 @@ use Prim.Native.Nat.{_-_}
 use native.Mathlib.Omega.{arith}
 use lib.Dec.{ltb}
 use lib.ListN.{length, drop, drop-of-length-le}
-use Rattle.characters.specs.Plain.{isAscii}
+use Rattle.characters.specs.told.Plain.{isAscii}
 use Rattle.characters.proofs.AsciiLaws.{drop-next, ascii-next, ascii-end}
 use borrow.Author.Needs.{needs}
 use Rattle.characters.proofs.ascii.ascii_bytes.Statement.{statement}

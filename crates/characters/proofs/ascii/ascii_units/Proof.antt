@@ -3,8 +3,8 @@ use mathlib.Core.Bool.{_&&_}
 use Prim.Native.Nat.{_-_}
 use native.Mathlib.Omega.{arith}
 use lib.Dec.{ltb}
-use Rattle.characters.specs.Characters.{partFrom}
-use Rattle.characters.specs.Plain.{isAscii}
+use Rattle.characters.specs.told.Places.{partFrom}
+use Rattle.characters.specs.told.Plain.{isAscii}
 use Rattle.characters.proofs.UnitLaws.{units-cons, units-ended}
 use Rattle.characters.proofs.AsciiLaws.{ascii-next, ascii-end}
 use borrow.Author.Needs.{needs}

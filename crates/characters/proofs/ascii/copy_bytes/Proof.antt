@@ -4,7 +4,7 @@ use Prim.Native.Nat.{_-_}
 use native.Mathlib.Omega.{arith}
 use lib.ListN.{length, drop, drop-of-length-le}
 use lib.Seq.{sets}
-use Rattle.characters.specs.Plain.{shown}
+use Rattle.characters.specs.told.Plain.{shown}
 use Rattle.characters.proofs.AsciiLaws.{drop-next, Copying, copying-end, copying-room, copying-next}
 use borrow.Author.Needs.{needs}
 use Rattle.characters.proofs.ascii.copy_bytes.Statement.{statement}

@@ -3,8 +3,8 @@ use mathlib.Core.List.{map}
 use Prim.Native.Nat.{_-_}
 use native.Mathlib.Omega.{arith}
 use lib.Seq.{sets}
-use Rattle.characters.specs.Characters.{partFrom}
-use Rattle.characters.specs.Plain.{shown}
+use Rattle.characters.specs.told.Places.{partFrom}
+use Rattle.characters.specs.told.Plain.{shown}
 use Rattle.characters.proofs.PartLaws.{part-short}
 use Rattle.characters.proofs.UnitLaws.{units-cons, units-ended}
 use Rattle.characters.proofs.AsciiLaws.{Copying, copying-below, copying-end, copying-room, copying-next}

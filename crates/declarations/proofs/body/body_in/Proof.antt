@@ -1,9 +1,8 @@
 use mathlib.Core.Path.{refl, _∙_}
-use mathlib.Core.Path.{refl}
 use native.Mathlib.Omega.{arith}
 use lib.Dec.{eqb}
 use lib.ListN.{length}
-use Rattle.schema.specs.Told.{lent}
+use Rattle.schema.specs.told.SchemaTold.{lent}
 use Rattle.declarations.proofs.BodyLaws.{head-affords, lists-affords, head-ends, body-done, body-stops}
 use borrow.Author.Needs.{needs}
 use Rattle.declarations.proofs.body.body_in.Statement.{statement}

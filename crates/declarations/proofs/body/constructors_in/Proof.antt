@@ -1,5 +1,5 @@
 use borrow.Author.Tests.{not-true, not-false}
-use Rattle.schema.specs.Told.{lent}
+use Rattle.schema.specs.told.SchemaTold.{lent}
 use Rattle.declarations.proofs.BodyLaws.{constructors-none, constructors-class}
 use borrow.Author.Needs.{needs}
 use Rattle.declarations.proofs.body.constructors_in.Statement.{statement}

@@ -1,6 +1,6 @@
 use mathlib.Core.Path.{_∙_}
 use lib.ListN.{length}
-use Rattle.schema.specs.Told.{lent}
+use Rattle.schema.specs.told.SchemaTold.{lent}
 use Rattle.schema.proofs.CountLaws.{listed-within}
 use Rattle.declarations.proofs.BodyLaws.{first-affords, second-affords, third-affords, constructors-refused, functions-refused, properties-refused, lists-done}
 use borrow.Author.Needs.{needs}

@@ -2,8 +2,7 @@ use mathlib.Core.List.{_++_}
 use native.Mathlib.Omega.{arith}
 use lib.ListN.{length-take}
 use Rattle.lookup.proofs.StringLaws.{codes-inside}
-use Rattle.declarations.proofs.PayloadLaws.{lent-body, lent-refused, lent-no-room}
-use borrow.Author.Needs.{needs}
+use Rattle.declarations.proofs.PayloadLaws.{lent-body, lent-stopped}
 use Rattle.declarations.proofs.payload.open_lent.Statement.{statement}
 use Rattle.declarations.proofs.payload.open_lent.Tie as tie
 use Rattle.declarations.proofs.payload.open_lent.Reads as reads
@@ -12,66 +11,51 @@ use Rattle.declarations.proofs.payload.open_payload.Reads as open-paylo
 use Rattle.lookup.proofs.codes.codes_from.Reads as codes-from-reads
 use Rattle.lookup.proofs.codes.note_codes.Reads as note-codes-reads
 use Rattle.lookup.proofs.strings.note_strings.Reads as note-strings-reads
+use borrow.Author.Needs.{needs}
 
--- src/payload.rt:106:9
+-- src/payload.rt:127:9
 codes-from-requires : tie.Need-codes-from-requires
 codes-from-requires c κs = search needs
 
--- src/payload.rt:107:38
+-- src/payload.rt:128:38
 slice-relend-prefix-open-payload : tie.Need-slice-relend-prefix-open-payload
 slice-relend-prefix-open-payload c = codes-inside _ (c .codes-from .ensures)
 
--- src/payload.rt:107:38
+-- src/payload.rt:128:38
 slice-aggregate-open-payload : tie.Need-slice-aggregate-open-payload
 slice-aggregate-open-payload c = let h = codes-inside _ (c .before .codes-from .ensures) in simp length-take (omega arith)
 
--- src/payload.rt:107:9
+-- src/payload.rt:128:9
 open-payload-requires : tie.Need-open-payload-requires
 open-payload-requires c κs = search needs
 
--- src/payload.rt:109:24
+-- src/payload.rt:129:24
 enum-known-opened : tie.Need-enum-known-opened
 enum-known-opened c = search needs
 
--- src/payload.rt:110:13
-note-codes-requires : tie.Need-note-codes-requires
-note-codes-requires c κs = search needs
-
--- src/payload.rt:111:13
-note-strings-requires : tie.Need-note-strings-requires
-note-strings-requires c κs = search needs
-
--- src/payload.rt:114:27
-enum-known-opened-2 : tie.Need-enum-known-opened-2
-enum-known-opened-2 c = search needs
-
--- src/payload.rt:115:27
-enum-told : tie.Need-enum-told
-enum-told c = search needs
-
--- src/payload.rt:102:1
+-- src/payload.rt:130:9
 same-length : tie.Need-same-length
 same-length c = search needs
 
--- src/payload.rt:102:1
+-- src/payload.rt:130:9
 returns : tie.Need-returns
-returns c = lent-body (c .before .before .before .before .before .before .before .before .before .before .before .before .before .before .before .before .before .before .before .before .args .bytes .now) (c .before .before .before .before .before .before .before .before .before .before .before .before .before .before .before .before .before .before .before .before .args .d2 .now) (c .before .before .before .before .before .before .before .before .before .before .before .before .before .before .before .before .before .before .before .before .args .ends .now) (c .before .before .before .before .before .before .before .before .before .before .before .before .before .before .before .before .before .before .before .before .args .notes .now) (c .before .before .before .before .before .before .before .before .before .before .before .before .before .before .before .codes-from .result) (c .before .before .before .before .before .before .before .before .before .before .before .before .before .before .before .codes-from .ensures) (c .before .before .before .before .before .before .before .before .before .before .before .before .before .open-payload .last .1 .0) (c .before .before .before .before .before .before .before .before .before .before .before .before .before .open-payload .kept .1 .0) (c .before .before .before .before .before .before .before .before .before .before .before .before .before .open-payload .result) (c .before .before .before .before .before .before .before .before .before .before .before .before .before .open-payload .ensures) (c .before .before .before .before .before .before .before .before .before .opened .given .1) (c .before .before .before .before .before .before .note-codes .last .0) (c .before .before .note-strings .last .1 .1 .0) (c .before .before .before .before .before .before .note-codes .ensures) (c .before .before .note-strings .ensures .0) (c .before .before .note-strings .ensures .1)
+returns c = lent-stopped (c .before .before .before .before .before .before .before .before .before .before .args .bytes .now) (c .before .before .before .before .before .before .before .before .before .before .args .d2 .now) (c .before .before .before .before .before .before .before .before .before .before .args .ends .now) (c .before .before .before .before .before .before .before .before .before .before .args .notes .now) (c .before .before .before .before .before .codes-from .result) (c .before .before .before .before .before .codes-from .ensures) (c .before .before .before .open-payload .last .1 .0) (c .before .before .before .open-payload .kept .1 .0) (c .before .before .before .open-payload .result) (c .match .keys2) (c .before .before .before .open-payload .ensures)
 
--- src/payload.rt:102:1
+-- src/payload.rt:132:5
+note-codes-requires : tie.Need-note-codes-requires
+note-codes-requires c κs = search needs
+
+-- src/payload.rt:133:5
+note-strings-requires : tie.Need-note-strings-requires
+note-strings-requires c κs = search needs
+
+-- src/payload.rt:123:1
 same-length-2 : tie.Need-same-length-2
 same-length-2 c = search needs
 
--- src/payload.rt:102:1
+-- src/payload.rt:123:1
 returns-2 : tie.Need-returns-2
-returns-2 c = lent-refused (c .before .before .before .before .before .before .before .before .before .before .before .before .args .bytes .now) (c .before .before .before .before .before .before .before .before .before .before .before .before .args .d2 .now) (c .before .before .before .before .before .before .before .before .before .before .before .before .args .ends .now) (c .before .before .before .before .before .before .before .before .before .before .before .before .args .notes .now) (c .before .before .before .before .before .before .before .codes-from .result) (c .before .before .before .before .before .before .before .codes-from .ensures) (c .before .before .before .before .before .open-payload .last .1 .0) (c .before .before .before .before .before .open-payload .kept .1 .0) (c .before .before .before .before .before .open-payload .result) (c .before .before .before .before .before .open-payload .ensures) (c .before .opened2 .given .1)
-
--- src/payload.rt:102:1
-same-length-3 : tie.Need-same-length-3
-same-length-3 c = search needs
-
--- src/payload.rt:102:1
-returns-3 : tie.Need-returns-3
-returns-3 c = lent-no-room (c .before .before .before .before .before .before .before .before .before .before .before .args .bytes .now) (c .before .before .before .before .before .before .before .before .before .before .before .args .d2 .now) (c .before .before .before .before .before .before .before .before .before .before .before .args .ends .now) (c .before .before .before .before .before .before .before .before .before .before .before .args .notes .now) (c .before .before .before .before .before .before .codes-from .result) (c .before .before .before .before .before .before .codes-from .ensures) (c .before .before .before .before .open-payload .last .1 .0) (c .before .before .before .before .open-payload .kept .1 .0) (c .before .before .before .before .open-payload .result) (c .before .before .before .before .open-payload .ensures) (c .enum-told .given .1)
+returns-2 c = lent-body (c .before .before .before .before .before .before .before .before .before .before .before .before .before .before .before .before .before .before .before .before .args .bytes .now) (c .before .before .before .before .before .before .before .before .before .before .before .before .before .before .before .before .before .before .before .before .args .d2 .now) (c .before .before .before .before .before .before .before .before .before .before .before .before .before .before .before .before .before .before .before .before .args .ends .now) (c .before .before .before .before .before .before .before .before .before .before .before .before .before .before .before .before .before .before .before .before .args .notes .now) (c .before .before .before .before .before .before .before .before .before .before .before .before .before .before .before .codes-from .result) (c .before .before .before .before .before .before .before .before .before .before .before .before .before .before .before .codes-from .ensures) (c .before .before .before .before .before .before .before .before .before .before .before .before .before .open-payload .last .1 .0) (c .before .before .before .before .before .before .before .before .before .before .before .before .before .open-payload .kept .1 .0) (c .before .before .before .before .before .before .before .before .before .before .before .before .before .open-payload .result) (c .before .before .before .before .before .before .before .before .before .before .before .before .before .open-payload .ensures) (c .before .before .before .before .before .before .before .before .before .opened .given .1) (c .before .before .before .before .before .before .note-codes .last .0) (c .before .before .note-strings .last .1 .1 .0) (c .before .before .before .before .before .before .note-codes .ensures) (c .before .before .note-strings .ensures .0) (c .before .before .note-strings .ensures .1)
 
 pub open-lent-spec : {M : Type 1} → statement M
 open-lent-spec =
@@ -82,13 +66,9 @@ open-lent-spec =
     slice-aggregate-open-payload
     open-payload-requires
     enum-known-opened
-    note-codes-requires
-    note-strings-requires
-    enum-known-opened-2
-    enum-told
     same-length
     returns
+    note-codes-requires
+    note-strings-requires
     same-length-2
-    returns-2
-    same-length-3
-    returns-3)
+    returns-2)

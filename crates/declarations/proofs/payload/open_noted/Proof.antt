@@ -34,7 +34,7 @@ part-open-body-end c = search needs
 
 -- src/payload.rt:64:5
 open-body-requires : tie.Need-open-body-requires
-open-body-requires c κs = tt
+open-body-requires c κs = (c .before .before .before .before .before .before .before .pre .1, c .before .before .before .before .before .before .before .pre .2)
 
 -- src/payload.rt:59:1
 same-length : tie.Need-same-length

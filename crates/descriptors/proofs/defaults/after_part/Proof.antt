@@ -1,5 +1,5 @@
 use native.Mathlib.Omega.{arith}
-use Rattle.schema.specs.Told.{lent}
+use Rattle.schema.specs.told.SchemaTold.{lent}
 use Rattle.descriptors.proofs.JoinLaws.{within-more}
 use Rattle.descriptors.proofs.FunctionLaws.{after-suspended, after-returned}
 use borrow.Author.Needs.{needs}

@@ -1,4 +1,4 @@
-use Rattle.schema.specs.Told.{lent}
+use Rattle.schema.specs.told.SchemaTold.{lent}
 use Rattle.descriptors.proofs.DefaultLaws.{parameter-nameless, parameter-named}
 use borrow.Author.Needs.{needs}
 use Rattle.descriptors.proofs.defaults.parameter_part.Statement.{statement}

@@ -2,7 +2,7 @@ use mathlib.Core.Path.{_≡_, refl, _∙_}
 use Prim.Native.Nat.{_-_}
 use native.Mathlib.Omega.{arith}
 use lib.ListN.{length}
-use Rattle.schema.specs.Told.{lent}
+use Rattle.schema.specs.told.SchemaTold.{lent}
 use Rattle.descriptors.proofs.DefaultLaws.{Parting, parts-start, parts-end, part-in, part-room, parts-absent, parts-next}
 use borrow.Author.Needs.{needs}
 use Rattle.descriptors.proofs.defaults.parameter_parts.Statement.{statement}

@@ -1,7 +1,7 @@
 use mathlib.Core.Path.{ap, sym}
 use Prim.Native.Nat.{_^_}
 use native.Mathlib.Omega.{arith}
-use Rattle.descriptors.specs.PartsTold.{preceded}
+use Rattle.descriptors.specs.told.PartsTold.{preceded}
 use Rattle.descriptors.proofs.JoinLaws.{written-within}
 use borrow.Author.Needs.{needs}
 use Rattle.descriptors.proofs.defaults.preceded.Statement.{statement}
@@ -9,25 +9,25 @@ use Rattle.descriptors.proofs.defaults.preceded.Tie as tie
 use Rattle.descriptors.proofs.defaults.preceded.Reads as reads
 use Rattle.descriptors.proofs.defaults.preceded.Lts as lts
 
--- src/defaults.rt:229:31
+-- src/defaults.rt:187:31
 enum-known-part : tie.Need-enum-known-part
 enum-known-part c = search needs
 
--- src/defaults.rt:229:63
-add-t5 : tie.Need-add-t5
-add-t5 c = let h = written-within (2 ^ 61) (c .before .before .before .pre .1) (c .before .part .given .1) in omega (arith, c .before .before .before .pre .0)
-
--- src/defaults.rt:230:25
+-- src/defaults.rt:188:9
 enum-told : tie.Need-enum-told
 enum-told c = search needs
 
--- src/defaults.rt:224:1
+-- src/defaults.rt:188:9
 returns : tie.Need-returns
-returns c = ap (preceded (c .before .before .before .args .size)) (sym (c .before .part .given .1))
+returns c = search needs
 
--- src/defaults.rt:224:1
+-- src/defaults.rt:190:17
+add-whole : tie.Need-add-whole
+add-whole c = let h = written-within (2 ^ 61) (c .before .before .before .pre .1) (c .before .part .given .1) in omega (arith, c .before .before .before .pre .0)
+
+-- src/defaults.rt:183:1
 returns-2 : tie.Need-returns-2
-returns-2 c = search needs
+returns-2 c = ap (preceded (c .before .before .before .args .size)) (sym (c .before .part .given .1))
 
 pub preceded-spec : {M : Type 1} → statement M
-preceded-spec = tie.close (tie.spec enum-known-part add-t5 enum-told returns returns-2)
+preceded-spec = tie.close (tie.spec enum-known-part enum-told returns add-whole returns-2)

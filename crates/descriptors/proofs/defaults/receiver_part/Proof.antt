@@ -1,4 +1,4 @@
-use Rattle.schema.specs.Told.{lent}
+use Rattle.schema.specs.told.SchemaTold.{lent}
 use Rattle.descriptors.proofs.FunctionLaws.{receiver-there, receiver-none}
 use borrow.Author.Needs.{needs}
 use Rattle.descriptors.proofs.defaults.receiver_part.Statement.{statement}

@@ -2,7 +2,7 @@ use mathlib.Core.Path.{refl}
 use mathlib.Core.Bool.{true}
 use native.Mathlib.Omega.{arith}
 use borrow.Author.Tests.{not-true}
-use Rattle.names.specs.Stream.{nameBytes}
+use Rattle.names.specs.told.Stream.{nameBytes}
 use Rattle.descriptors.proofs.ErasedLaws.{name-short, means-long, taken-size, means-short}
 use borrow.Author.Needs.{needs}
 use Rattle.descriptors.proofs.erased.name_meaning.Statement.{statement}

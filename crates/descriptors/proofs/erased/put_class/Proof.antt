@@ -1,6 +1,6 @@
 use mathlib.Core.Bool.{true}
 use native.Mathlib.Omega.{arith}
-use Rattle.names.specs.Stream.{nameBytes}
+use Rattle.names.specs.told.Stream.{nameBytes}
 use Rattle.descriptors.proofs.ErasedLaws.{name-short, class-put}
 use borrow.Author.Needs.{needs}
 use Rattle.descriptors.proofs.erased.put_class.Statement.{statement}

@@ -2,8 +2,8 @@ use mathlib.Core.Path.{_≡_, refl, _∙_}
 use Prim.Native.Nat.{_+_}
 use native.Mathlib.Omega.{arith}
 use lib.ListN.{length}
-use Rattle.schema.specs.Told.{lent}
-use Rattle.schema.specs.PlacesTold.{reach}
+use Rattle.schema.specs.told.SchemaTold.{lent}
+use Rattle.schema.specs.told.PlacesTold.{reach}
 use Rattle.schema.proofs.StandsLaws.{part-stands}
 use Rattle.descriptors.proofs.ErasedWalk.{Walking, walking-start, walking-few, whole-short, walking-whole, walking-absent, walking-empty, walking-less, walking-on}
 use borrow.Author.Needs.{needs}

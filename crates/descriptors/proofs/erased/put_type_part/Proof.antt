@@ -3,7 +3,7 @@ use mathlib.Core.Bool.{Bool, _||_}
 use native.Mathlib.Omega.{arith}
 use borrow.Author.Tests.{not-true, not-false}
 use Rattle.fields.specs.Fields.{Type·class-name}
-use Rattle.schema.specs.Told.{lent}
+use Rattle.schema.specs.told.SchemaTold.{lent}
 use Rattle.descriptors.proofs.ErasedLaws.{units-each, type-absent, type-part}
 use borrow.Author.Needs.{needs}
 use Rattle.descriptors.proofs.erased.put_type_part.Statement.{statement}

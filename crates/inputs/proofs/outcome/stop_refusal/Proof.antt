@@ -9,27 +9,27 @@ use Rattle.inputs.proofs.outcome.stop_refusal.Lts as lts
 use Rattle.inputs.proofs.outcome.refused.Reads as refused-reads
 use Rattle.inputs.proofs.outcome.wire_refusal.Reads as wire-refusal-reads
 
--- src/outcome.rt:52:22
+-- src/outcome.rt:51:22
 enum-known-stop : tie.Need-enum-known-stop
 enum-known-stop c = search needs
 
--- src/outcome.rt:52:33
+-- src/outcome.rt:51:33
 wire-refusal-requires : tie.Need-wire-refusal-requires
 wire-refusal-requires c κs = search needs
 
--- src/outcome.rt:53:31
+-- src/outcome.rt:52:31
 enum-told : tie.Need-enum-told
 enum-told c = search needs
 
--- src/outcome.rt:53:31
+-- src/outcome.rt:52:31
 refused-requires : tie.Need-refused-requires
 refused-requires c κs = search needs
 
--- src/outcome.rt:48:1
+-- src/outcome.rt:47:1
 returns : tie.Need-returns
 returns c = stop-through _ (c .before .before .stop .given .1) (c .wire-refusal .ensures)
 
--- src/outcome.rt:48:1
+-- src/outcome.rt:47:1
 returns-2 : tie.Need-returns-2
 unfolding numberOf detailOf
 returns-2 c = stop-as (c .refused .ensures) _ (c .before .enum-told .given .1) refl refl

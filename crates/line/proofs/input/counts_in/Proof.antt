@@ -1,4 +1,4 @@
-use Rattle.line.specs.Pieces.{countsIn}
+use Rattle.line.specs.told.Pieces.{countsIn}
 use borrow.Author.Needs.{needs}
 use Rattle.line.proofs.input.counts_in.Statement.{statement}
 use Rattle.line.proofs.input.counts_in.Tie as tie

@@ -1,6 +1,6 @@
 use Prim.Native.Nat.{_-_}
 use native.Mathlib.Omega.{arith}
-use Rattle.line.specs.Taken.{Went}
+use Rattle.line.specs.told.Taken.{Went}
 use Rattle.line.proofs.TakenLaws.{counts-fit, went-none, went-on}
 use borrow.Author.Needs.{needs}
 use Rattle.line.proofs.stream.pass_rest.Statement.{statement}

@@ -2,7 +2,7 @@ use mathlib.Core.Path.{_≡_}
 use Prim.Native.Nat.{_<_, _≤_, _*_, _-_}
 use native.Mathlib.Omega.{arith}
 use lib.ListN.{length, length-set}
-use Rattle.lookup.specs.Strings.{Keeps, codesFrom}
+use Rattle.lookup.specs.told.Strings.{Keeps, codesFrom}
 use Rattle.lookup.proofs.StringLaws.{keeps-same, keeps-set, codes-inside}
 use borrow.Author.Needs.{needs}
 use Rattle.lookup.proofs.codes.note_codes.Statement.{statement}

@@ -1,4 +1,4 @@
-use Rattle.lookup.proofs.UnwrapLaws.{clipped-is}
+use Rattle.lookup.proofs.QualifiedLaws.{clipped-is}
 use borrow.Author.Needs.{needs}
 use Rattle.lookup.proofs.qualified.clipped.Statement.{statement}
 use Rattle.lookup.proofs.qualified.clipped.Tie as tie

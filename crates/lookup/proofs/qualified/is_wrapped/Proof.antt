@@ -1,4 +1,4 @@
-use Rattle.lookup.proofs.UnwrapLaws.{wrapped-empty, wrapped-single, wrapped-other, wrapped-is}
+use Rattle.lookup.proofs.QualifiedLaws.{wrapped-empty, wrapped-single, wrapped-other, wrapped-is}
 use borrow.Author.Needs.{needs}
 use Rattle.lookup.proofs.qualified.is_wrapped.Statement.{statement}
 use Rattle.lookup.proofs.qualified.is_wrapped.Tie as tie

@@ -1,7 +1,7 @@
 use mathlib.Core.Bool.{true}
 use Rattle.names.specs.Names.{d2String, stringsFrom}
 use Rattle.lookup.proofs.LookupLaws.{decided-no, decided-yes}
-use Rattle.lookup.proofs.UnwrapLaws.{qualified-falls}
+use Rattle.lookup.proofs.QualifiedLaws.{qualified-falls}
 use Rattle.lookup.proofs.qualified.qualified_name.Statement.{statement}
 use Rattle.lookup.proofs.qualified.qualified_name.Tie as tie
 use Rattle.lookup.proofs.qualified.qualified_name.Reads as reads

@@ -1,15 +1,15 @@
 use mathlib.Core.Path.{subst}
 use mathlib.Core.Bool.{true, false}
 use native.Mathlib.Omega.{arith}
-use Rattle.lookup.specs.Qualified.{WrappedTold}
-use Rattle.lookup.proofs.UnwrapLaws.{class-none, class-whole, class-inner}
+use Rattle.lookup.specs.told.Qualified.{WrappedTold}
+use Rattle.lookup.proofs.QualifiedLaws.{class-none, class-whole, class-inner}
 use borrow.Author.Needs.{needs}
 use Rattle.lookup.proofs.qualified.qualified_units.Statement.{statement}
 use Rattle.lookup.proofs.qualified.qualified_units.Tie as tie
 use Rattle.lookup.proofs.qualified.qualified_units.Reads as reads
 use Rattle.lookup.proofs.qualified.qualified_units.Lts as lts
 use Rattle.lookup.proofs.d2_extent.Reads as d2-extent-reads
-use Rattle.lookup.proofs.note.class_size.Reads as class-size-reads
+use Rattle.record_names.proofs.note.class_size.Reads as class-size-reads
 use Rattle.lookup.proofs.qualified.clipped.Reads as clipped-reads
 use Rattle.lookup.proofs.qualified.is_wrapped.Reads as is-wrapped-reads
 use Rattle.lookup.proofs.qualified.units_name.Reads as units-name-reads

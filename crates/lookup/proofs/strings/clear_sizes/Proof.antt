@@ -1,7 +1,7 @@
 use Prim.Native.Nat.{_-_, _≤_}
 use native.Mathlib.Omega.{arith}
 use lib.ListN.{length, length-set}
-use Rattle.lookup.specs.Strings.{Keeps, sizesFrom}
+use Rattle.lookup.specs.told.Strings.{Keeps, sizesFrom}
 use Rattle.lookup.proofs.StringLaws.{Cleared, keeps-same, keeps-set, cleared-start, cleared-next, cleared-all}
 use borrow.Author.Needs.{needs}
 use Rattle.lookup.proofs.strings.clear_sizes.Statement.{statement}

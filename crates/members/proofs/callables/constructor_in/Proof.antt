@@ -1,5 +1,8 @@
 use native.Mathlib.Omega.{arith}
-use Rattle.schema.specs.Told.{lent}
+use Rattle.schema.specs.told.SchemaTold.{lent}
+use Rattle.schema.specs.declared.Listed.the-variants as listed
+use Rattle.members.specs.declared.signatures.Signed.the-variants as answer
+use Rattle.schema.proofs.AnswerLaws.{refused-by}
 use Rattle.schema.proofs.CountLaws.{affords-room}
 use Rattle.members.proofs.CallableLaws.{constructor-affords, constructor-refused, constructor-unsigned-told, constructor-told}
 use borrow.Author.Needs.{needs}
@@ -13,108 +16,74 @@ use Rattle.declaration_rows.proofs.put_constructor.Reads as put-constructor-rea
 use Rattle.declaration_rows.proofs.put_count.Reads as put-count-reads
 use Rattle.schema.proofs.flags.flags_in.Reads as flags-in-reads
 use Rattle.members.proofs.signatures.signature_in.Reads as signature-in-reads
+use Rattle.schema.proofs.Listed.stop.Reads as stop-reads
+use Rattle.members.proofs.signatures.Signed.error.Reads as error-reads
 
--- src/callables.rt:89:9
 flags-in-requires : tie.Need-flags-in-requires
 flags-in-requires c κs = search needs
 
--- src/callables.rt:90:9
 signature-in-requires : tie.Need-signature-in-requires
 signature-in-requires c κs = search needs
 
--- src/callables.rt:91:9
 names-of-requires : tie.Need-names-of-requires
 names-of-requires c κs = search needs
 
--- src/callables.rt:92:9
 put-constructor-requires : tie.Need-put-constructor-requires
 put-constructor-requires c κs = affords-room (c .before .before .before .before .before .before .before .before .before .before .before .before .pre .0)
 
--- src/callables.rt:94:16
 add-past : tie.Need-add-past
 add-past c = let a = c .before .before .before .before .before .before .before .before .before .before .before .before .before .before .before .before .before .args in let e = lent (a .payload .now) (a .d2 .now) (a .ends .now) (a .notes .now) (a .tables) in let h = constructor-affords e (a .msg .now) (a .base) (a .state) (c .before .before .before .before .before .before .before .before .before .before .before .before .before .before .before .before .before .pre .0) (c .before .before .before .before .before .before .before .before .before .flags-in .result) (c .before .before .before .before .before .before .before .names-of .result) (c .before .before .before .before .put-constructor .ensures) in omega (arith, h .room)
 
--- src/callables.rt:100:9
 parameters-in-requires : tie.Need-parameters-in-requires
 parameters-in-requires c κs = let a = c .before .before .before .before .before .before .before .before .before .before .before .before .before .before .before .before .before .before .before .args in let e = lent (a .payload .now) (a .d2 .now) (a .ends .now) (a .notes .now) (a .tables) in (constructor-affords e (a .msg .now) (a .base) (a .state) (c .before .before .before .before .before .before .before .before .before .before .before .before .before .before .before .before .before .before .before .pre .0) (c .before .before .before .before .before .before .before .before .before .before .before .flags-in .result) (c .before .before .before .before .before .before .before .before .before .names-of .result) (c .before .before .before .before .before .before .put-constructor .ensures), c .before .before .before .before .before .before .before .before .before .before .before .before .before .before .before .before .before .before .before .pre .1)
 
--- src/callables.rt:114:27
 enum-known-parameters : tie.Need-enum-known-parameters
 enum-known-parameters c = search needs
 
--- src/callables.rt:115:31
-enum-known-parameters-2 : tie.Need-enum-known-parameters-2
-enum-known-parameters-2 c = search needs
-
--- src/callables.rt:116:31
-enum-known-signed : tie.Need-enum-known-signed
-enum-known-signed c = search needs
-
--- src/callables.rt:120:27
 enum-told : tie.Need-enum-told
 enum-told c = search needs
 
--- src/callables.rt:120:17
-put-count-requires : tie.Need-put-count-requires
-put-count-requires c κs = search needs
+stop-requires : tie.Need-stop-requires
+stop-requires c κs = search needs
 
--- src/callables.rt:74:1
 same-length : tie.Need-same-length
 same-length c = search needs
 
--- src/callables.rt:74:1
 same-length-2 : tie.Need-same-length-2
 same-length-2 c = search needs
 
--- src/callables.rt:74:1
 returns : tie.Need-returns
-returns c = let a = c .before .before .before .before .before .before .before .before .before .before .before .before .before .before .before .before .before .before .before .before .before .before .before .before .before .before .before .args in let e = lent (a .payload .now) (a .d2 .now) (a .ends .now) (a .notes .now) (a .tables) in constructor-refused e (a .msg .now) (a .base) (a .state) (c .before .before .before .before .before .before .before .before .before .before .before .before .before .before .before .before .before .before .before .before .before .before .before .before .before .before .before .pre .0) (c .before .before .before .before .before .before .before .before .before .before .before .before .before .before .before .before .before .before .before .flags-in .result) (c .before .before .before .before .before .before .before .before .before .before .before .before .before .before .before .before .before .names-of .result) (c .before .before .before .before .before .before .before .before .before .before .before .before .before .before .put-constructor .ensures) (c .before .before .before .before .before .before .before .parameters-in .ensures) (c .before .parameters .given .1)
+returns c = let a = c .before .before .before .before .before .before .before .before .before .before .before .before .before .before .before .before .before .before .before .before .before .before .before .before .before .before .before .args in let e = lent (a .payload .now) (a .d2 .now) (a .ends .now) (a .notes .now) (a .tables) in constructor-refused e (a .msg .now) (a .base) (a .state) (c .before .before .before .before .before .before .before .before .before .before .before .before .before .before .before .before .before .before .before .before .before .before .before .before .before .before .before .pre .0) (c .before .before .before .before .before .before .before .before .before .before .before .before .before .before .before .before .before .before .before .flags-in .result) (c .before .before .before .before .before .before .before .before .before .before .before .before .before .before .before .before .before .names-of .result) (c .before .before .before .before .before .before .before .before .before .before .before .before .before .before .put-constructor .ensures) (c .before .before .before .before .before .before .before .parameters-in .ensures) (refused-by listed.Refused (c .stop .ensures) (c .before .enum-told .given .1))
 
--- src/callables.rt:74:1
+enum-told-2 : tie.Need-enum-told-2
+enum-told-2 c = search needs
+
+enum-told-3 : tie.Need-enum-told-3
+enum-told-3 c = search needs
+
+error-requires : tie.Need-error-requires
+error-requires c κs = search needs
+
 same-length-3 : tie.Need-same-length-3
 same-length-3 c = search needs
 
--- src/callables.rt:74:1
 same-length-4 : tie.Need-same-length-4
 same-length-4 c = search needs
 
--- src/callables.rt:74:1
 returns-2 : tie.Need-returns-2
-returns-2 c = let a = c .before .before .before .before .before .before .before .before .before .before .before .before .before .before .before .before .before .before .before .before .before .before .before .before .before .before .before .before .before .before .args in let e = lent (a .payload .now) (a .d2 .now) (a .ends .now) (a .notes .now) (a .tables) in constructor-unsigned-told e (a .msg .now) (a .base) (a .state) (c .before .before .before .before .before .before .before .before .before .before .before .before .before .before .before .before .before .before .before .before .before .before .before .before .before .before .before .before .before .before .pre .0) (c .before .before .before .before .before .before .before .before .before .before .before .before .before .before .before .before .before .before .before .before .before .before .flags-in .result) (c .before .before .before .before .before .before .before .before .before .before .before .before .before .before .before .before .before .before .before .before .names-of .result) (c .before .before .before .before .before .before .before .before .before .before .before .before .before .before .before .before .before .put-constructor .ensures) (c .before .before .before .before .before .before .before .before .before .before .parameters-in .ensures) (c .before .before .before .before .parameters2 .given .1) (c .before .before .before .before .before .before .before .before .before .before .before .before .before .before .before .before .before .before .before .before .before .signature-in .result) (c .before .before .before .before .before .before .before .before .before .before .before .before .before .before .before .before .before .before .before .before .before .signature-in .ensures) (c .before .signed .given .1)
+returns-2 c = let a = c .before .before .before .before .before .before .before .before .before .before .before .before .before .before .before .before .before .before .before .before .before .before .before .before .before .before .before .before .before .before .args in let e = lent (a .payload .now) (a .d2 .now) (a .ends .now) (a .notes .now) (a .tables) in constructor-unsigned-told e (a .msg .now) (a .base) (a .state) (c .before .before .before .before .before .before .before .before .before .before .before .before .before .before .before .before .before .before .before .before .before .before .before .before .before .before .before .before .before .before .pre .0) (c .before .before .before .before .before .before .before .before .before .before .before .before .before .before .before .before .before .before .before .before .before .before .flags-in .result) (c .before .before .before .before .before .before .before .before .before .before .before .before .before .before .before .before .before .before .before .before .names-of .result) (c .before .before .before .before .before .before .before .before .before .before .before .before .before .before .before .before .before .put-constructor .ensures) (c .before .before .before .before .before .before .before .before .before .before .parameters-in .ensures) (c .before .before .before .before .parameters .given .1) (c .before .before .before .before .before .before .before .before .before .before .before .before .before .before .before .before .before .before .before .before .before .signature-in .result) (c .before .before .before .before .before .before .before .before .before .before .before .before .before .before .before .before .before .before .before .before .before .signature-in .ensures) (refused-by answer.Refused (c .error .ensures) (c .before .enum-told3 .given .1))
 
--- src/callables.rt:74:1
+put-count-requires : tie.Need-put-count-requires
+put-count-requires c κs = search needs
+
 same-length-5 : tie.Need-same-length-5
 same-length-5 c = search needs
 
--- src/callables.rt:74:1
 same-length-6 : tie.Need-same-length-6
 same-length-6 c = search needs
 
--- src/callables.rt:74:1
 returns-3 : tie.Need-returns-3
-returns-3 c = let a = c .before .before .before .before .before .before .before .before .before .before .before .before .before .before .before .before .before .before .before .before .before .before .before .before .before .before .before .before .before .before .before .before .before .args in let e = lent (a .payload .now) (a .d2 .now) (a .ends .now) (a .notes .now) (a .tables) in constructor-told e (a .msg .now) (a .base) (a .state) (c .before .before .before .before .before .before .before .before .before .before .before .before .before .before .before .before .before .before .before .before .before .before .before .before .before .before .before .before .before .before .before .before .before .pre .0) (c .before .before .before .before .before .before .before .before .before .before .before .before .before .before .before .before .before .before .before .before .before .before .before .before .before .flags-in .result) (c .before .before .before .before .before .before .before .before .before .before .before .before .before .before .before .before .before .before .before .before .before .before .before .names-of .result) (c .before .before .before .before .before .before .before .before .before .before .before .before .before .before .before .before .before .before .before .before .put-constructor .ensures) (c .before .before .before .before .before .before .before .before .before .before .before .before .before .parameters-in .ensures) (c .before .before .before .before .before .before .before .parameters2 .given .1) (c .before .before .before .before .before .before .before .before .before .before .before .before .before .before .before .before .before .before .before .before .before .before .before .before .signature-in .result) (c .before .before .before .before .before .before .before .before .before .before .before .before .before .before .before .before .before .before .before .before .before .before .before .before .signature-in .ensures) (c .before .before .before .before .enum-told .given .1) (c .before .before .before .before .before .before .before .before .before .before .before .before .before .before .before .before .before .before .before .before .before .before .before .names-of .ensures _ (c .before .before .before .before .enum-told .given .1)) (c .before .before .before .before .before .before .before .before .before .before .before .before .before .before .before .before .before .before .before .before .before .before .before .before .before .flags-in .ensures) (c .before .before .put-count .ensures)
+returns-3 c = let a = c .before .before .before .before .before .before .before .before .before .before .before .before .before .before .before .before .before .before .before .before .before .before .before .before .before .before .before .before .before .before .before .before .before .args in let e = lent (a .payload .now) (a .d2 .now) (a .ends .now) (a .notes .now) (a .tables) in constructor-told e (a .msg .now) (a .base) (a .state) (c .before .before .before .before .before .before .before .before .before .before .before .before .before .before .before .before .before .before .before .before .before .before .before .before .before .before .before .before .before .before .before .before .before .pre .0) (c .before .before .before .before .before .before .before .before .before .before .before .before .before .before .before .before .before .before .before .before .before .before .before .before .before .flags-in .result) (c .before .before .before .before .before .before .before .before .before .before .before .before .before .before .before .before .before .before .before .before .before .before .before .names-of .result) (c .before .before .before .before .before .before .before .before .before .before .before .before .before .before .before .before .before .before .before .before .put-constructor .ensures) (c .before .before .before .before .before .before .before .before .before .before .before .before .before .parameters-in .ensures) (c .before .before .before .before .before .before .before .parameters .given .1) (c .before .before .before .before .before .before .before .before .before .before .before .before .before .before .before .before .before .before .before .before .before .before .before .before .signature-in .result) (c .before .before .before .before .before .before .before .before .before .before .before .before .before .before .before .before .before .before .before .before .before .before .before .before .signature-in .ensures) (c .before .before .before .before .enum-told2 .given .1) (c .before .before .before .before .before .before .before .before .before .before .before .before .before .before .before .before .before .before .before .before .before .before .before .names-of .ensures _ (c .before .before .before .before .enum-told2 .given .1)) (c .before .before .before .before .before .before .before .before .before .before .before .before .before .before .before .before .before .before .before .before .before .before .before .before .before .flags-in .ensures) (c .before .before .put-count .ensures)
 
 pub constructor-in-spec : {M : Type 1} → statement M
-constructor-in-spec =
-    tie.close
-    (tie.spec
-    flags-in-requires
-    signature-in-requires
-    names-of-requires
-    put-constructor-requires
-    add-past
-    parameters-in-requires
-    enum-known-parameters
-    enum-known-parameters-2
-    enum-known-signed
-    enum-told
-    put-count-requires
-    same-length
-    same-length-2
-    returns
-    same-length-3
-    same-length-4
-    returns-2
-    same-length-5
-    same-length-6
-    returns-3)
+constructor-in-spec = tie.close (tie.spec flags-in-requires signature-in-requires names-of-requires put-constructor-requires add-past parameters-in-requires enum-known-parameters enum-told stop-requires same-length same-length-2 returns enum-told-2 enum-told-3 error-requires same-length-3 same-length-4 returns-2 put-count-requires same-length-5 same-length-6 returns-3)

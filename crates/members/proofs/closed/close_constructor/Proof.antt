@@ -1,9 +1,9 @@
-use lib.ListN.{length}
 use Prim.Native.Nat.{_+_, _-_, _*_}
 use native.Mathlib.Omega.{arith}
+use lib.ListN.{length}
 use Rattle.schema.specs.Members.{constructorIn}
 use Rattle.descriptors.specs.Defaults.{constructorParts}
-use Rattle.descriptors.specs.DefaultsTold.{partCost}
+use Rattle.descriptors.specs.told.DefaultsTold.{partCost}
 use Rattle.descriptors.proofs.JoinLaws.{written-within}
 use Rattle.members.proofs.ClosedLaws.{of-constructor, close-absent, close-short, close-long, aside-fits}
 use borrow.Author.Needs.{needs}

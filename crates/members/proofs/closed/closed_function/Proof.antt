@@ -1,7 +1,7 @@
 use Rattle.schema.specs.Members.{functionIn}
 use Rattle.declaration_rows.specs.Rows.{functionRows}
 use Rattle.descriptors.specs.Defaults.{functionParts, closedFunction}
-use Rattle.members.proofs.ClosedLaws.{member-room, closing-room, closed-dropped, closed-refused, closed-kept, function-closed}
+use Rattle.members.proofs.ClosedLaws.{member-room, closing-room, closed-unkept, closed-kept, function-closed}
 use borrow.Author.Needs.{needs}
 use Rattle.members.proofs.closed.closed_function.Statement.{statement}
 use Rattle.members.proofs.closed.closed_function.Tie as tie
@@ -10,77 +10,32 @@ use Rattle.members.proofs.closed.closed_function.Lts as lts
 use Rattle.members.proofs.closed.close_function.Reads as close-function-reads
 use Rattle.members.proofs.callables.function_in.Reads as function-in-reads
 
--- src/lib.rt:166:9
 function-in-requires : tie.Need-function-in-requires
 function-in-requires c κs = member-room (c .before .before .before .before .before .before .before .before .before .pre .1) (c .before .before .before .before .before .before .before .before .before .pre .0)
 
--- src/lib.rt:179:31
 enum-known-picked : tie.Need-enum-known-picked
 enum-known-picked c = search needs
 
--- src/lib.rt:180:17
-close-function-requires : tie.Need-close-function-requires
-close-function-requires c κs = closing-room (c .before .before .before .before .before .before .before .before .before .before .before .before .before .before .before .before .before .before .before .pre .1) (c .before .before .before .before .before .before .before .before .before .before .before .before .before .before .before .before .before .before .before .pre .0) (c .before .before .before .before .before .before .before .before .before .function-in .ensures .spends) (c .before .before .before .picked .given .1)
-
--- src/lib.rt:194:28
-enum-told : tie.Need-enum-told
-enum-told c = search needs
-
--- src/lib.rt:195:27
-enum-known-picked-2 : tie.Need-enum-known-picked-2
-enum-known-picked-2 c = search needs
-
--- src/lib.rt:151:1
 same-length : tie.Need-same-length
 same-length c = search needs
 
--- src/lib.rt:151:1
 same-length-2 : tie.Need-same-length-2
 same-length-2 c = search needs
 
--- src/lib.rt:151:1
 returns : tie.Need-returns
-returns c = closed-kept functionIn functionRows closedFunction functionParts function-closed (c .before .before .before .before .before .before .before .before .before .before .before .before .before .before .function-in .ensures) (c .before .before .before .before .before .before .before .before .before .before .before .before .before .before .before .before .before .before .before .before .before .before .before .before .pre .1) (c .before .before .before .before .before .before .before .before .picked .given .1) (c .before .before .before .before .close-function .ensures)
+returns c = closed-unkept functionIn functionRows closedFunction (c .before .before .before .before .before .function-in .result) (c .match .keys2) (c .before .before .before .before .before .function-in .ensures)
 
--- src/lib.rt:151:1
+close-function-requires : tie.Need-close-function-requires
+close-function-requires c κs = closing-room (c .before .before .before .before .before .before .before .before .before .before .before .before .before .before .before .before .before .before .before .pre .1) (c .before .before .before .before .before .before .before .before .before .before .before .before .before .before .before .before .before .before .before .pre .0) (c .before .before .before .before .before .before .before .before .before .function-in .ensures .spends) (c .before .before .before .picked .given .1)
+
 same-length-3 : tie.Need-same-length-3
 same-length-3 c = search needs
 
--- src/lib.rt:151:1
 same-length-4 : tie.Need-same-length-4
 same-length-4 c = search needs
 
--- src/lib.rt:151:1
 returns-2 : tie.Need-returns-2
-returns-2 c = closed-dropped functionIn functionRows closedFunction functionParts function-closed (c .before .before .before .before .before .before .function-in .ensures) (c .enum-told .given .1)
-
--- src/lib.rt:151:1
-same-length-5 : tie.Need-same-length-5
-same-length-5 c = search needs
-
--- src/lib.rt:151:1
-same-length-6 : tie.Need-same-length-6
-same-length-6 c = search needs
-
--- src/lib.rt:151:1
-returns-3 : tie.Need-returns-3
-returns-3 c = closed-refused functionIn functionRows closedFunction functionParts function-closed (c .before .before .before .before .before .before .before .function-in .ensures) (c .before .picked2 .given .1)
+returns-2 c = closed-kept functionIn functionRows closedFunction functionParts function-closed (c .before .before .before .before .before .before .before .before .before .before .before .before .before .before .function-in .ensures) (c .before .before .before .before .before .before .before .before .before .before .before .before .before .before .before .before .before .before .before .before .before .before .before .before .pre .1) (c .before .before .before .before .before .before .before .before .picked .given .1) (c .before .before .before .before .close-function .ensures)
 
 pub closed-function-spec : {M : Type 1} → statement M
-closed-function-spec =
-    tie.close
-    (tie.spec
-    function-in-requires
-    enum-known-picked
-    close-function-requires
-    enum-told
-    enum-known-picked-2
-    same-length
-    same-length-2
-    returns
-    same-length-3
-    same-length-4
-    returns-2
-    same-length-5
-    same-length-6
-    returns-3)
+closed-function-spec = tie.close (tie.spec function-in-requires enum-known-picked same-length same-length-2 returns close-function-requires same-length-3 same-length-4 returns-2)

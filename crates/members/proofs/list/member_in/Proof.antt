@@ -1,6 +1,6 @@
 use native.Mathlib.Omega.{arith}
 use lib.ListN.{length}
-use Rattle.schema.specs.MembersTold.{memberCost}
+use Rattle.schema.specs.told.MembersTold.{memberCost}
 use Rattle.schema.proofs.CountLaws.{affords-less}
 use Rattle.members.specs.declared.list.Member.the-variants as member
 use Rattle.members.proofs.MemberLists.{costs-less, of-kind}

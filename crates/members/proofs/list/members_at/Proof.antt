@@ -2,7 +2,7 @@ use mathlib.Core.Path.{_≡_, refl, _∙_}
 use Prim.Native.Nat.{_-_, _^_}
 use native.Mathlib.Omega.{arith}
 use lib.ListN.{length}
-use Rattle.schema.specs.Told.{lent}
+use Rattle.schema.specs.told.SchemaTold.{lent}
 use Rattle.schema.proofs.ListLaws.{Looping, bytes-cheap, loop-start, member-in, member-affords, loop-end, loop-refused, loop-dropped, loop-kept}
 use Rattle.members.specs.Lists.{memberIn, memberRows}
 use Rattle.schema.proofs.StandsLaws.{body-stands}

@@ -1,5 +1,5 @@
 use borrow.Author.Tests.{not-true, not-false}
-use Rattle.schema.specs.Told.{lent}
+use Rattle.schema.specs.told.SchemaTold.{lent}
 use Rattle.schema.proofs.CountLaws.{affords-after, affords-ready}
 use Rattle.members.proofs.ParameterLaws.{parameter-nameless, parameter-within, parameter-told}
 use native.Mathlib.Omega.{arith}

@@ -1,4 +1,4 @@
-use Rattle.schema.specs.Told.{WalkedSpends}
+use Rattle.schema.specs.told.SchemaTold.{WalkedSpends}
 use mathlib.Core.Path.{subst}
 use Rattle.schema.proofs.TypeLaws.{ready-after}
 use Rattle.members.proofs.ParameterLaws.{types-refused, types-then}

@@ -4,8 +4,8 @@ use native.Mathlib.Omega.{arith}
 use lib.ListN.{length}
 use Rattle.schema.specs.Members.{parameterIn}
 use Rattle.declaration_rows.specs.Rows.{parameterRows}
-use Rattle.schema.specs.Told.{lent}
-use Rattle.schema.specs.MembersTold.{parameterCost}
+use Rattle.schema.specs.told.SchemaTold.{lent}
+use Rattle.schema.specs.told.MembersTold.{parameterCost}
 use Rattle.schema.proofs.ParseLaws.{part-inside}
 use Rattle.schema.proofs.ListLaws.{Looping, unit-cheap, loop-start, member-in, member-affords, loop-end, loop-refused, loop-dropped, loop-kept}
 use borrow.Author.Needs.{needs}

@@ -1,6 +1,8 @@
 use borrow.Author.Tests.{not-true, not-false}
 use mathlib.Core.Path.{_∙_}
-use Rattle.schema.specs.Told.{lent}
+use Rattle.schema.specs.told.SchemaTold.{lent}
+use Rattle.members.specs.declared.signatures.PropertySigned.the-variants as property
+use Rattle.schema.proofs.AnswerLaws.{refused-by}
 use Rattle.members.proofs.PropertyLaws.{property-dropped, property-unsigned, property-named}
 use borrow.Author.Needs.{needs}
 use Rattle.members.proofs.properties.property_in.Statement.{statement}
@@ -11,63 +13,43 @@ use Rattle.names.proofs.name.is_there.Reads as is-there-reads
 use Rattle.schema.proofs.name.name_in.Reads as name-in-reads
 use Rattle.members.proofs.properties.named_property.Reads as named-property-reads
 use Rattle.members.proofs.signatures.property_signatures.Reads as property-signatures-reads
+use Rattle.members.proofs.signatures.PropertySigned.error.Reads as error-reads
 
--- src/properties.rt:203:9
 name-in-requires : tie.Need-name-in-requires
 name-in-requires c κs = search needs
 
--- src/properties.rt:206:9
 is-there-requires : tie.Need-is-there-requires
 is-there-requires c κs = search needs
 
--- src/properties.rt:207:9
 returns : tie.Need-returns
 returns c = property-dropped (lent (c .before .before .before .before .before .before .before .before .before .before .args .payload .now) (c .before .before .before .before .before .before .before .before .before .before .args .d2 .now) (c .before .before .before .before .before .before .before .before .before .before .args .ends .now) (c .before .before .before .before .before .before .before .before .before .before .args .notes .now) (c .before .before .before .before .before .before .before .before .before .before .args .tables)) (c .before .before .before .before .before .before .before .before .before .before .args .msg .now) (c .before .before .before .before .before .before .before .before .before .before .args .base) (c .before .before .before .before .before .before .before .before .before .before .args .state) (c .before .before .name-in .result) (λ s o m k l. c .before .before .name-in .ensures (c .before .before .before .before .before .before .before .before .before .before .args .d2 .now) s (o .names) m k l) (c .before .is-there .ensures (c .before .before .before .before .before .before .before .before .before .before .args .payload .now) (c .before .before .before .before .before .before .before .before .before .before .args .d2 .now) ∙ not-true _ (c .if1 .taken))
 
--- src/properties.rt:209:9
 property-signatures-requires : tie.Need-property-signatures-requires
 property-signatures-requires c κs = search needs
 
--- src/properties.rt:211:35
 enum-known-signed : tie.Need-enum-known-signed
 enum-known-signed c = search needs
 
--- src/properties.rt:214:33
-enum-known-signed-2 : tie.Need-enum-known-signed-2
-enum-known-signed-2 c = search needs
+enum-told : tie.Need-enum-told
+enum-told c = search needs
 
--- src/properties.rt:214:44
+error-requires : tie.Need-error-requires
+error-requires c κs = search needs
+
+returns-2 : tie.Need-returns-2
+returns-2 c = property-unsigned (lent (c .before .before .before .before .before .before .before .before .before .before .before .before .before .before .args .payload .now) (c .before .before .before .before .before .before .before .before .before .before .before .before .before .before .args .d2 .now) (c .before .before .before .before .before .before .before .before .before .before .before .before .before .before .args .ends .now) (c .before .before .before .before .before .before .before .before .before .before .before .before .before .before .args .notes .now) (c .before .before .before .before .before .before .before .before .before .before .before .before .before .before .args .tables)) (c .before .before .before .before .before .before .before .before .before .before .before .before .before .before .args .msg .now) (c .before .before .before .before .before .before .before .before .before .before .before .before .before .before .args .base) (c .before .before .before .before .before .before .before .before .before .before .before .before .before .before .args .state) (c .before .before .before .before .before .before .name-in .result) (λ s o m k l. c .before .before .before .before .before .before .name-in .ensures (c .before .before .before .before .before .before .before .before .before .before .before .before .before .before .args .d2 .now) s (o .names) m k l) (c .before .before .before .before .before .is-there .ensures (c .before .before .before .before .before .before .before .before .before .before .before .before .before .before .args .payload .now) (c .before .before .before .before .before .before .before .before .before .before .before .before .before .before .args .d2 .now) ∙ not-false _ (c .before .before .before .before .if1 .left)) (λ s o m k. c .before .before .before .property-signatures .ensures (c .before .before .before .before .before .before .before .before .before .before .before .before .before .before .args .d2 .now) s (o .names) m k) (refused-by property.Refused (c .error .ensures) (c .before .enum-told .given .1))
+
 named-property-requires : tie.Need-named-property-requires
 named-property-requires c κs = c .before .before .before .before .before .before .before .before .before .before .before .before .before .before .before .before .pre
 
--- src/properties.rt:183:1
-returns-2 : tie.Need-returns-2
-returns-2 c = property-unsigned (lent (c .before .before .before .before .before .before .before .before .before .before .before .before .before .before .args .payload .now) (c .before .before .before .before .before .before .before .before .before .before .before .before .before .before .args .d2 .now) (c .before .before .before .before .before .before .before .before .before .before .before .before .before .before .args .ends .now) (c .before .before .before .before .before .before .before .before .before .before .before .before .before .before .args .notes .now) (c .before .before .before .before .before .before .before .before .before .before .before .before .before .before .args .tables)) (c .before .before .before .before .before .before .before .before .before .before .before .before .before .before .args .msg .now) (c .before .before .before .before .before .before .before .before .before .before .before .before .before .before .args .base) (c .before .before .before .before .before .before .before .before .before .before .before .before .before .before .args .state) (c .before .before .before .before .before .before .name-in .result) (λ s o m k l. c .before .before .before .before .before .before .name-in .ensures (c .before .before .before .before .before .before .before .before .before .before .before .before .before .before .args .d2 .now) s (o .names) m k l) (c .before .before .before .before .before .is-there .ensures (c .before .before .before .before .before .before .before .before .before .before .before .before .before .before .args .payload .now) (c .before .before .before .before .before .before .before .before .before .before .before .before .before .before .args .d2 .now) ∙ not-false _ (c .before .before .before .before .if1 .left)) (λ s o m k. c .before .before .before .property-signatures .ensures (c .before .before .before .before .before .before .before .before .before .before .before .before .before .before .args .d2 .now) s (o .names) m k) (c .before .signed .given .1)
-
--- src/properties.rt:183:1
 same-length : tie.Need-same-length
 same-length c = search needs
 
--- src/properties.rt:183:1
 same-length-2 : tie.Need-same-length-2
 same-length-2 c = search needs
 
--- src/properties.rt:183:1
 returns-3 : tie.Need-returns-3
-returns-3 c = property-named (lent (c .before .before .before .before .before .before .before .before .before .before .before .before .before .before .before .before .before .before .before .before .before .args .payload .now) (c .before .before .before .before .before .before .before .before .before .before .before .before .before .before .before .before .before .before .before .before .before .args .d2 .now) (c .before .before .before .before .before .before .before .before .before .before .before .before .before .before .before .before .before .before .before .before .before .args .ends .now) (c .before .before .before .before .before .before .before .before .before .before .before .before .before .before .before .before .before .before .before .before .before .args .notes .now) (c .before .before .before .before .before .before .before .before .before .before .before .before .before .before .before .before .before .before .before .before .before .args .tables)) (c .before .before .before .before .before .before .before .before .before .before .before .before .before .before .before .before .before .before .before .before .before .args .msg .now) (c .before .before .before .before .before .before .before .before .before .before .before .before .before .before .before .before .before .before .before .before .before .args .base) (c .before .before .before .before .before .before .before .before .before .before .before .before .before .before .before .before .before .before .before .before .before .args .state) (c .before .before .before .before .before .before .before .before .before .before .before .before .before .name-in .result) (λ s o m k l. c .before .before .before .before .before .before .before .before .before .before .before .before .before .name-in .ensures (c .before .before .before .before .before .before .before .before .before .before .before .before .before .before .before .before .before .before .before .before .before .args .d2 .now) s (o .names) m k l) (c .before .before .before .before .before .before .before .before .before .before .before .before .is-there .ensures (c .before .before .before .before .before .before .before .before .before .before .before .before .before .before .before .before .before .before .before .before .before .args .payload .now) (c .before .before .before .before .before .before .before .before .before .before .before .before .before .before .before .before .before .before .before .before .before .args .d2 .now) ∙ not-false _ (c .before .before .before .before .before .before .before .before .before .before .before .if1 .left)) (λ s o m k. c .before .before .before .before .before .before .before .before .before .before .property-signatures .ensures (c .before .before .before .before .before .before .before .before .before .before .before .before .before .before .before .before .before .before .before .before .before .args .d2 .now) s (o .names) m k) (c .before .before .before .before .before .before .before .before .signed2 .given .1) (c .before .before .before .before .named-property .ensures)
+returns-3 c = property-named (lent (c .before .before .before .before .before .before .before .before .before .before .before .before .before .before .before .before .before .before .before .before .before .args .payload .now) (c .before .before .before .before .before .before .before .before .before .before .before .before .before .before .before .before .before .before .before .before .before .args .d2 .now) (c .before .before .before .before .before .before .before .before .before .before .before .before .before .before .before .before .before .before .before .before .before .args .ends .now) (c .before .before .before .before .before .before .before .before .before .before .before .before .before .before .before .before .before .before .before .before .before .args .notes .now) (c .before .before .before .before .before .before .before .before .before .before .before .before .before .before .before .before .before .before .before .before .before .args .tables)) (c .before .before .before .before .before .before .before .before .before .before .before .before .before .before .before .before .before .before .before .before .before .args .msg .now) (c .before .before .before .before .before .before .before .before .before .before .before .before .before .before .before .before .before .before .before .before .before .args .base) (c .before .before .before .before .before .before .before .before .before .before .before .before .before .before .before .before .before .before .before .before .before .args .state) (c .before .before .before .before .before .before .before .before .before .before .before .before .before .name-in .result) (λ s o m k l. c .before .before .before .before .before .before .before .before .before .before .before .before .before .name-in .ensures (c .before .before .before .before .before .before .before .before .before .before .before .before .before .before .before .before .before .before .before .before .before .args .d2 .now) s (o .names) m k l) (c .before .before .before .before .before .before .before .before .before .before .before .before .is-there .ensures (c .before .before .before .before .before .before .before .before .before .before .before .before .before .before .before .before .before .before .before .before .before .args .payload .now) (c .before .before .before .before .before .before .before .before .before .before .before .before .before .before .before .before .before .before .before .before .before .args .d2 .now) ∙ not-false _ (c .before .before .before .before .before .before .before .before .before .before .before .if1 .left)) (λ s o m k. c .before .before .before .before .before .before .before .before .before .before .property-signatures .ensures (c .before .before .before .before .before .before .before .before .before .before .before .before .before .before .before .before .before .before .before .before .before .args .d2 .now) s (o .names) m k) (c .before .before .before .before .before .before .before .before .signed .given .1) (c .before .before .before .before .named-property .ensures)
 
 pub property-in-spec : {M : Type 1} → statement M
-property-in-spec =
-    tie.close
-    (tie.spec
-    name-in-requires
-    is-there-requires
-    returns
-    property-signatures-requires
-    enum-known-signed
-    enum-known-signed-2
-    named-property-requires
-    returns-2
-    same-length
-    same-length-2
-    returns-3)
+property-in-spec = tie.close (tie.spec name-in-requires is-there-requires returns property-signatures-requires enum-known-signed enum-told error-requires returns-2 named-property-requires same-length same-length-2 returns-3)

@@ -1,6 +1,6 @@
 use native.Mathlib.Omega.{arith}
 use Rattle.schema.proofs.TypeLaws.{inline-in}
-use Rattle.members.proofs.SignatureLaws.{field-inline, field-nothing, field-refused}
+use Rattle.members.proofs.SignatureLaws.{field-inline, field-absent}
 use borrow.Author.Needs.{needs}
 use Rattle.members.proofs.signatures.field_in.Statement.{statement}
 use Rattle.members.proofs.signatures.field_in.Tie as tie
@@ -10,82 +10,38 @@ use Rattle.members.proofs.signatures.names_in.Reads as names-in-reads
 use Rattle.members.proofs.signatures.unsigned.Reads as unsigned-reads
 use Rattle.messages.proofs.message.Reads as message-reads
 
--- src/signatures.rt:128:9
 message-requires : tie.Need-message-requires
 message-requires c κs = search needs
 
--- src/signatures.rt:130:28
 enum-known-inner : tie.Need-enum-known-inner
 enum-known-inner c = search needs
 
--- src/signatures.rt:131:13
-sub-names-in : tie.Need-sub-names-in
-sub-names-in c = let h = inline-in (c .before .before .before .before .before .before .before .before .args .base) (c .before .before .before .before .before .before .before .before .args .msg .now) 1 (c .before .before .before .message .ensures) (c .before .inner .given .1) in omega arith
-
--- src/signatures.rt:131:13
-part-names-in-start : tie.Need-part-names-in-start
-part-names-in-start c = let h = inline-in (c .before .before .before .before .before .before .before .before .args .base) (c .before .before .before .before .before .before .before .before .args .msg .now) 1 (c .before .before .before .message .ensures) (c .before .inner .given .1) in omega arith
-
--- src/signatures.rt:131:13
-part-names-in-end : tie.Need-part-names-in-end
-part-names-in-end c = let h = inline-in (c .before .before .before .before .before .before .before .before .args .base) (c .before .before .before .before .before .before .before .before .args .msg .now) 1 (c .before .before .before .message .ensures) (c .before .inner .given .1) in omega arith
-
--- src/signatures.rt:132:20
-cast-names-in : tie.Need-cast-names-in
-cast-names-in c = let h = inline-in (c .before .before .before .before .before .before .before .before .before .args .base) (c .before .before .before .before .before .before .before .before .before .args .msg .now) 1 (c .before .before .before .before .message .ensures) (c .before .before .inner .given .1) in omega (arith, c .before .before .before .before .before .before .before .before .before .pre)
-
--- src/signatures.rt:132:13
-add-names-in : tie.Need-add-names-in
-add-names-in c = let h = inline-in (c .before .before .before .before .before .before .before .before .before .args .base) (c .before .before .before .before .before .before .before .before .before .args .msg .now) 1 (c .before .before .before .before .message .ensures) (c .before .before .inner .given .1) in omega (arith, c .before .before .before .before .before .before .before .before .before .pre)
-
--- src/signatures.rt:130:44
-names-in-requires : tie.Need-names-in-requires
-names-in-requires c κs = search needs
-
--- src/signatures.rt:140:30
-enum-told : tie.Need-enum-told
-enum-told c = search needs
-
--- src/signatures.rt:140:30
 unsigned-requires : tie.Need-unsigned-requires
 unsigned-requires c κs = search needs
 
--- src/signatures.rt:141:43
-enum-told-2 : tie.Need-enum-told-2
-enum-told-2 c = search needs
-
--- src/signatures.rt:141:43
-unsigned-requires-2 : tie.Need-unsigned-requires-2
-unsigned-requires-2 c κs = search needs
-
--- src/signatures.rt:115:1
 returns : tie.Need-returns
-returns c = λ units s o m k l. field-inline (c .before .before .before .before .before .before .before .before .before .before .args .payload .now) units s k (c .before .before .before .before .before .message .ensures) l (c .before .before .before .inner .given .1) (c .names-in .ensures units s o)
+returns c = λ units s o m k l. field-absent (c .before .before .before .before .before .before .before .args .payload .now) units s k (c .before .before .message .result) (c .before .before .message .ensures) (c .before .match .keys2) l (c .unsigned .result) (c .unsigned .ensures .0)
 
--- src/signatures.rt:115:1
+sub-names-in : tie.Need-sub-names-in
+sub-names-in c = let h = inline-in (c .before .before .before .before .before .before .before .before .args .base) (c .before .before .before .before .before .before .before .before .args .msg .now) 1 (c .before .before .before .message .ensures) (c .before .inner .given .1) in omega arith
+
+part-names-in-start : tie.Need-part-names-in-start
+part-names-in-start c = let h = inline-in (c .before .before .before .before .before .before .before .before .args .base) (c .before .before .before .before .before .before .before .before .args .msg .now) 1 (c .before .before .before .message .ensures) (c .before .inner .given .1) in omega arith
+
+part-names-in-end : tie.Need-part-names-in-end
+part-names-in-end c = let h = inline-in (c .before .before .before .before .before .before .before .before .args .base) (c .before .before .before .before .before .before .before .before .args .msg .now) 1 (c .before .before .before .message .ensures) (c .before .inner .given .1) in omega arith
+
+cast-names-in : tie.Need-cast-names-in
+cast-names-in c = let h = inline-in (c .before .before .before .before .before .before .before .before .before .args .base) (c .before .before .before .before .before .before .before .before .before .args .msg .now) 1 (c .before .before .before .before .message .ensures) (c .before .before .inner .given .1) in omega (arith, c .before .before .before .before .before .before .before .before .before .pre)
+
+add-names-in : tie.Need-add-names-in
+add-names-in c = let h = inline-in (c .before .before .before .before .before .before .before .before .before .args .base) (c .before .before .before .before .before .before .before .before .before .args .msg .now) 1 (c .before .before .before .before .message .ensures) (c .before .before .inner .given .1) in omega (arith, c .before .before .before .before .before .before .before .before .before .pre)
+
+names-in-requires : tie.Need-names-in-requires
+names-in-requires c κs = search needs
+
 returns-2 : tie.Need-returns-2
-returns-2 c = λ units s o m k l. field-nothing (c .before .before .before .before .before .before .before .before .args .payload .now) units s k (c .before .before .before .message .ensures) l (c .before .enum-told .given .1) (c .unsigned .result) (c .unsigned .ensures .0)
-
--- src/signatures.rt:115:1
-returns-3 : tie.Need-returns-3
-returns-3 c = λ units s o m k l. field-refused (c .before .before .before .before .before .before .before .before .args .payload .now) units s k (c .before .before .before .message .ensures) l (c .before .enum-told2 .given .1) (c .unsigned2 .result) (c .unsigned2 .ensures .0)
+returns-2 c = λ units s o m k l. field-inline (c .before .before .before .before .before .before .before .before .before .before .args .payload .now) units s k (c .before .before .before .before .before .message .ensures) l (c .before .before .before .inner .given .1) (c .names-in .ensures units s o)
 
 pub field-in-spec : {M : Type 1} → statement M
-field-in-spec =
-    tie.close
-    (tie.spec
-    message-requires
-    enum-known-inner
-    sub-names-in
-    part-names-in-start
-    part-names-in-end
-    cast-names-in
-    add-names-in
-    names-in-requires
-    enum-told
-    unsigned-requires
-    enum-told-2
-    unsigned-requires-2
-    returns
-    returns-2
-    returns-3)
+field-in-spec = tie.close (tie.spec message-requires enum-known-inner unsigned-requires returns sub-names-in part-names-in-start part-names-in-end cast-names-in add-names-in names-in-requires returns-2)

@@ -1,5 +1,5 @@
 use mathlib.Core.Path.{_∙_}
-use Rattle.names.specs.Name.{nameText}
+use Rattle.names.specs.told.Name.{nameText}
 use Rattle.members.proofs.SignatureLaws.{own-name, other-name}
 use borrow.Author.Needs.{needs}
 use Rattle.members.proofs.signatures.or_name.Statement.{statement}

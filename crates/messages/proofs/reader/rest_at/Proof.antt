@@ -5,9 +5,9 @@ use mathlib.Core.List.{List}
 use Prim.Native.Nat.{ℕ, _-_, _<_}
 use native.Mathlib.Nat.{le-refl, le-of-lt}
 use native.Mathlib.Omega.{arith}
-use borrow.Author.Needs.{needs}
 use lib.ListN.{length, take, drop, length-drop, drop-of-length-le}
 use lib.Seq.{take-all}
+use borrow.Author.Needs.{needs}
 use Rattle.messages.proofs.reader.rest_at.Statement.{statement}
 use Rattle.messages.proofs.reader.rest_at.Tie as tie
 

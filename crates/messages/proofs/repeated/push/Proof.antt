@@ -1,7 +1,7 @@
 -- `messages::repeated::push` meets its contract.
 -- Assumes nothing.
 use mathlib.Core.Path.{ap, sym}
-use Rattle.messages.specs.Repeated.{pushed}
+use Rattle.messages.specs.told.Repeated.{pushed}
 use Rattle.messages.specs.declared.repeated.Two.{Two}
 use borrow.Author.Needs.{needs}
 use Rattle.messages.proofs.repeated.push.Statement.{statement}

@@ -5,8 +5,8 @@ use Prim.Native.Nat.{_-_}
 use native.Mathlib.Omega.{arith}
 use lib.ListN.{length}
 use Rattle.wire.specs.Wire.{packed}
-use Rattle.wire.specs.Told.{restOf}
-use Rattle.messages.specs.Repeated.{pushedTo}
+use Rattle.wire.specs.told.WireTold.{restOf}
+use Rattle.messages.specs.told.Repeated.{pushedTo}
 use Rattle.messages.specs.declared.repeated.Two.{Two}
 use Rattle.wire.proofs.FieldLaws.{varint-inside}
 use Rattle.messages.proofs.RepeatedLaws.{run-end, run-next, run-refused}

@@ -1,4 +1,4 @@
-use Rattle.names.specs.Stream.{changed}
+use Rattle.names.specs.told.Stream.{changed}
 use borrow.Author.Needs.{needs}
 use Rattle.names.proofs.name.character_of.Statement.{statement}
 use Rattle.names.proofs.name.character_of.Tie as tie

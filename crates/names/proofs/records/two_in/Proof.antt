@@ -1,7 +1,7 @@
 use mathlib.Core.Path.{_∙_, ap, subst}
-use Rattle.messages.specs.Asked.{FoundTold}
+use Rattle.messages.specs.told.Asked.{FoundTold}
 use Rattle.wire.specs.Messages.{varints}
-use Rattle.messages.specs.Repeated.{twoTold}
+use Rattle.messages.specs.told.Repeated.{twoTold}
 use Rattle.messages.specs.declared.Found.{Found}
 use Rattle.names.proofs.RecordLaws.{two-none, two-is, two-refused}
 use borrow.Author.Needs.{needs}

@@ -7,19 +7,19 @@ use Rattle.names.proofs.stream.plain_units.Reads as reads
 use Rattle.names.proofs.stream.plain_units.Lts as lts
 use Rattle.characters.proofs.ascii.ascii_units.Reads as ascii-units-reads
 
--- src/stream.rt:81:9
+-- src/stream.rt:82:9
 returns : tie.Need-returns
 returns c = λ e. not-plain e
 
--- src/stream.rt:84:9
+-- src/stream.rt:85:9
 returns-2 : tie.Need-returns-2
 returns-2 c = λ e. not-plain e
 
--- src/stream.rt:86:5
+-- src/stream.rt:87:5
 ascii-units-requires : tie.Need-ascii-units-requires
 ascii-units-requires c κs = search needs
 
--- src/stream.rt:77:1
+-- src/stream.rt:78:1
 returns-3 : tie.Need-returns-3
 returns-3 c = λ e. record { ordered = c .before .before .if1 .left; inside = c .before .if2 .left; ascii = sym (c .ascii-units .ensures) ∙ e }
 

@@ -1,7 +1,8 @@
 use mathlib.Core.List.{map}
 use native.Mathlib.Omega.{arith}
-use Rattle.characters.specs.Characters.{fromUtf16, partFrom}
-use Rattle.names.specs.Stream.{changed}
+use Rattle.characters.specs.Characters.{fromUtf16}
+use Rattle.characters.specs.told.Places.{partFrom}
+use Rattle.names.specs.told.Stream.{changed}
 use Rattle.names.proofs.FittedLaws.{Fitting, units-step, fitting-start, fitting-past, fitting-end, taken-fits, taken-some, fitting-sum, fitting-next}
 use borrow.Author.Needs.{needs}
 use Rattle.names.proofs.stream.put_fitted_units.Statement.{statement}
@@ -18,51 +19,51 @@ Inv-loop units start end change size area₀ at i₀ to₀ left₀ area i to lef
 abbrev μ-loop : tie.MeasureT-loop
 μ-loop units start end change size area₀ at i₀ to₀ left₀ area i to left = left
 
--- src/stream.rt:247:5
+-- src/stream.rt:248:5
 loop-holds : tie.Need-loop-holds Inv-loop μ-loop
 loop-holds c = let a = c .before .before .args in fitting-start (map (changed (a .change)) (fromUtf16 (partFrom (a .start) (a .end) (a .units .now)))) _ _ _
 
--- src/stream.rt:249:13
+-- src/stream.rt:250:13
 same-length : tie.Need-same-length Inv-loop μ-loop
 same-length c = c .before .before .loop .inv .kept
 
--- src/stream.rt:249:13
+-- src/stream.rt:250:13
 returns : tie.Need-returns Inv-loop μ-loop
 returns c = fitting-past (c .before .before .loop .inv) (c .if1 .taken)
 
--- src/stream.rt:251:13
+-- src/stream.rt:252:13
 utf16-at-requires : tie.Need-utf16-at-requires Inv-loop μ-loop
 utf16-at-requires c κs = search needs
 
--- src/stream.rt:252:13
+-- src/stream.rt:253:13
 fitted-of-requires : tie.Need-fitted-of-requires Inv-loop μ-loop
 fitted-of-requires c κs = search needs
 
--- src/stream.rt:253:13
+-- src/stream.rt:254:13
 put-character-requires : tie.Need-put-character-requires Inv-loop μ-loop
 put-character-requires c κs = search needs
 
--- src/stream.rt:254:9
+-- src/stream.rt:255:9
 add-to : tie.Need-add-to Inv-loop μ-loop
 add-to c = let f = units-step _ _ (c .before .before .before .before .before .before .before .loop-test .taken) _ _ _ (c .before .before .before .before .before .utf16-at .ensures) (c .before .before .before .before .fitted-of .ensures) in record { fits = fitting-sum (c .before .before .before .before .before .before .before .before .loop .inv) f (c .before .before .put-character .ensures) _ (c .before .before .before .before .before .before .before .before .before .before .before .pre) }
 
--- src/stream.rt:255:9
+-- src/stream.rt:256:9
 sub-left : tie.Need-sub-left Inv-loop μ-loop
 sub-left c = let f = units-step _ _ (c .before .before .before .before .before .before .before .loop-test .taken) _ _ _ (c .before .before .before .before .before .utf16-at .ensures) (c .before .before .before .before .fitted-of .ensures) in taken-fits (c .before .before .before .before .before .before .before .before .loop .inv) f (c .before .before .put-character .ensures)
 
--- src/stream.rt:247:5
+-- src/stream.rt:248:5
 loop-less : tie.Need-loop-less Inv-loop μ-loop
 loop-less c = let f = units-step _ _ (c .before .before .before .before .before .before .before .loop-test .taken) _ _ _ (c .before .before .before .before .before .utf16-at .ensures) (c .before .before .before .before .fitted-of .ensures) in omega (arith, taken-some (c .before .before .before .before .before .before .before .before .loop .inv) f (c .before .before .put-character .ensures), taken-fits (c .before .before .before .before .before .before .before .before .loop .inv) f (c .before .before .put-character .ensures))
 
--- src/stream.rt:247:5
+-- src/stream.rt:248:5
 loop-again : tie.Need-loop-again Inv-loop μ-loop
 loop-again c = let f = units-step _ _ (c .before .before .before .before .before .before .before .loop-test .taken) _ _ _ (c .before .before .before .before .before .utf16-at .ensures) (c .before .before .before .before .fitted-of .ensures) in fitting-next (c .before .before .before .before .before .before .before .before .loop .inv) f (c .before .before .put-character .ensures)
 
--- src/stream.rt:232:1
+-- src/stream.rt:233:1
 same-length-2 : tie.Need-same-length-2 Inv-loop μ-loop
 same-length-2 c = c .before .loop .inv .kept
 
--- src/stream.rt:232:1
+-- src/stream.rt:233:1
 returns-2 : tie.Need-returns-2 Inv-loop μ-loop
 returns-2 c = fitting-end (c .before .loop .inv) (c .loop-test .left)
 

@@ -10,35 +10,35 @@ use Rattle.characters.proofs.ascii.ascii_bytes.Reads as ascii-bytes-reads
 use Rattle.characters.proofs.ascii.copy_bytes.Reads as copy-bytes-reads
 use Rattle.names.proofs.stream.put_fitted.Reads as put-fitted-reads
 
--- src/stream.rt:267:16
+-- src/stream.rt:268:16
 add-if3 : tie.Need-add-if3
 add-if3 c = search needs
 
--- src/stream.rt:268:20
+-- src/stream.rt:269:20
 ascii-bytes-requires : tie.Need-ascii-bytes-requires
 ascii-bytes-requires c κs = search needs
 
--- src/stream.rt:269:21
+-- src/stream.rt:270:21
 copy-bytes-requires : tie.Need-copy-bytes-requires
 copy-bytes-requires c κs = (sym (c .before .before .ascii-bytes .ensures) ∙ c .before .if4 .taken, let l = c .before .before .before .if3 .taken in let e = c .before .before .before .before .before .before .if1 .taken in omega arith)
 
--- src/stream.rt:270:21
+-- src/stream.rt:271:21
 same-length : tie.Need-same-length
 same-length c = search needs
 
--- src/stream.rt:270:21
+-- src/stream.rt:271:21
 returns : tie.Need-returns
 returns c = let a = c .before .before .before .before .before .before .before .before .before .before .before .before .args in measured-copied (a .change) (c .before .before .before .before .before .before .before .if2 .taken) (a .s .now) (sym (c .before .before .before .before .before .ascii-bytes .ensures) ∙ c .before .before .before .before .if4 .taken) (a .size) (a .at) (c .before .before .before .before .before .before .before .before .before .if1 .taken) (a .area .now) (c .before .before .copy-bytes .ensures)
 
--- src/stream.rt:275:5
+-- src/stream.rt:276:5
 put-fitted-requires : tie.Need-put-fitted-requires
 put-fitted-requires c κs = search needs
 
--- src/stream.rt:261:1
+-- src/stream.rt:262:1
 same-length-2 : tie.Need-same-length-2
 same-length-2 c = search needs
 
--- src/stream.rt:261:1
+-- src/stream.rt:262:1
 returns-2 : tie.Need-returns-2
 returns-2 c = search needs
 

@@ -20,47 +20,47 @@ Inv-loop s change area₀ at i₀ to₀ area i to = Streaming change (fromUtf8 s
 abbrev μ-loop : tie.MeasureT-loop
 μ-loop s change area₀ at i₀ to₀ area i to = length s - i
 
--- src/stream.rt:18:5
+-- src/stream.rt:19:5
 loop-holds : tie.Need-loop-holds Inv-loop μ-loop
 loop-holds c = streaming-start _ (fromUtf8 (c .before .before .args .s .now)) _ _
 
--- src/stream.rt:19:13
+-- src/stream.rt:20:13
 utf8-at-requires : tie.Need-utf8-at-requires Inv-loop μ-loop
 utf8-at-requires c κs = search needs
 
--- src/stream.rt:20:31
+-- src/stream.rt:21:31
 enum-known-character : tie.Need-enum-known-character Inv-loop μ-loop
 enum-known-character c = search needs
 
--- src/stream.rt:21:13
+-- src/stream.rt:22:13
 enum-told : tie.Need-enum-told Inv-loop μ-loop
 enum-told c = search needs
 
--- src/stream.rt:21:13
+-- src/stream.rt:22:13
 same-length : tie.Need-same-length Inv-loop μ-loop
 same-length c = c .before .before .before .loop .inv .kept
 
--- src/stream.rt:21:13
+-- src/stream.rt:22:13
 returns : tie.Need-returns Inv-loop μ-loop
 returns c = streaming-end (c .before .before .before .loop .inv) (utf8-end _ _ (sym (c .before .before .utf8-at .ensures) ∙ c .enum-told .given .1))
 
--- src/stream.rt:23:51
+-- src/stream.rt:24:51
 character-of-requires : tie.Need-character-of-requires Inv-loop μ-loop
 character-of-requires c κs = search needs
 
--- src/stream.rt:23:13
+-- src/stream.rt:24:13
 put-character-requires : tie.Need-put-character-requires Inv-loop μ-loop
 put-character-requires c κs = search needs
 
--- src/stream.rt:24:9
+-- src/stream.rt:25:9
 add-to : tie.Need-add-to Inv-loop μ-loop
 add-to c = record { fits = streaming-fits (c .before .before .before .before .before .before .before .before .before .loop .inv) _ (utf8-next _ _ (sym (c .before .before .before .before .before .before .before .before .utf8-at .ensures) ∙ c .before .before .before .before .before .before .character .given .1)) (c .before .before .before .character-of .ensures) (c .before .before .put-character .ensures) _ (c .before .before .before .before .before .before .before .before .before .before .before .before .pre) }
 
--- src/stream.rt:18:5
+-- src/stream.rt:19:5
 loop-less : tie.Need-loop-less Inv-loop μ-loop
 loop-less c = let i = utf8-inside _ _ (sym (c .before .before .before .before .before .before .before .before .utf8-at .ensures) ∙ c .before .before .before .before .before .before .character .given .1) in omega arith
 
--- src/stream.rt:18:5
+-- src/stream.rt:19:5
 loop-again : tie.Need-loop-again Inv-loop μ-loop
 loop-again c = streaming-next (c .before .before .before .before .before .before .before .before .before .loop .inv) _ (utf8-next _ _ (sym (c .before .before .before .before .before .before .before .before .utf8-at .ensures) ∙ c .before .before .before .before .before .before .character .given .1)) (c .before .before .before .character-of .ensures) (c .before .before .put-character .ensures)
 

@@ -1,5 +1,5 @@
 use mathlib.Core.Path.{ap, sym, _∙_}
-use Rattle.schema.specs.HeadTold.{isBody}
+use Rattle.schema.specs.told.HeadTold.{isBody}
 use borrow.Author.Needs.{needs}
 use Rattle.schema.proofs.head.is_body.Statement.{statement}
 use Rattle.schema.proofs.head.is_body.Tie as tie

@@ -1,5 +1,5 @@
 use mathlib.Core.Path.{ap, sym, _∙_}
-use Rattle.messages.specs.Asked.{numberTold}
+use Rattle.messages.specs.told.Asked.{numberTold}
 use Rattle.messages.proofs.FindLaws.{flag-nothing, flag-is}
 use borrow.Author.Needs.{needs}
 use Rattle.schema.proofs.head.is_set.Statement.{statement}

@@ -2,7 +2,7 @@ use mathlib.Core.Path.{refl, sym, _∙_}
 use native.Mathlib.Omega.{arith}
 use lib.ListN.{length-take}
 use Rattle.messages.proofs.FindLaws.{piece-is, index-is}
-use Rattle.messages.proofs.BodyLaws.{message-none, message-in, message-cut, message-refused}
+use Rattle.messages.proofs.BodyLaws.{checked-part, message-none, message-in, message-cut, message-refused}
 use Rattle.type_references.proofs.ArgumentLaws.{field-inline, field-refused, field-absent, field-by-index}
 use borrow.Author.Needs.{needs}
 use Rattle.type_references.proofs.arguments.type_field.Statement.{statement}
@@ -72,11 +72,11 @@ error-requires c κs = search needs
 
 -- src/arguments.rt:78:9
 returns-3 : tie.Need-returns-3
-returns-3 c = field-refused (message-refused (c .before .before .before .before .before .before .before .before .before .before .before .args .inline) (c .before .before .before .before .before .before .before .before .before .before .before .args .base) (c .before .before .before .before .before .before .before .before .before .before .before .args .msg .now) (piece-is (c .before .before .before .before .before .before .before .before .before .before .before .args .base) (c .before .before .before .before .before .before .before .before .before .before .before .args .msg .now) (c .before .before .before .before .before .before .before .before .before .before .before .args .inline) (c .before .before .before .before .before .before .before .before .before .find-two .result .first) (c .before .before .before .before .before .before .before .before .before .find-two .ensures .0) (c .before .before .before .before .before .before .before .before .bytes .ensures)) (c .before .before .before .before .before .before .piece .given .1) (c .before .before .before .check-from .ensures) (c .before .enum-told4 .given .1) (c .error .ensures _ (c .before .enum-told4 .given .1))) refl
+returns-3 c = field-refused (message-refused (c .before .before .before .before .before .before .before .before .before .before .before .args .inline) (c .before .before .before .before .before .before .before .before .before .before .before .args .base) (c .before .before .before .before .before .before .before .before .before .before .before .args .msg .now) (piece-is (c .before .before .before .before .before .before .before .before .before .before .before .args .base) (c .before .before .before .before .before .before .before .before .before .before .before .args .msg .now) (c .before .before .before .before .before .before .before .before .before .before .before .args .inline) (c .before .before .before .before .before .before .before .before .before .find-two .result .first) (c .before .before .before .before .before .before .before .before .before .find-two .ensures .0) (c .before .before .before .before .before .before .before .before .bytes .ensures)) (c .before .before .before .before .before .before .piece .given .1) (checked-part (c .before .before .before .before .before .before .before .before .before .before .before .args .base) (c .before .before .before .before .before .before .before .before .before .before .before .args .msg .now) _ _ (c .before .before .before .check-from .result) (message-in (c .before .before .before .before .before .before .before .before .before .before .before .args .inline) (c .before .before .before .before .before .before .before .before .before .before .before .args .base) (c .before .before .before .before .before .before .before .before .before .before .before .args .msg .now) (piece-is (c .before .before .before .before .before .before .before .before .before .before .before .args .base) (c .before .before .before .before .before .before .before .before .before .before .before .args .msg .now) (c .before .before .before .before .before .before .before .before .before .before .before .args .inline) (c .before .before .before .before .before .before .before .before .before .find-two .result .first) (c .before .before .before .before .before .before .before .before .before .find-two .ensures .0) (c .before .before .before .before .before .before .before .before .bytes .ensures)) (c .before .before .before .before .before .before .piece .given .1) .0) (c .before .before .before .check-from .ensures)) (c .before .enum-told4 .given .1) (c .error .ensures _ (c .before .enum-told4 .given .1))) refl
 
 -- src/arguments.rt:62:1
 returns-4 : tie.Need-returns-4
-returns-4 c = field-inline (message-cut (c .before .before .before .before .before .before .before .before .before .before .args .inline) (c .before .before .before .before .before .before .before .before .before .before .args .base) (c .before .before .before .before .before .before .before .before .before .before .args .msg .now) (piece-is (c .before .before .before .before .before .before .before .before .before .before .args .base) (c .before .before .before .before .before .before .before .before .before .before .args .msg .now) (c .before .before .before .before .before .before .before .before .before .before .args .inline) (c .before .before .before .before .before .before .before .before .find-two .result .first) (c .before .before .before .before .before .before .before .before .find-two .ensures .0) (c .before .before .before .before .before .before .before .bytes .ensures)) (c .before .before .before .before .before .piece .given .1) (c .before .before .check-from .ensures) (c .enum-told3 .given .1)) refl
+returns-4 c = field-inline (message-cut (c .before .before .before .before .before .before .before .before .before .before .args .inline) (c .before .before .before .before .before .before .before .before .before .before .args .base) (c .before .before .before .before .before .before .before .before .before .before .args .msg .now) (piece-is (c .before .before .before .before .before .before .before .before .before .before .args .base) (c .before .before .before .before .before .before .before .before .before .before .args .msg .now) (c .before .before .before .before .before .before .before .before .before .before .args .inline) (c .before .before .before .before .before .before .before .before .find-two .result .first) (c .before .before .before .before .before .before .before .before .find-two .ensures .0) (c .before .before .before .before .before .before .before .bytes .ensures)) (c .before .before .before .before .before .piece .given .1) (checked-part (c .before .before .before .before .before .before .before .before .before .before .args .base) (c .before .before .before .before .before .before .before .before .before .before .args .msg .now) _ _ (c .before .before .check-from .result) (message-in (c .before .before .before .before .before .before .before .before .before .before .args .inline) (c .before .before .before .before .before .before .before .before .before .before .args .base) (c .before .before .before .before .before .before .before .before .before .before .args .msg .now) (piece-is (c .before .before .before .before .before .before .before .before .before .before .args .base) (c .before .before .before .before .before .before .before .before .before .before .args .msg .now) (c .before .before .before .before .before .before .before .before .before .before .args .inline) (c .before .before .before .before .before .before .before .before .find-two .result .first) (c .before .before .before .before .before .before .before .before .find-two .ensures .0) (c .before .before .before .before .before .before .before .bytes .ensures)) (c .before .before .before .before .before .piece .given .1) .0) (c .before .before .check-from .ensures)) (c .enum-told3 .given .1)) refl
 
 pub type-field-spec : {M : Type 1} → statement M
 type-field-spec =

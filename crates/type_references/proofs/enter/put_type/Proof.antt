@@ -1,6 +1,6 @@
 use native.Mathlib.Omega.{arith}
-use Rattle.names.specs.Name.{nameText}
-use Rattle.declaration_rows.specs.Rows.{named}
+use Rattle.names.specs.told.Name.{nameText}
+use Rattle.declaration_rows.specs.Rows.{nameCell}
 use Rattle.declaration_rows.proofs.WrittenLaws.{cell-sheet}
 use Rattle.type_references.proofs.EnterLaws.{type-put}
 use borrow.Author.Needs.{needs}
@@ -51,7 +51,7 @@ put-number-requires-2 c κs = search needs
 
 -- src/enter.rt:60:16
 add-t19-2 : tie.Need-add-t19-2
-add-t19-2 c = let h = cell-sheet (named (nameText (c .before .before .before .before .before .before .before .before .before .before .before .before .before .before .before .before .before .before .before .before .before .before .before .before .before .before .before .before .args .payload .now) (c .before .before .before .before .before .before .before .before .before .before .before .before .before .before .before .before .before .before .before .before .before .before .before .before .before .before .before .before .args .d2 .now) (c .before .before .before .before .before .before .before .before .before .before .before .before .before .before .before .before .before .before .before .before .before .before .before .before .before .before .before .before .args .name))) (c .before .before .before .before .before .before .before .before .put-named .ensures) in omega (arith, c .before .before .before .before .before .before .before .before .before .before .before .before .before .before .before .before .before .before .before .before .before .before .before .before .before .before .before .before .pre .0 .room .sheet)
+add-t19-2 c = let h = cell-sheet (nameCell (nameText (c .before .before .before .before .before .before .before .before .before .before .before .before .before .before .before .before .before .before .before .before .before .before .before .before .before .before .before .before .args .payload .now) (c .before .before .before .before .before .before .before .before .before .before .before .before .before .before .before .before .before .before .before .before .before .before .before .before .before .before .before .before .args .d2 .now) (c .before .before .before .before .before .before .before .before .before .before .before .before .before .before .before .before .before .before .before .before .before .before .before .before .before .before .before .before .args .name))) (c .before .before .before .before .before .before .before .before .put-named .ensures) in omega (arith, c .before .before .before .before .before .before .before .before .before .before .before .before .before .before .before .before .before .before .before .before .before .before .before .before .before .before .before .before .pre .0 .room .sheet)
 
 -- src/enter.rt:33:1
 same-length : tie.Need-same-length

@@ -1,18 +1,16 @@
-use Rattle.schema.specs.Told.{entriesIn}
+use Rattle.schema.specs.told.SchemaTold.{entriesIn, lent}
 use mathlib.Core.Path.{_≡_, refl, sym, subst, _∙_}
-use Prim.Native.Nat.{_+_, _*_, _-_, _^_, _≤_}
+use Prim.Native.Nat.{_+_, _*_, _-_, _^_, _≤_, ℕ, _<_}
 use native.Mathlib.Omega.{arith}
 use lib.ListN.{length}
 use lib.Seq.{length-take-le}
-use Rattle.schema.specs.Told.{lent}
-use Rattle.type_references.specs.ParseTold.{Fits}
+use Rattle.type_references.specs.told.ParseTold.{WaitingRoom}
 use Rattle.schema.proofs.TypeLaws.{resolve-none-left, resolve-nowhere, resolve-found}
 use Rattle.schema.proofs.EntryLaws.{entry-in, entry-below}
 use Rattle.schema.proofs.ParseLaws.{part-inside}
 use Rattle.type_references.proofs.WalkLaws.{Looping, turns, loop-start, loop-ready, loop-height, loop-room, waits-kept, lent-length, pop-room, pop-some, loop-end, loop-pop, pop-falls, body-in, loop-passed, passed-falls, loop-uncut, inline-in, loop-unentered, push-room, loop-entered, entered-falls, loop-kept, loop-dropped, loop-refused}
-use Rattle.type_references.proofs.CycleLaws.{falls-arguments, falls-look-up, falls-entry, entry-room, parse-unentered, entered-room, parse-entered}
+use Rattle.type_references.proofs.CycleLaws.{remaining, falls-arguments, falls-look-up, falls-entry, entry-room, parse-unentered, entered-room, parse-entered}
 use borrow.Author.Needs.{needs}
-use Prim.Native.Nat.{ℕ, _<_}
 use borrow.Fn.Kinds.{In}
 use borrow.Fn.PlainCycle.{Measures, is, falls, and}
 use Rattle.type_references.proofs.parse.arguments_at.Reads as arguments-at
@@ -36,13 +34,13 @@ use Rattle.type_references.proofs.parse.+arguments_at+parse_at+resolve_
 use Rattle.type_references.proofs.parse.+arguments_at+parse_at+resolve_at.Tie.{close}
 
 abbrev μ-arguments-at : Measures 8 arguments-at-kinds.ps ℕ
-μ-arguments-at κs a = 3 * a .1 .1 .0 + 1
+μ-arguments-at κs a = 3 * remaining (a .1 .1 .0) (length (a .0 .now)) + 1
 
 abbrev μ-parse-at : Measures 8 parse-at-kinds.ps ℕ
-μ-parse-at κs a = 3 * a .1 .1 .0 .left + 2
+μ-parse-at κs a = 3 * remaining (a .1 .1 .0 .left) (length (a .0 .now)) + 2
 
 abbrev μ-resolve-at : Measures 7 resolve-at-kinds.ps ℕ
-μ-resolve-at κs a = 3 * a .1 .0
+μ-resolve-at κs a = 3 * remaining (a .1 .0) 0
 
 abbrev arguments-at-at : ℕ → In 8 arguments-at-kinds.ps
 arguments-at-at t =
@@ -128,7 +126,7 @@ arguments-at-sub-height t c = pop-some (c .before .before .before .before .befor
 
 -- src/parse.rt:64:17
 arguments-at-waiting-at-requires : (t : ℕ) → arguments-at-lts.Need-waiting-at-requires (arguments-at-calls t) (arguments-at-at t) arguments-at.Post arguments-at-Inv-loop arguments-at-μ-loop
-arguments-at-waiting-at-requires t c κs = pop-room (c .before .before .before .before .before .before .loop .inv .0) (c .before .if1 .left) (subst (λ (n : ℕ). Fits (c .before .before .before .before .before .before .before .before .before .before .before .before .before .before .before .args .tables) (c .before .before .before .before .before .before .before .before .before .before .before .before .before .before .before .args .state .types) (length (c .before .before .before .before .before .before .before .before .before .before .before .before .before .before .before .args .msg .now)) n) (sym (c .before .before .before .before .before .before .loop .inv .1)) (c .before .before .before .before .before .before .before .before .before .before .before .before .before .before .before .pre .1 .room))
+arguments-at-waiting-at-requires t c κs = pop-room (c .before .before .before .before .before .before .loop .inv .0) (c .before .if1 .left) (subst (λ (n : ℕ). WaitingRoom (c .before .before .before .before .before .before .before .before .before .before .before .before .before .before .before .args .tables) (c .before .before .before .before .before .before .before .before .before .before .before .before .before .before .before .args .state .types) (length (c .before .before .before .before .before .before .before .before .before .before .before .before .before .before .before .args .msg .now)) n) (sym (c .before .before .before .before .before .before .loop .inv .1)) (c .before .before .before .before .before .before .before .before .before .before .before .before .before .before .before .pre .1 .room))
 
 -- src/parse.rt:53:5
 arguments-at-loop-less : (t : ℕ) → arguments-at-lts.Need-loop-less (arguments-at-calls t) (arguments-at-at t) arguments-at.Post arguments-at-Inv-loop arguments-at-μ-loop
@@ -196,7 +194,7 @@ arguments-at-returns-2 t c = loop-unentered (c .before .before .before .before .
 
 -- src/parse.rt:99:17
 arguments-at-push-requires : (t : ℕ) → arguments-at-lts.Need-push-requires (arguments-at-calls t) (arguments-at-at t) arguments-at.Post arguments-at-Inv-loop arguments-at-μ-loop
-arguments-at-push-requires t c κs = let h = body-in (c .before .before .before .before .before .before .before .before .before .before .before .before .before .before .before .before .before .before .before .before .before .loop .inv .0) (c .before .before .before .before .before .before .before .before .before .before .before .before .before .before .before .before .before .before .before .next-body .ensures) (c .before .before .before .before .before .before .before .before .before .before .before .before .before .before .before .before .before .piece .given .1) in ((push-room (c .before .before .before .before .before .before .before .before .before .before .before .before .before .before .before .before .before .before .before .before .before .loop .inv .0) (c .before .before .before .before .before .before .before .before .before .before .before .before .before .before .before .before .before .before .before .next-body .ensures) (c .before .before .before .before .before .before .before .before .before .before .before .before .before .before .before .before .before .piece .given .1) (c .before .before .before .before .before .before .before .before .before .before .before .before .before .before .before .argument-at .ensures) (c .before .before .before .before .before .before .before .before .before .before .before .before .before .argument .given .1) (c .before .before .before .before .before .before .before .before .enter-type .ensures) (c .before .before .entered .given .1) (subst (λ (n : ℕ). Fits (c .before .before .before .before .before .before .before .before .before .before .before .before .before .before .before .before .before .before .before .before .before .before .before .before .before .before .before .before .before .before .args .tables) (c .before .before .before .before .before .before .before .before .before .before .before .before .before .before .before .before .before .before .before .before .before .before .before .before .before .before .before .before .before .before .args .state .types) (length (c .before .before .before .before .before .before .before .before .before .before .before .before .before .before .before .before .before .before .before .before .before .before .before .before .before .before .before .before .before .before .args .msg .now)) n) (sym (c .before .before .before .before .before .before .before .before .before .before .before .before .before .before .before .before .before .before .before .before .before .loop .inv .1)) (c .before .before .before .before .before .before .before .before .before .before .before .before .before .before .before .before .before .before .before .before .before .before .before .before .before .before .before .before .before .before .pre .1 .room))), omega (arith, c .before .before .before .before .before .before .before .before .before .before .before .before .before .before .before .before .before .before .before .before .before .before .before .before .before .before .before .before .before .before .pre .1 .inside, c .before .before .before .before .before .before .before .before .before .before .before .before .before .before .before .before .before .before .before .before .before .before .before .before .before .before .before .before .before .before .pre .1 .ready .payload-short), omega (arith, (c .before .before .before .before .before .before .before .before .before .before .before .before .before .before .before .before .before .before .before .before .before .loop .inv .0) .short, c .before .before .before .before .before .before .before .before .before .before .before .before .before .before .before .before .before .before .before .before .before .before .before .before .before .before .before .before .before .before .pre .1 .inside, c .before .before .before .before .before .before .before .before .before .before .before .before .before .before .before .before .before .before .before .before .before .before .before .before .before .before .before .before .before .before .pre .1 .ready .payload-short), omega (arith, (c .before .before .before .before .before .before .before .before .before .before .before .before .before .before .before .before .before .before .before .before .before .loop .inv .0) .shallow, c .before .before .before .before .before .before .before .before .before .before .before .before .before .before .before .before .before .before .before .before .before .before .before .before .before .before .before .before .before .before .pre .1 .deep))
+arguments-at-push-requires t c κs = let h = body-in (c .before .before .before .before .before .before .before .before .before .before .before .before .before .before .before .before .before .before .before .before .before .loop .inv .0) (c .before .before .before .before .before .before .before .before .before .before .before .before .before .before .before .before .before .before .before .next-body .ensures) (c .before .before .before .before .before .before .before .before .before .before .before .before .before .before .before .before .before .piece .given .1) in ((push-room (c .before .before .before .before .before .before .before .before .before .before .before .before .before .before .before .before .before .before .before .before .before .loop .inv .0) (c .before .before .before .before .before .before .before .before .before .before .before .before .before .before .before .before .before .before .before .next-body .ensures) (c .before .before .before .before .before .before .before .before .before .before .before .before .before .before .before .before .before .piece .given .1) (c .before .before .before .before .before .before .before .before .before .before .before .before .before .before .before .argument-at .ensures) (c .before .before .before .before .before .before .before .before .before .before .before .before .before .argument .given .1) (c .before .before .before .before .before .before .before .before .enter-type .ensures) (c .before .before .entered .given .1) (subst (λ (n : ℕ). WaitingRoom (c .before .before .before .before .before .before .before .before .before .before .before .before .before .before .before .before .before .before .before .before .before .before .before .before .before .before .before .before .before .before .args .tables) (c .before .before .before .before .before .before .before .before .before .before .before .before .before .before .before .before .before .before .before .before .before .before .before .before .before .before .before .before .before .before .args .state .types) (length (c .before .before .before .before .before .before .before .before .before .before .before .before .before .before .before .before .before .before .before .before .before .before .before .before .before .before .before .before .before .before .args .msg .now)) n) (sym (c .before .before .before .before .before .before .before .before .before .before .before .before .before .before .before .before .before .before .before .before .before .loop .inv .1)) (c .before .before .before .before .before .before .before .before .before .before .before .before .before .before .before .before .before .before .before .before .before .before .before .before .before .before .before .before .before .before .pre .1 .room))), omega (arith, c .before .before .before .before .before .before .before .before .before .before .before .before .before .before .before .before .before .before .before .before .before .before .before .before .before .before .before .before .before .before .pre .1 .inside, c .before .before .before .before .before .before .before .before .before .before .before .before .before .before .before .before .before .before .before .before .before .before .before .before .before .before .before .before .before .before .pre .1 .ready .payload-short), omega (arith, (c .before .before .before .before .before .before .before .before .before .before .before .before .before .before .before .before .before .before .before .before .before .loop .inv .0) .short, c .before .before .before .before .before .before .before .before .before .before .before .before .before .before .before .before .before .before .before .before .before .before .before .before .before .before .before .before .before .before .pre .1 .inside, c .before .before .before .before .before .before .before .before .before .before .before .before .before .before .before .before .before .before .before .before .before .before .before .before .before .before .before .before .before .before .pre .1 .ready .payload-short), omega (arith, (c .before .before .before .before .before .before .before .before .before .before .before .before .before .before .before .before .before .before .before .before .before .loop .inv .0) .shallow, c .before .before .before .before .before .before .before .before .before .before .before .before .before .before .before .before .before .before .before .before .before .before .before .before .before .before .before .before .before .before .pre .1 .deep))
 
 -- src/parse.rt:100:17
 arguments-at-add-height : (t : ℕ) → arguments-at-lts.Need-add-height (arguments-at-calls t) (arguments-at-at t) arguments-at.Post arguments-at-Inv-loop arguments-at-μ-loop
@@ -208,11 +206,11 @@ arguments-at-less-requires t c κs = search needs
 
 -- src/parse.rt:53:5
 arguments-at-loop-less-2 : (t : ℕ) → arguments-at-lts.Need-loop-less-2 (arguments-at-calls t) (arguments-at-at t) arguments-at.Post arguments-at-Inv-loop arguments-at-μ-loop
-arguments-at-loop-less-2 t c = entered-falls (c .before .before .before .before .before .before .before .before .before .before .before .before .before .before .before .before .before .before .before .before .before .before .before .before .before .loop .inv .0) (c .before .before .before .before .before .before .before .before .before .before .before .before .before .before .before .before .before .before .before .before .before .before .before .next-body .ensures) (c .before .before .before .before .before .before .before .before .before .before .before .before .before .before .before .before .before .before .before .before .before .piece .given .1) (c .before .before .before .before .before .before .before .before .before .before .before .before .before .before .before .before .before .before .before .argument-at .ensures) (c .before .before .before .before .before .before .before .before .before .before .before .before .before .before .before .before .before .argument .given .1) (c .before .before .before .before .before .before .before .before .before .before .before .before .enter-type .ensures) (c .before .before .before .before .before .before .entered .given .1) (omega (arith, c .before .before .before .before .before .before .before .before .before .before .before .before .before .before .before .before .before .before .before .before .before .before .before .before .before .before .before .before .before .before .before .before .before .before .pre .1 .inside, c .before .before .before .before .before .before .before .before .before .before .before .before .before .before .before .before .before .before .before .before .before .before .before .before .before .before .before .before .before .before .before .before .before .before .pre .1 .ready .payload-short)) (push-room (c .before .before .before .before .before .before .before .before .before .before .before .before .before .before .before .before .before .before .before .before .before .before .before .before .before .loop .inv .0) (c .before .before .before .before .before .before .before .before .before .before .before .before .before .before .before .before .before .before .before .before .before .before .before .next-body .ensures) (c .before .before .before .before .before .before .before .before .before .before .before .before .before .before .before .before .before .before .before .before .before .piece .given .1) (c .before .before .before .before .before .before .before .before .before .before .before .before .before .before .before .before .before .before .before .argument-at .ensures) (c .before .before .before .before .before .before .before .before .before .before .before .before .before .before .before .before .before .argument .given .1) (c .before .before .before .before .before .before .before .before .before .before .before .before .enter-type .ensures) (c .before .before .before .before .before .before .entered .given .1) (subst (λ (n : ℕ). Fits (c .before .before .before .before .before .before .before .before .before .before .before .before .before .before .before .before .before .before .before .before .before .before .before .before .before .before .before .before .before .before .before .before .before .before .args .tables) (c .before .before .before .before .before .before .before .before .before .before .before .before .before .before .before .before .before .before .before .before .before .before .before .before .before .before .before .before .before .before .before .before .before .before .args .state .types) (length (c .before .before .before .before .before .before .before .before .before .before .before .before .before .before .before .before .before .before .before .before .before .before .before .before .before .before .before .before .before .before .before .before .before .before .args .msg .now)) n) (sym (c .before .before .before .before .before .before .before .before .before .before .before .before .before .before .before .before .before .before .before .before .before .before .before .before .before .loop .inv .1)) (c .before .before .before .before .before .before .before .before .before .before .before .before .before .before .before .before .before .before .before .before .before .before .before .before .before .before .before .before .before .before .before .before .before .before .pre .1 .room))) (c .before .before .before .push .ensures)
+arguments-at-loop-less-2 t c = entered-falls (c .before .before .before .before .before .before .before .before .before .before .before .before .before .before .before .before .before .before .before .before .before .before .before .before .before .loop .inv .0) (c .before .before .before .before .before .before .before .before .before .before .before .before .before .before .before .before .before .before .before .before .before .before .before .next-body .ensures) (c .before .before .before .before .before .before .before .before .before .before .before .before .before .before .before .before .before .before .before .before .before .piece .given .1) (c .before .before .before .before .before .before .before .before .before .before .before .before .before .before .before .before .before .before .before .argument-at .ensures) (c .before .before .before .before .before .before .before .before .before .before .before .before .before .before .before .before .before .argument .given .1) (c .before .before .before .before .before .before .before .before .before .before .before .before .enter-type .ensures) (c .before .before .before .before .before .before .entered .given .1) (omega (arith, c .before .before .before .before .before .before .before .before .before .before .before .before .before .before .before .before .before .before .before .before .before .before .before .before .before .before .before .before .before .before .before .before .before .before .pre .1 .inside, c .before .before .before .before .before .before .before .before .before .before .before .before .before .before .before .before .before .before .before .before .before .before .before .before .before .before .before .before .before .before .before .before .before .before .pre .1 .ready .payload-short)) (push-room (c .before .before .before .before .before .before .before .before .before .before .before .before .before .before .before .before .before .before .before .before .before .before .before .before .before .loop .inv .0) (c .before .before .before .before .before .before .before .before .before .before .before .before .before .before .before .before .before .before .before .before .before .before .before .next-body .ensures) (c .before .before .before .before .before .before .before .before .before .before .before .before .before .before .before .before .before .before .before .before .before .piece .given .1) (c .before .before .before .before .before .before .before .before .before .before .before .before .before .before .before .before .before .before .before .argument-at .ensures) (c .before .before .before .before .before .before .before .before .before .before .before .before .before .before .before .before .before .argument .given .1) (c .before .before .before .before .before .before .before .before .before .before .before .before .enter-type .ensures) (c .before .before .before .before .before .before .entered .given .1) (subst (λ (n : ℕ). WaitingRoom (c .before .before .before .before .before .before .before .before .before .before .before .before .before .before .before .before .before .before .before .before .before .before .before .before .before .before .before .before .before .before .before .before .before .before .args .tables) (c .before .before .before .before .before .before .before .before .before .before .before .before .before .before .before .before .before .before .before .before .before .before .before .before .before .before .before .before .before .before .before .before .before .before .args .state .types) (length (c .before .before .before .before .before .before .before .before .before .before .before .before .before .before .before .before .before .before .before .before .before .before .before .before .before .before .before .before .before .before .before .before .before .before .args .msg .now)) n) (sym (c .before .before .before .before .before .before .before .before .before .before .before .before .before .before .before .before .before .before .before .before .before .before .before .before .before .loop .inv .1)) (c .before .before .before .before .before .before .before .before .before .before .before .before .before .before .before .before .before .before .before .before .before .before .before .before .before .before .before .before .before .before .before .before .before .before .pre .1 .room))) (c .before .before .before .push .ensures)
 
 -- src/parse.rt:53:5
 arguments-at-loop-again-2 : (t : ℕ) → arguments-at-lts.Need-loop-again-2 (arguments-at-calls t) (arguments-at-at t) arguments-at.Post arguments-at-Inv-loop arguments-at-μ-loop
-arguments-at-loop-again-2 t c = (loop-entered (c .before .before .before .before .before .before .before .before .before .before .before .before .before .before .before .before .before .before .before .before .before .before .before .before .before .loop .inv .0) (c .before .before .before .before .before .before .before .before .before .before .before .before .before .before .before .before .before .before .before .before .before .before .before .next-body .ensures) (c .before .before .before .before .before .before .before .before .before .before .before .before .before .before .before .before .before .before .before .before .before .piece .given .1) (c .before .before .before .before .before .before .before .before .before .before .before .before .before .before .before .before .before .before .before .argument-at .ensures) (c .before .before .before .before .before .before .before .before .before .before .before .before .before .before .before .before .before .argument .given .1) (c .before .before .before .before .before .before .before .before .before .before .before .before .enter-type .ensures) (c .before .before .before .before .before .before .entered .given .1) (omega (arith, c .before .before .before .before .before .before .before .before .before .before .before .before .before .before .before .before .before .before .before .before .before .before .before .before .before .before .before .before .before .before .before .before .before .before .pre .1 .inside, c .before .before .before .before .before .before .before .before .before .before .before .before .before .before .before .before .before .before .before .before .before .before .before .before .before .before .before .before .before .before .before .before .before .before .pre .1 .ready .payload-short)) (push-room (c .before .before .before .before .before .before .before .before .before .before .before .before .before .before .before .before .before .before .before .before .before .before .before .before .before .loop .inv .0) (c .before .before .before .before .before .before .before .before .before .before .before .before .before .before .before .before .before .before .before .before .before .before .before .next-body .ensures) (c .before .before .before .before .before .before .before .before .before .before .before .before .before .before .before .before .before .before .before .before .before .piece .given .1) (c .before .before .before .before .before .before .before .before .before .before .before .before .before .before .before .before .before .before .before .argument-at .ensures) (c .before .before .before .before .before .before .before .before .before .before .before .before .before .before .before .before .before .argument .given .1) (c .before .before .before .before .before .before .before .before .before .before .before .before .enter-type .ensures) (c .before .before .before .before .before .before .entered .given .1) (subst (λ (n : ℕ). Fits (c .before .before .before .before .before .before .before .before .before .before .before .before .before .before .before .before .before .before .before .before .before .before .before .before .before .before .before .before .before .before .before .before .before .before .args .tables) (c .before .before .before .before .before .before .before .before .before .before .before .before .before .before .before .before .before .before .before .before .before .before .before .before .before .before .before .before .before .before .before .before .before .before .args .state .types) (length (c .before .before .before .before .before .before .before .before .before .before .before .before .before .before .before .before .before .before .before .before .before .before .before .before .before .before .before .before .before .before .before .before .before .before .args .msg .now)) n) (sym (c .before .before .before .before .before .before .before .before .before .before .before .before .before .before .before .before .before .before .before .before .before .before .before .before .before .loop .inv .1)) (c .before .before .before .before .before .before .before .before .before .before .before .before .before .before .before .before .before .before .before .before .before .before .before .before .before .before .before .before .before .before .before .before .before .before .pre .1 .room))) (c .before .before .before .push .ensures) (c .less .ensures), c .before .before .before .push .kept .0 ∙ c .before .before .before .before .before .before .before .before .before .before .before .before .before .before .before .before .before .before .before .before .before .before .before .before .before .loop .inv .1, c .before .before .before .before .before .before .before .before .before .before .before .before .enter-type .kept .1 .1 .1 .1 .1 .1 .1 .1 .1 .0 ∙ c .before .before .before .before .before .before .before .before .before .before .before .before .before .before .before .before .before .before .before .before .before .before .before .before .before .loop .inv .2, c .before .before .before .before .before .before .before .before .before .before .before .before .enter-type .kept .1 .1 .1 .1 .1 .1 .1 .1 .1 .1 .0 ∙ c .before .before .before .before .before .before .before .before .before .before .before .before .before .before .before .before .before .before .before .before .before .before .before .before .before .loop .inv .3)
+arguments-at-loop-again-2 t c = (loop-entered (c .before .before .before .before .before .before .before .before .before .before .before .before .before .before .before .before .before .before .before .before .before .before .before .before .before .loop .inv .0) (c .before .before .before .before .before .before .before .before .before .before .before .before .before .before .before .before .before .before .before .before .before .before .before .next-body .ensures) (c .before .before .before .before .before .before .before .before .before .before .before .before .before .before .before .before .before .before .before .before .before .piece .given .1) (c .before .before .before .before .before .before .before .before .before .before .before .before .before .before .before .before .before .before .before .argument-at .ensures) (c .before .before .before .before .before .before .before .before .before .before .before .before .before .before .before .before .before .argument .given .1) (c .before .before .before .before .before .before .before .before .before .before .before .before .enter-type .ensures) (c .before .before .before .before .before .before .entered .given .1) (omega (arith, c .before .before .before .before .before .before .before .before .before .before .before .before .before .before .before .before .before .before .before .before .before .before .before .before .before .before .before .before .before .before .before .before .before .before .pre .1 .inside, c .before .before .before .before .before .before .before .before .before .before .before .before .before .before .before .before .before .before .before .before .before .before .before .before .before .before .before .before .before .before .before .before .before .before .pre .1 .ready .payload-short)) (push-room (c .before .before .before .before .before .before .before .before .before .before .before .before .before .before .before .before .before .before .before .before .before .before .before .before .before .loop .inv .0) (c .before .before .before .before .before .before .before .before .before .before .before .before .before .before .before .before .before .before .before .before .before .before .before .next-body .ensures) (c .before .before .before .before .before .before .before .before .before .before .before .before .before .before .before .before .before .before .before .before .before .piece .given .1) (c .before .before .before .before .before .before .before .before .before .before .before .before .before .before .before .before .before .before .before .argument-at .ensures) (c .before .before .before .before .before .before .before .before .before .before .before .before .before .before .before .before .before .argument .given .1) (c .before .before .before .before .before .before .before .before .before .before .before .before .enter-type .ensures) (c .before .before .before .before .before .before .entered .given .1) (subst (λ (n : ℕ). WaitingRoom (c .before .before .before .before .before .before .before .before .before .before .before .before .before .before .before .before .before .before .before .before .before .before .before .before .before .before .before .before .before .before .before .before .before .before .args .tables) (c .before .before .before .before .before .before .before .before .before .before .before .before .before .before .before .before .before .before .before .before .before .before .before .before .before .before .before .before .before .before .before .before .before .before .args .state .types) (length (c .before .before .before .before .before .before .before .before .before .before .before .before .before .before .before .before .before .before .before .before .before .before .before .before .before .before .before .before .before .before .before .before .before .before .args .msg .now)) n) (sym (c .before .before .before .before .before .before .before .before .before .before .before .before .before .before .before .before .before .before .before .before .before .before .before .before .before .loop .inv .1)) (c .before .before .before .before .before .before .before .before .before .before .before .before .before .before .before .before .before .before .before .before .before .before .before .before .before .before .before .before .before .before .before .before .before .before .pre .1 .room))) (c .before .before .before .push .ensures) (c .less .ensures), c .before .before .before .push .kept .0 ∙ c .before .before .before .before .before .before .before .before .before .before .before .before .before .before .before .before .before .before .before .before .before .before .before .before .before .loop .inv .1, c .before .before .before .before .before .before .before .before .before .before .before .before .enter-type .kept .1 .1 .1 .1 .1 .1 .1 .1 .1 .0 ∙ c .before .before .before .before .before .before .before .before .before .before .before .before .before .before .before .before .before .before .before .before .before .before .before .before .before .loop .inv .2, c .before .before .before .before .before .before .before .before .before .before .before .before .enter-type .kept .1 .1 .1 .1 .1 .1 .1 .1 .1 .1 .0 ∙ c .before .before .before .before .before .before .before .before .before .before .before .before .before .before .before .before .before .before .before .before .before .before .before .before .before .loop .inv .3)
 
 -- src/parse.rt:105:33
 arguments-at-enum-known-argument-2 : (t : ℕ) → arguments-at-lts.Need-enum-known-argument-2 (arguments-at-calls t) (arguments-at-at t) arguments-at.Post arguments-at-Inv-loop arguments-at-μ-loop
@@ -224,11 +222,11 @@ arguments-at-mul-resolve-at t c = let h : c .before .before .before .before .bef
 
 -- src/parse.rt:116:21
 arguments-at-sub-resolve-at : (t : ℕ) → arguments-at-lts.Need-sub-resolve-at (arguments-at-calls t) (arguments-at-at t) arguments-at.Post arguments-at-Inv-loop arguments-at-μ-loop
-arguments-at-sub-resolve-at t c = loop-height (c .before .before .before .before .before .before .before .before .before .loop .inv .0) (subst (λ (n : ℕ). Fits (c .before .before .before .before .before .before .before .before .before .before .before .before .before .before .before .before .before .before .args .tables) (c .before .before .before .before .before .before .before .before .before .before .before .before .before .before .before .before .before .before .args .state .types) (length (c .before .before .before .before .before .before .before .before .before .before .before .before .before .before .before .before .before .before .args .msg .now)) n) (sym (c .before .before .before .before .before .before .before .before .before .loop .inv .1)) (c .before .before .before .before .before .before .before .before .before .before .before .before .before .before .before .before .before .before .pre .1 .room))
+arguments-at-sub-resolve-at t c = loop-height (c .before .before .before .before .before .before .before .before .before .loop .inv .0) (subst (λ (n : ℕ). WaitingRoom (c .before .before .before .before .before .before .before .before .before .before .before .before .before .before .before .before .before .before .args .tables) (c .before .before .before .before .before .before .before .before .before .before .before .before .before .before .before .before .before .before .args .state .types) (length (c .before .before .before .before .before .before .before .before .before .before .before .before .before .before .before .before .before .before .args .msg .now)) n) (sym (c .before .before .before .before .before .before .before .before .before .loop .inv .1)) (c .before .before .before .before .before .before .before .before .before .before .before .before .before .before .before .before .before .before .pre .1 .room))
 
 -- src/parse.rt:116:21
 arguments-at-part-resolve-at-start : (t : ℕ) → arguments-at-lts.Need-part-resolve-at-start (arguments-at-calls t) (arguments-at-at t) arguments-at.Post arguments-at-Inv-loop arguments-at-μ-loop
-arguments-at-part-resolve-at-start t c = loop-height (c .before .before .before .before .before .before .before .before .before .loop .inv .0) (subst (λ (n : ℕ). Fits (c .before .before .before .before .before .before .before .before .before .before .before .before .before .before .before .before .before .before .args .tables) (c .before .before .before .before .before .before .before .before .before .before .before .before .before .before .before .before .before .before .args .state .types) (length (c .before .before .before .before .before .before .before .before .before .before .before .before .before .before .before .before .before .before .args .msg .now)) n) (sym (c .before .before .before .before .before .before .before .before .before .loop .inv .1)) (c .before .before .before .before .before .before .before .before .before .before .before .before .before .before .before .before .before .before .pre .1 .room))
+arguments-at-part-resolve-at-start t c = loop-height (c .before .before .before .before .before .before .before .before .before .loop .inv .0) (subst (λ (n : ℕ). WaitingRoom (c .before .before .before .before .before .before .before .before .before .before .before .before .before .before .before .before .before .before .args .tables) (c .before .before .before .before .before .before .before .before .before .before .before .before .before .before .before .before .before .before .args .state .types) (length (c .before .before .before .before .before .before .before .before .before .before .before .before .before .before .before .before .before .before .args .msg .now)) n) (sym (c .before .before .before .before .before .before .before .before .before .loop .inv .1)) (c .before .before .before .before .before .before .before .before .before .before .before .before .before .before .before .before .before .before .pre .1 .room))
 
 -- src/parse.rt:116:21
 arguments-at-part-resolve-at-end : (t : ℕ) → arguments-at-lts.Need-part-resolve-at-end (arguments-at-calls t) (arguments-at-at t) arguments-at.Post arguments-at-Inv-loop arguments-at-μ-loop
@@ -236,7 +234,7 @@ arguments-at-part-resolve-at-end t c = search needs
 
 -- src/parse.rt:106:21
 arguments-at-resolve-at-requires : (t : ℕ) → arguments-at-lts.Need-resolve-at-requires (arguments-at-calls t) (arguments-at-at t) arguments-at.Post arguments-at-Inv-loop arguments-at-μ-loop
-arguments-at-resolve-at-requires t c κs = (falls-look-up (c .before .before .before .before .before .before .before .before .before .before .before .before .before .before .before .before .before .before .before .before .before .args .left) (c .before .before .before .before .before .before .before .before .before .before .before .before .before .before .before .before .before .before .before .before .before .pre .0) ((c .before .before .before .before .before .before .before .before .before .before .before .before .loop .inv .0) .shallow), (loop-ready (c .before .before .before .before .before .before .before .before .before .before .before .before .loop .inv .0) (c .before .before .before .before .before .before .before .before .before .before .before .before .before .before .before .before .before .before .before .before .before .pre .1 .ready), omega (arith, (c .before .before .before .before .before .before .before .before .before .before .before .before .loop .inv .0) .shallow, c .before .before .before .before .before .before .before .before .before .before .before .before .before .before .before .before .before .before .before .before .before .pre .1 .deep), loop-room (c .before .before .before .before .before .before .before .before .before .before .before .before .loop .inv .0) (subst (λ (n : ℕ). Fits (c .before .before .before .before .before .before .before .before .before .before .before .before .before .before .before .before .before .before .before .before .before .args .tables) (c .before .before .before .before .before .before .before .before .before .before .before .before .before .before .before .before .before .before .before .before .before .args .state .types) (length (c .before .before .before .before .before .before .before .before .before .before .before .before .before .before .before .before .before .before .before .before .before .args .msg .now)) n) (sym (c .before .before .before .before .before .before .before .before .before .before .before .before .loop .inv .1)) (c .before .before .before .before .before .before .before .before .before .before .before .before .before .before .before .before .before .before .before .before .before .pre .1 .room))))
+arguments-at-resolve-at-requires t c κs = (falls-look-up (c .before .before .before .before .before .before .before .before .before .before .before .before .before .before .before .before .before .before .before .before .before .args .left) (length (c .before .before .before .before .before .before .before .before .before .before .before .before .before .before .before .before .before .before .before .before .before .args .msg .now)) (c .before .before .before .before .before .before .before .before .before .before .before .before .before .before .before .before .before .before .before .before .before .pre .0) ((c .before .before .before .before .before .before .before .before .before .before .before .before .loop .inv .0) .shallow), (loop-ready (c .before .before .before .before .before .before .before .before .before .before .before .before .loop .inv .0) (c .before .before .before .before .before .before .before .before .before .before .before .before .before .before .before .before .before .before .before .before .before .pre .1 .ready), omega (arith, (c .before .before .before .before .before .before .before .before .before .before .before .before .loop .inv .0) .shallow, c .before .before .before .before .before .before .before .before .before .before .before .before .before .before .before .before .before .before .before .before .before .pre .1 .deep), loop-room (c .before .before .before .before .before .before .before .before .before .before .before .before .loop .inv .0) (subst (λ (n : ℕ). WaitingRoom (c .before .before .before .before .before .before .before .before .before .before .before .before .before .before .before .before .before .before .before .before .before .args .tables) (c .before .before .before .before .before .before .before .before .before .before .before .before .before .before .before .before .before .before .before .before .before .args .state .types) (length (c .before .before .before .before .before .before .before .before .before .before .before .before .before .before .before .before .before .before .before .before .before .args .msg .now)) n) (sym (c .before .before .before .before .before .before .before .before .before .before .before .before .loop .inv .1)) (c .before .before .before .before .before .before .before .before .before .before .before .before .before .before .before .before .before .before .before .before .before .pre .1 .room))))
 
 -- src/parse.rt:121:43
 arguments-at-enum-known-found : (t : ℕ) → arguments-at-lts.Need-enum-known-found (arguments-at-calls t) (arguments-at-at t) arguments-at.Post arguments-at-Inv-loop arguments-at-μ-loop
@@ -244,22 +242,22 @@ arguments-at-enum-known-found t c = search needs
 
 -- src/parse.rt:53:5
 arguments-at-loop-less-3 : (t : ℕ) → arguments-at-lts.Need-loop-less-3 (arguments-at-calls t) (arguments-at-at t) arguments-at.Post arguments-at-Inv-loop arguments-at-μ-loop
-arguments-at-loop-less-3 t c = passed-falls (c .before .before .before .before .before .before .before .before .before .before .before .before .before .before .before .before .before .before .before .before .before .before .loop .inv .0) (c .before .before .before .before .before .before .before .before .before .before .before .before .before .before .before .before .before .before .before .before .next-body .ensures) (c .before .before .before .before .before .before .before .before .before .before .before .before .before .before .before .before .before .before .piece .given .1) _ (waits-kept (c .before .before .before .before .before .before .before .before .before .before .before .before .before .before .before .before .before .before .before .before .before .before .loop .inv .0) (subst (λ (n : ℕ). Fits (c .before .before .before .before .before .before .before .before .before .before .before .before .before .before .before .before .before .before .before .before .before .before .before .before .before .before .before .before .before .before .before .args .tables) (c .before .before .before .before .before .before .before .before .before .before .before .before .before .before .before .before .before .before .before .before .before .before .before .before .before .before .before .before .before .before .before .args .state .types) (length (c .before .before .before .before .before .before .before .before .before .before .before .before .before .before .before .before .before .before .before .before .before .before .before .before .before .before .before .before .before .before .before .args .msg .now)) n) (sym (c .before .before .before .before .before .before .before .before .before .before .before .before .before .before .before .before .before .before .before .before .before .before .loop .inv .1)) (c .before .before .before .before .before .before .before .before .before .before .before .before .before .before .before .before .before .before .before .before .before .before .before .before .before .before .before .before .before .before .before .pre .1 .room)) (c .before .before .before .before .before .before .before .before .before .resolve-at .last .1 .1 .1 .1 .1 .1 .1 .1 .1 .0))
+arguments-at-loop-less-3 t c = passed-falls (c .before .before .before .before .before .before .before .before .before .before .before .before .before .before .before .before .before .before .before .before .before .before .loop .inv .0) (c .before .before .before .before .before .before .before .before .before .before .before .before .before .before .before .before .before .before .before .before .next-body .ensures) (c .before .before .before .before .before .before .before .before .before .before .before .before .before .before .before .before .before .before .piece .given .1) _ (waits-kept (c .before .before .before .before .before .before .before .before .before .before .before .before .before .before .before .before .before .before .before .before .before .before .loop .inv .0) (subst (λ (n : ℕ). WaitingRoom (c .before .before .before .before .before .before .before .before .before .before .before .before .before .before .before .before .before .before .before .before .before .before .before .before .before .before .before .before .before .before .before .args .tables) (c .before .before .before .before .before .before .before .before .before .before .before .before .before .before .before .before .before .before .before .before .before .before .before .before .before .before .before .before .before .before .before .args .state .types) (length (c .before .before .before .before .before .before .before .before .before .before .before .before .before .before .before .before .before .before .before .before .before .before .before .before .before .before .before .before .before .before .before .args .msg .now)) n) (sym (c .before .before .before .before .before .before .before .before .before .before .before .before .before .before .before .before .before .before .before .before .before .before .loop .inv .1)) (c .before .before .before .before .before .before .before .before .before .before .before .before .before .before .before .before .before .before .before .before .before .before .before .before .before .before .before .before .before .before .before .pre .1 .room)) (c .before .before .before .before .before .before .before .before .before .resolve-at .last .1 .1 .1 .1 .1 .1 .1 .1 .1 .0))
 
 -- src/parse.rt:53:5
 arguments-at-loop-again-3 : (t : ℕ) → arguments-at-lts.Need-loop-again-3 (arguments-at-calls t) (arguments-at-at t) arguments-at.Post arguments-at-Inv-loop arguments-at-μ-loop
-arguments-at-loop-again-3 t c = (loop-kept (c .before .before .before .before .before .before .before .before .before .before .before .before .before .before .before .before .before .before .before .before .before .before .loop .inv .0) (c .before .before .before .before .before .before .before .before .before .before .before .before .before .before .before .before .before .before .before .before .next-body .ensures) (c .before .before .before .before .before .before .before .before .before .before .before .before .before .before .before .before .before .before .piece .given .1) (c .before .before .before .before .before .before .before .before .before .before .before .before .before .before .before .before .argument-at .ensures) (c .before .before .before .before .before .before .before .before .before .before .before .before .before .before .argument2 .given .1) (c .before .before .before .before .before .before .before .before .before .resolve-at .ensures) (waits-kept (c .before .before .before .before .before .before .before .before .before .before .before .before .before .before .before .before .before .before .before .before .before .before .loop .inv .0) (subst (λ (n : ℕ). Fits (c .before .before .before .before .before .before .before .before .before .before .before .before .before .before .before .before .before .before .before .before .before .before .before .before .before .before .before .before .before .before .before .args .tables) (c .before .before .before .before .before .before .before .before .before .before .before .before .before .before .before .before .before .before .before .before .before .before .before .before .before .before .before .before .before .before .before .args .state .types) (length (c .before .before .before .before .before .before .before .before .before .before .before .before .before .before .before .before .before .before .before .before .before .before .before .before .before .before .before .before .before .before .before .args .msg .now)) n) (sym (c .before .before .before .before .before .before .before .before .before .before .before .before .before .before .before .before .before .before .before .before .before .before .loop .inv .1)) (c .before .before .before .before .before .before .before .before .before .before .before .before .before .before .before .before .before .before .before .before .before .before .before .before .before .before .before .before .before .before .before .pre .1 .room)) (c .before .before .before .before .before .before .before .before .before .resolve-at .last .1 .1 .1 .1 .1 .1 .1 .1 .1 .0)) (c .before .found .given .1), lent-length (c .before .before .before .before .before .before .before .before .before .before .before .before .before .before .before .before .before .before .before .before .before .before .loop .inv .0) (c .before .before .before .before .before .before .before .before .before .resolve-at .last .1 .1 .1 .1 .1 .1 .1 .1 .1 .0) (c .before .before .before .before .before .before .before .before .before .resolve-at .kept .1 .1 .1 .1 .1 .1 .1 .1 .1 .0) ∙ c .before .before .before .before .before .before .before .before .before .before .before .before .before .before .before .before .before .before .before .before .before .before .loop .inv .1, c .before .before .before .before .before .before .before .before .before .resolve-at .kept .1 .1 .1 .1 .1 .1 .1 .1 .1 .1 .0 ∙ c .before .before .before .before .before .before .before .before .before .before .before .before .before .before .before .before .before .before .before .before .before .before .loop .inv .2, c .before .before .before .before .before .before .before .before .before .resolve-at .kept .1 .1 .1 .1 .1 .1 .1 .1 .1 .1 .1 .0 ∙ c .before .before .before .before .before .before .before .before .before .before .before .before .before .before .before .before .before .before .before .before .before .before .loop .inv .3)
+arguments-at-loop-again-3 t c = (loop-kept (c .before .before .before .before .before .before .before .before .before .before .before .before .before .before .before .before .before .before .before .before .before .before .loop .inv .0) (c .before .before .before .before .before .before .before .before .before .before .before .before .before .before .before .before .before .before .before .before .next-body .ensures) (c .before .before .before .before .before .before .before .before .before .before .before .before .before .before .before .before .before .before .piece .given .1) (c .before .before .before .before .before .before .before .before .before .before .before .before .before .before .before .before .argument-at .ensures) (c .before .before .before .before .before .before .before .before .before .before .before .before .before .before .argument2 .given .1) (c .before .before .before .before .before .before .before .before .before .resolve-at .ensures) (waits-kept (c .before .before .before .before .before .before .before .before .before .before .before .before .before .before .before .before .before .before .before .before .before .before .loop .inv .0) (subst (λ (n : ℕ). WaitingRoom (c .before .before .before .before .before .before .before .before .before .before .before .before .before .before .before .before .before .before .before .before .before .before .before .before .before .before .before .before .before .before .before .args .tables) (c .before .before .before .before .before .before .before .before .before .before .before .before .before .before .before .before .before .before .before .before .before .before .before .before .before .before .before .before .before .before .before .args .state .types) (length (c .before .before .before .before .before .before .before .before .before .before .before .before .before .before .before .before .before .before .before .before .before .before .before .before .before .before .before .before .before .before .before .args .msg .now)) n) (sym (c .before .before .before .before .before .before .before .before .before .before .before .before .before .before .before .before .before .before .before .before .before .before .loop .inv .1)) (c .before .before .before .before .before .before .before .before .before .before .before .before .before .before .before .before .before .before .before .before .before .before .before .before .before .before .before .before .before .before .before .pre .1 .room)) (c .before .before .before .before .before .before .before .before .before .resolve-at .last .1 .1 .1 .1 .1 .1 .1 .1 .1 .0)) (c .before .found .given .1), lent-length (c .before .before .before .before .before .before .before .before .before .before .before .before .before .before .before .before .before .before .before .before .before .before .loop .inv .0) (c .before .before .before .before .before .before .before .before .before .resolve-at .last .1 .1 .1 .1 .1 .1 .1 .1 .1 .0) (c .before .before .before .before .before .before .before .before .before .resolve-at .kept .1 .1 .1 .1 .1 .1 .1 .1 .1 .0) ∙ c .before .before .before .before .before .before .before .before .before .before .before .before .before .before .before .before .before .before .before .before .before .before .loop .inv .1, c .before .before .before .before .before .before .before .before .before .resolve-at .kept .1 .1 .1 .1 .1 .1 .1 .1 .1 .1 .0 ∙ c .before .before .before .before .before .before .before .before .before .before .before .before .before .before .before .before .before .before .before .before .before .before .loop .inv .2, c .before .before .before .before .before .before .before .before .before .resolve-at .kept .1 .1 .1 .1 .1 .1 .1 .1 .1 .1 .1 .0 ∙ c .before .before .before .before .before .before .before .before .before .before .before .before .before .before .before .before .before .before .before .before .before .before .loop .inv .3)
 
 arguments-at-enum-told-3 : (t : ℕ) → arguments-at-lts.Need-enum-told-3 (arguments-at-calls t) (arguments-at-at t) arguments-at.Post arguments-at-Inv-loop arguments-at-μ-loop
 arguments-at-enum-told-3 t c = search needs
 
 -- src/parse.rt:53:5
 arguments-at-loop-less-4 : (t : ℕ) → arguments-at-lts.Need-loop-less-4 (arguments-at-calls t) (arguments-at-at t) arguments-at.Post arguments-at-Inv-loop arguments-at-μ-loop
-arguments-at-loop-less-4 t c = passed-falls (c .before .before .before .before .before .before .before .before .before .before .before .before .before .before .before .before .before .before .before .before .before .loop .inv .0) (c .before .before .before .before .before .before .before .before .before .before .before .before .before .before .before .before .before .before .before .next-body .ensures) (c .before .before .before .before .before .before .before .before .before .before .before .before .before .before .before .before .before .piece .given .1) _ (waits-kept (c .before .before .before .before .before .before .before .before .before .before .before .before .before .before .before .before .before .before .before .before .before .loop .inv .0) (subst (λ (n : ℕ). Fits (c .before .before .before .before .before .before .before .before .before .before .before .before .before .before .before .before .before .before .before .before .before .before .before .before .before .before .before .before .before .before .args .tables) (c .before .before .before .before .before .before .before .before .before .before .before .before .before .before .before .before .before .before .before .before .before .before .before .before .before .before .before .before .before .before .args .state .types) (length (c .before .before .before .before .before .before .before .before .before .before .before .before .before .before .before .before .before .before .before .before .before .before .before .before .before .before .before .before .before .before .args .msg .now)) n) (sym (c .before .before .before .before .before .before .before .before .before .before .before .before .before .before .before .before .before .before .before .before .before .loop .inv .1)) (c .before .before .before .before .before .before .before .before .before .before .before .before .before .before .before .before .before .before .before .before .before .before .before .before .before .before .before .before .before .before .pre .1 .room)) (c .before .before .before .before .before .before .before .before .resolve-at .last .1 .1 .1 .1 .1 .1 .1 .1 .1 .0))
+arguments-at-loop-less-4 t c = passed-falls (c .before .before .before .before .before .before .before .before .before .before .before .before .before .before .before .before .before .before .before .before .before .loop .inv .0) (c .before .before .before .before .before .before .before .before .before .before .before .before .before .before .before .before .before .before .before .next-body .ensures) (c .before .before .before .before .before .before .before .before .before .before .before .before .before .before .before .before .before .piece .given .1) _ (waits-kept (c .before .before .before .before .before .before .before .before .before .before .before .before .before .before .before .before .before .before .before .before .before .loop .inv .0) (subst (λ (n : ℕ). WaitingRoom (c .before .before .before .before .before .before .before .before .before .before .before .before .before .before .before .before .before .before .before .before .before .before .before .before .before .before .before .before .before .before .args .tables) (c .before .before .before .before .before .before .before .before .before .before .before .before .before .before .before .before .before .before .before .before .before .before .before .before .before .before .before .before .before .before .args .state .types) (length (c .before .before .before .before .before .before .before .before .before .before .before .before .before .before .before .before .before .before .before .before .before .before .before .before .before .before .before .before .before .before .args .msg .now)) n) (sym (c .before .before .before .before .before .before .before .before .before .before .before .before .before .before .before .before .before .before .before .before .before .loop .inv .1)) (c .before .before .before .before .before .before .before .before .before .before .before .before .before .before .before .before .before .before .before .before .before .before .before .before .before .before .before .before .before .before .pre .1 .room)) (c .before .before .before .before .before .before .before .before .resolve-at .last .1 .1 .1 .1 .1 .1 .1 .1 .1 .0))
 
 -- src/parse.rt:53:5
 arguments-at-loop-again-4 : (t : ℕ) → arguments-at-lts.Need-loop-again-4 (arguments-at-calls t) (arguments-at-at t) arguments-at.Post arguments-at-Inv-loop arguments-at-μ-loop
-arguments-at-loop-again-4 t c = (loop-dropped (c .before .before .before .before .before .before .before .before .before .before .before .before .before .before .before .before .before .before .before .before .before .loop .inv .0) (c .before .before .before .before .before .before .before .before .before .before .before .before .before .before .before .before .before .before .before .next-body .ensures) (c .before .before .before .before .before .before .before .before .before .before .before .before .before .before .before .before .before .piece .given .1) (c .before .before .before .before .before .before .before .before .before .before .before .before .before .before .before .argument-at .ensures) (c .before .before .before .before .before .before .before .before .before .before .before .before .before .argument2 .given .1) (c .before .before .before .before .before .before .before .before .resolve-at .ensures) (waits-kept (c .before .before .before .before .before .before .before .before .before .before .before .before .before .before .before .before .before .before .before .before .before .loop .inv .0) (subst (λ (n : ℕ). Fits (c .before .before .before .before .before .before .before .before .before .before .before .before .before .before .before .before .before .before .before .before .before .before .before .before .before .before .before .before .before .before .args .tables) (c .before .before .before .before .before .before .before .before .before .before .before .before .before .before .before .before .before .before .before .before .before .before .before .before .before .before .before .before .before .before .args .state .types) (length (c .before .before .before .before .before .before .before .before .before .before .before .before .before .before .before .before .before .before .before .before .before .before .before .before .before .before .before .before .before .before .args .msg .now)) n) (sym (c .before .before .before .before .before .before .before .before .before .before .before .before .before .before .before .before .before .before .before .before .before .loop .inv .1)) (c .before .before .before .before .before .before .before .before .before .before .before .before .before .before .before .before .before .before .before .before .before .before .before .before .before .before .before .before .before .before .pre .1 .room)) (c .before .before .before .before .before .before .before .before .resolve-at .last .1 .1 .1 .1 .1 .1 .1 .1 .1 .0)) (c .enum-told3 .given .1), lent-length (c .before .before .before .before .before .before .before .before .before .before .before .before .before .before .before .before .before .before .before .before .before .loop .inv .0) (c .before .before .before .before .before .before .before .before .resolve-at .last .1 .1 .1 .1 .1 .1 .1 .1 .1 .0) (c .before .before .before .before .before .before .before .before .resolve-at .kept .1 .1 .1 .1 .1 .1 .1 .1 .1 .0) ∙ c .before .before .before .before .before .before .before .before .before .before .before .before .before .before .before .before .before .before .before .before .before .loop .inv .1, c .before .before .before .before .before .before .before .before .resolve-at .kept .1 .1 .1 .1 .1 .1 .1 .1 .1 .1 .0 ∙ c .before .before .before .before .before .before .before .before .before .before .before .before .before .before .before .before .before .before .before .before .before .loop .inv .2, c .before .before .before .before .before .before .before .before .resolve-at .kept .1 .1 .1 .1 .1 .1 .1 .1 .1 .1 .1 .0 ∙ c .before .before .before .before .before .before .before .before .before .before .before .before .before .before .before .before .before .before .before .before .before .loop .inv .3)
+arguments-at-loop-again-4 t c = (loop-dropped (c .before .before .before .before .before .before .before .before .before .before .before .before .before .before .before .before .before .before .before .before .before .loop .inv .0) (c .before .before .before .before .before .before .before .before .before .before .before .before .before .before .before .before .before .before .before .next-body .ensures) (c .before .before .before .before .before .before .before .before .before .before .before .before .before .before .before .before .before .piece .given .1) (c .before .before .before .before .before .before .before .before .before .before .before .before .before .before .before .argument-at .ensures) (c .before .before .before .before .before .before .before .before .before .before .before .before .before .argument2 .given .1) (c .before .before .before .before .before .before .before .before .resolve-at .ensures) (waits-kept (c .before .before .before .before .before .before .before .before .before .before .before .before .before .before .before .before .before .before .before .before .before .loop .inv .0) (subst (λ (n : ℕ). WaitingRoom (c .before .before .before .before .before .before .before .before .before .before .before .before .before .before .before .before .before .before .before .before .before .before .before .before .before .before .before .before .before .before .args .tables) (c .before .before .before .before .before .before .before .before .before .before .before .before .before .before .before .before .before .before .before .before .before .before .before .before .before .before .before .before .before .before .args .state .types) (length (c .before .before .before .before .before .before .before .before .before .before .before .before .before .before .before .before .before .before .before .before .before .before .before .before .before .before .before .before .before .before .args .msg .now)) n) (sym (c .before .before .before .before .before .before .before .before .before .before .before .before .before .before .before .before .before .before .before .before .before .loop .inv .1)) (c .before .before .before .before .before .before .before .before .before .before .before .before .before .before .before .before .before .before .before .before .before .before .before .before .before .before .before .before .before .before .pre .1 .room)) (c .before .before .before .before .before .before .before .before .resolve-at .last .1 .1 .1 .1 .1 .1 .1 .1 .1 .0)) (c .enum-told3 .given .1), lent-length (c .before .before .before .before .before .before .before .before .before .before .before .before .before .before .before .before .before .before .before .before .before .loop .inv .0) (c .before .before .before .before .before .before .before .before .resolve-at .last .1 .1 .1 .1 .1 .1 .1 .1 .1 .0) (c .before .before .before .before .before .before .before .before .resolve-at .kept .1 .1 .1 .1 .1 .1 .1 .1 .1 .0) ∙ c .before .before .before .before .before .before .before .before .before .before .before .before .before .before .before .before .before .before .before .before .before .loop .inv .1, c .before .before .before .before .before .before .before .before .resolve-at .kept .1 .1 .1 .1 .1 .1 .1 .1 .1 .1 .0 ∙ c .before .before .before .before .before .before .before .before .before .before .before .before .before .before .before .before .before .before .before .before .before .loop .inv .2, c .before .before .before .before .before .before .before .before .resolve-at .kept .1 .1 .1 .1 .1 .1 .1 .1 .1 .1 .1 .0 ∙ c .before .before .before .before .before .before .before .before .before .before .before .before .before .before .before .before .before .before .before .before .before .loop .inv .3)
 
 -- src/parse.rt:123:39
 arguments-at-enum-known-found-2 : (t : ℕ) → arguments-at-lts.Need-enum-known-found-2 (arguments-at-calls t) (arguments-at-at t) arguments-at.Post arguments-at-Inv-loop arguments-at-μ-loop
@@ -342,7 +340,7 @@ parse-at-less-requires t c κs = search needs
 
 -- src/parse.rt:170:5
 parse-at-arguments-at-requires : (t : ℕ) → parse-at-lts.Need-arguments-at-requires (parse-at-calls t) (parse-at-at t) parse-at.Post
-parse-at-arguments-at-requires t c κs = (falls-arguments (c .before .before .before .before .before .before .before .before .before .before .before .before .before .before .before .before .before .before .before .before .before .before .args .place .left) (c .before .before .before .before .before .before .before .before .before .before .before .before .before .before .before .before .before .before .before .before .before .before .pre .0) (c .before .before .before .less .ensures), entered-room (c .before .before .before .before .before .before .before .before .before .before .before .enter-type .ensures) (c .before .before .before .before .before .entered .given .1) (c .before .before .before .less .ensures) (c .before .before .before .before .before .before .before .before .before .before .before .before .before .before .before .before .before .before .before .before .before .before .pre .1))
+parse-at-arguments-at-requires t c κs = (falls-arguments (c .before .before .before .before .before .before .before .before .before .before .before .before .before .before .before .before .before .before .before .before .before .before .args .place .left) (length (c .before .before .before .before .before .before .before .before .before .before .before .before .before .before .before .before .before .before .before .before .before .before .args .msg .now)) (c .before .before .before .before .before .before .before .before .before .before .before .before .before .before .before .before .before .before .before .before .before .before .pre .0) (c .before .before .before .less .ensures), entered-room (c .before .before .before .before .before .before .before .before .before .before .before .enter-type .ensures) (c .before .before .before .before .before .entered .given .1) (c .before .before .before .less .ensures) (c .before .before .before .before .before .before .before .before .before .before .before .before .before .before .before .before .before .before .before .before .before .before .pre .1))
 
 -- src/parse.rt:137:1
 parse-at-same-length-3 : (t : ℕ) → parse-at-lts.Need-same-length-3 (parse-at-calls t) (parse-at-at t) parse-at.Post
@@ -402,7 +400,7 @@ resolve-at-cast-parse-at t c = let h = entry-in (c .before .before .before .befo
 
 -- src/parse.rt:217:12
 resolve-at-parse-at-requires : (t : ℕ) → resolve-at-lts.Need-parse-at-requires (resolve-at-calls t) (resolve-at-at t) resolve-at.Post
-resolve-at-parse-at-requires t c κs = let h = entry-in (c .before .before .before .before .before .before .before .before .before .before .before .before .before .before .before .before .before .args .payload .now) (entriesIn (c .before .before .before .before .before .before .before .before .before .before .before .before .before .before .before .before .before .args .tables) (c .before .before .before .before .before .before .before .before .before .before .before .before .before .before .before .before .before .args .notes .now)) (c .before .before .before .before .before .before .before .before .before .before .before .before .before .before .before .before .before .args .tables .types) (c .before .before .before .before .before .before .before .before .before .before .before .before .before .before .before .before .before .args .index) (c .before .before .before .before .before .before .before .before .entry-at .ensures) (c .before .before .before .before .before .before .entry .given .1) in (falls-entry (c .before .before .before .before .before .before .before .before .before .before .before .before .before .before .before .before .before .args .left) (c .before .before .before .before .before .before .before .before .before .before .before .before .before .before .before .before .before .pre .0) (c .before .before .before .before .before .before .before .before .before .if1 .left), entry-room {nest = c .before .before .before .before .before .before .before .before .before .before .before .before .before .before .before .before .before .args .nest .now} (c .before .before .before .before .before .before .before .before .before .before .before .before .before .before .before .before .before .pre .1 .0) (c .before .before .before .before .before .before .before .before .before .before .before .before .before .before .before .before .before .pre .1 .1) (c .before .before .before .before .before .before .before .before .before .before .before .before .before .before .before .before .before .pre .1 .2) (entry-below (c .before .before .before .before .before .before .before .before .before .before .before .before .before .before .before .before .before .args .payload .now) (entriesIn (c .before .before .before .before .before .before .before .before .before .before .before .before .before .before .before .before .before .args .tables) (c .before .before .before .before .before .before .before .before .before .before .before .before .before .before .before .before .before .args .notes .now)) (c .before .before .before .before .before .before .before .before .before .before .before .before .before .before .before .before .before .args .tables .types) (c .before .before .before .before .before .before .before .before .before .before .before .before .before .before .before .before .before .args .index) (c .before .before .before .before .before .before .before .before .entry-at .ensures) (c .before .before .before .before .before .before .entry .given .1)) (c .before .before .before .before .before .before .entry .given .0 .0) (c .before .before .before .before .before .before .entry .given .0 .1 .0) (h .0) (h .1))
+resolve-at-parse-at-requires t c κs = let h = entry-in (c .before .before .before .before .before .before .before .before .before .before .before .before .before .before .before .before .before .args .payload .now) (entriesIn (c .before .before .before .before .before .before .before .before .before .before .before .before .before .before .before .before .before .args .tables) (c .before .before .before .before .before .before .before .before .before .before .before .before .before .before .before .before .before .args .notes .now)) (c .before .before .before .before .before .before .before .before .before .before .before .before .before .before .before .before .before .args .tables .types) (c .before .before .before .before .before .before .before .before .before .before .before .before .before .before .before .before .before .args .index) (c .before .before .before .before .before .before .before .before .entry-at .ensures) (c .before .before .before .before .before .before .entry .given .1) in (falls-entry (c .before .before .before .before .before .before .before .before .before .before .before .before .before .before .before .before .before .args .left) (c .before .before .before .before .before .before .before .before .before .before .before .before .before .before .before .before .before .pre .0) (c .before .before .before .before .before .before .before .before .before .if1 .left) (c .before .before .before .before .before .before .before .before .before .before .before .before .before .before .before .before .before .args .payload .now) (c .before .before .before .before .before .before .before .before .before .before .before .before .before .before .before .before .before .pre .1 .0 .payload-short) (c .before .before .before .before .before .before .entry .given .0 .0) (c .before .before .before .before .before .before .entry .given .0 .1 .0) (h .0) (h .1), entry-room {nest = c .before .before .before .before .before .before .before .before .before .before .before .before .before .before .before .before .before .args .nest .now} (c .before .before .before .before .before .before .before .before .before .before .before .before .before .before .before .before .before .pre .1 .0) (c .before .before .before .before .before .before .before .before .before .before .before .before .before .before .before .before .before .pre .1 .1) (c .before .before .before .before .before .before .before .before .before .before .before .before .before .before .before .before .before .pre .1 .2) (entry-below (c .before .before .before .before .before .before .before .before .before .before .before .before .before .before .before .before .before .args .payload .now) (entriesIn (c .before .before .before .before .before .before .before .before .before .before .before .before .before .before .before .before .before .args .tables) (c .before .before .before .before .before .before .before .before .before .before .before .before .before .before .before .before .before .args .notes .now)) (c .before .before .before .before .before .before .before .before .before .before .before .before .before .before .before .before .before .args .tables .types) (c .before .before .before .before .before .before .before .before .before .before .before .before .before .before .before .before .before .args .index) (c .before .before .before .before .before .before .before .before .entry-at .ensures) (c .before .before .before .before .before .before .entry .given .1)) (c .before .before .before .before .before .before .entry .given .0 .0) (c .before .before .before .before .before .before .entry .given .0 .1 .0) (h .0) (h .1))
 
 -- src/parse.rt:217:5
 resolve-at-picked-requires : (t : ℕ) → resolve-at-lts.Need-picked-requires (resolve-at-calls t) (resolve-at-at t) resolve-at.Post

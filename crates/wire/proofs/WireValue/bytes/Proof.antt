@@ -1,7 +1,7 @@
 -- `wire::WireValue::bytes` meets its contract.
 -- Assumes nothing.
 use mathlib.Core.Path.{ap, sym}
-use Rattle.wire.specs.Told.{pieceOf}
+use Rattle.wire.specs.told.WireTold.{pieceOf}
 use borrow.Author.Needs.{needs}
 use Rattle.wire.proofs.WireValue.bytes.Statement.{statement}
 use Rattle.wire.proofs.WireValue.bytes.Tie as tie

@@ -1,7 +1,7 @@
 -- `wire::WireValue::varint` meets its contract.
 -- Assumes nothing.
 use mathlib.Core.Path.{ap, sym}
-use Rattle.wire.specs.Told.{numberOf}
+use Rattle.wire.specs.told.WireTold.{valueNumber}
 use borrow.Author.Needs.{needs}
 use Rattle.wire.proofs.WireValue.varint.Statement.{statement}
 use Rattle.wire.proofs.WireValue.varint.Tie as tie
@@ -16,13 +16,13 @@ enum-told-2 : tie.Need-enum-told-2
 enum-told-2 c = search needs
 
 returns : tie.Need-returns
-returns c = sym (ap numberOf (c .before .self .given .1))
+returns c = sym (ap valueNumber (c .before .self .given .1))
 
 returns-2 : tie.Need-returns-2
-returns-2 c = sym (ap numberOf (c .enum-told .given .1))
+returns-2 c = sym (ap valueNumber (c .enum-told .given .1))
 
 returns-3 : tie.Need-returns-3
-returns-3 c = sym (ap numberOf (c .enum-told2 .given .1))
+returns-3 c = sym (ap valueNumber (c .enum-told2 .given .1))
 
 pub varint-spec : {M : Type 1} → statement M
 varint-spec =

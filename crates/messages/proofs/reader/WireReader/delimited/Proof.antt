@@ -6,8 +6,8 @@ use contract.Running.{givenOf, tables, tablesOf}
 use denote.Enum.Laws as EL
 use denote.Triple.Spec.{tripleOf}
 use denote.Triple.Table.{entered, cited}
-use Rattle.wire.specs.Told.{DelimitedAt}
-use Rattle.messages.specs.Reader.{afterDelimited}
+use Rattle.wire.specs.told.WireTold.{DelimitedAt}
+use Rattle.messages.specs.told.Reader.{afterDelimited}
 use Rattle.wire.specs.declared.Delimited.{Delimited}
 use Rattle.wire.proofs.Delimited as S
 use Rattle.wire.proofs.Delimited.Laws as S′

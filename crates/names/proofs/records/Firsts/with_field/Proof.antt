@@ -1,4 +1,4 @@
-use Rattle.names.specs.RecordTold.{withField}
+use Rattle.names.specs.told.RecordTold.{withField}
 use borrow.Author.Needs.{needs}
 use Rattle.names.proofs.records.Firsts.with_field.Statement.{statement}
 use Rattle.names.proofs.records.Firsts.with_field.Tie as tie

@@ -1,0 +1,4 @@
+pub mod Plain
+pub mod CharactersTold
+pub mod Sizes
+pub mod Places

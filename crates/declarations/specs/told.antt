@@ -1,0 +1,2 @@
+pub mod PayloadTold
+pub mod BodyTold

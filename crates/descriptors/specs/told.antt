@@ -1,0 +1,3 @@
+pub mod DefaultsTold
+pub mod ErasedTold
+pub mod PartsTold

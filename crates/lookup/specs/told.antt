@@ -1,0 +1,4 @@
+pub mod Lookups
+pub mod Qualified
+pub mod Resolved
+pub mod Strings

@@ -1,0 +1,5 @@
+pub mod CallablesTold
+pub mod PropertiesTold
+pub mod ParametersTold
+pub mod ClosedTold
+pub mod SignaturesTold

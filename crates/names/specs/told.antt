@@ -1,0 +1,4 @@
+pub mod Name
+pub mod Stream
+pub mod Index
+pub mod RecordTold

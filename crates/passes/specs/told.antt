@@ -1,0 +1,2 @@
+pub mod AreaTold
+pub mod PassTold

@@ -1,0 +1,5 @@
+pub mod PartLaws
+pub mod ShortLaws
+pub mod UnwrapLaws
+pub mod WordLaws
+pub mod SizedLaws

@@ -1,0 +1,9 @@
+pub mod SchemaTold
+pub mod TypesTold
+pub mod TableTold
+pub mod MembersTold
+pub mod PlacesTold
+pub mod ListsTold
+pub mod HeadTold
+pub mod ReceiversTold
+pub mod TypeSizes

@@ -1,0 +1,3 @@
+pub mod Pending
+pub mod ParseTold
+pub mod OptionalTold

@@ -1,0 +1,128 @@
+-- What the readers of types tell. Depth is counted down: `left` is what is left of `maxDepth` at the depth d.
+-- Assumes nothing.
+use mathlib.Core.Path.{_≡_}
+use mathlib.Core.Bool.{Bool}
+use mathlib.Core.List.{List}
+use mathlib.Core.Option.{Option, none, some}
+use Prim.Native.Nat.{ℕ, _+_, _-_, _≤_, _<_}
+use lib.ListN.{length}
+use Rattle.foundation.specs.Choices.{isSome}
+use Rattle.foundation.specs.Results.{Res, ok, _from_}
+use Rattle.fields.specs.Fields.{Type·argument, Type·Argument·type, Type·Argument·type-id}
+use Rattle.wire.specs.Wire.{Message, cut}
+use Rattle.wire.specs.Messages.{message, messages, index}
+use Rattle.wire.specs.told.WireTold.{wireRefused}
+use Rattle.characters.specs.told.Places.{partFrom}
+use Rattle.sheet.specs.Rows.{Row}
+use Rattle.sheet.specs.told.Put.{PutRows}
+use Rattle.sheet.specs.declared.State.{State}
+use Rattle.declaration_rows.specs.Declarations.{Ty}
+use Rattle.schema.specs.Reading.{Scope, kept, allowance}
+use Rattle.schema.specs.Types.{maxDepth, argumentIn, typeAt}
+use Rattle.schema.specs.told.SchemaTold.{Lent, Scoped, Ready, WalkedSpends, WalkedTold, stopRefused}
+use Rattle.schema.specs.told.PlacesTold.{TableOf}
+use Rattle.schema.specs.told.TypesTold.{orNullable, rowsIn}
+use Rattle.schema.specs.declared.Tables.{Tables}
+use Rattle.schema.specs.declared.Walked.{Walked}
+use Rattle.schema.specs.declared.Walked.the-variants as walked
+use Rattle.type_references.specs.told.Pending.{rowsRead, prefixed, argumentRows}
+use Rattle.type_references.specs.declared.arguments.Argument.{Argument}
+use Rattle.type_references.specs.declared.arguments.Argument.the-variants as argument
+use Rattle.type_references.specs.declared.enter.Counted.{Counted}
+use Rattle.type_references.specs.declared.enter.Counted.the-variants as counted
+
+-- A type in a message: inline in field f, from x to y of the bytes, else by its index in field g.
+abbrev pub TypeIs : ℕ → List ℕ → (f g : ℕ) → Message → Argument → Type 0
+TypeIs base msg f g m (argument.Inline x y) =
+    (inner : Message) × (cut (_from_ (base + x) (partFrom x y msg)) ≡ ok inner) × (message f m ≡ ok (some inner))
+TypeIs base msg f g m (argument.ByIndex i) = (message f m ≡ ok none) × (index g m ≡ some i)
+TypeIs base msg f g m argument.Nothing = (message f m ≡ ok none) × (index g m ≡ none)
+TypeIs base msg f g m (argument.Refused error) = message f m ≡ wireRefused error
+
+-- the type of an argument
+abbrev pub ArgumentIs : ℕ → List ℕ → Message → Argument → Type 0
+ArgumentIs base msg = TypeIs base msg Type·Argument·type Type·Argument·type-id
+
+abbrev pub ArgumentInside : ℕ → ℕ → Argument → Type 0
+ArgumentInside a b (argument.Inline x y) = (a < x) × (x ≤ y) × (y ≤ b)
+ArgumentInside a b (argument.ByIndex i) = Unit {0}
+ArgumentInside a b argument.Nothing = Unit {0}
+ArgumentInside a b (argument.Refused error) = Unit {0}
+
+-- the type in a message
+pub record TypeFieldTold (base : ℕ) (msg : List ℕ) (f g : ℕ) (r : Argument) : Type 0 where
+  pub is : (m : Message) → cut (_from_ base msg) ≡ ok m → TypeIs base msg f g m r
+  pub inside : ArgumentInside 0 (length msg) r
+
+-- the argument from a to b of a message
+pub record ArgumentTold (base : ℕ) (msg : List ℕ) (a b : ℕ) (r : Argument) : Type 0 where
+  pub is : (m : Message) → cut (_from_ (base + a) (partFrom a b msg)) ≡ ok m → ArgumentIs base msg m r
+  pub inside : ArgumentInside a b r
+
+-- An argument is kept, if it is read at all.
+pub record KeptTold (payload notes : List ℕ) (tables : Tables) (msg : List ℕ) (base left : ℕ) (r : Bool) : Type 0 where
+  pub is : (c : Scope) → TableOf payload notes tables c → (m : Message) → cut (_from_ base msg) ≡ ok m → (d : ℕ) → left ≡ maxDepth - d
+      → (o : Option Ty) (l b : ℕ) → argumentIn (typeAt allowance c) c d m l ≡ ok (o, b) → r ≡ isSome o
+
+-- How many arguments of a type are kept, if they are read at all.
+pub record CountTold (payload notes : List ℕ) (tables : Tables) (msg : List ℕ) (base left r : ℕ) : Type 0 where
+  pub is : (c : Scope) → TableOf payload notes tables c → (m : Message) → cut (_from_ base msg) ≡ ok m → (ms : List Message)
+      → messages Type·argument m ≡ ok ms → (d : ℕ) → left ≡ maxDepth - d → (ts : List Ty) (l b : ℕ)
+      → kept (argumentIn (typeAt allowance c) c d) ms l ≡ ok (ts, b) → r ≡ length ts
+
+-- All arguments of a type are cut, and so many are kept; or one is not cut.
+abbrev pub ArgumentsCut : Res (List Message) → Counted → Type 0
+ArgumentsCut r (counted.Count n) = (ms : List Message) × (r ≡ ok ms)
+ArgumentsCut r (counted.Refused error) = r ≡ wireRefused error
+
+abbrev pub ArgumentsKept : (payload notes : List ℕ) → Tables → List ℕ → (base left : ℕ) → Counted → Type 0
+ArgumentsKept payload notes tables msg base left (counted.Count n) = CountTold payload notes tables msg base left n
+ArgumentsKept payload notes tables msg base left (counted.Refused error) = Unit {0}
+
+pub record CountedTold (payload notes : List ℕ) (tables : Tables) (msg : List ℕ) (base left : ℕ) (r : Counted) : Type 0 where
+  pub cuts : (m : Message) → cut (_from_ base msg) ≡ ok m → ArgumentsCut (messages Type·argument m) r
+  pub kept : ArgumentsKept payload notes tables msg base left r
+
+-- A type is entered: its own row is written, and those of its arguments are to follow.
+abbrev pub EnteredIs : Scope → ℕ → Message → ℕ → Bool → State → Walked → (S S′ T T′ : List ℕ) → Type 0
+EnteredIs c d m role nullable s (walked.Done s′) S S′ T T′ =
+    (ms : List Message) × (own : List Row) × (messages Type·argument m ≡ ok ms) × PutRows own (s′ .types) s s′ S S′ T T′
+    × (rowsRead (λ t. rowsIn role (orNullable nullable t)) (typeAt allowance c d m (s .types))
+    ≡ prefixed own (rowsRead argumentRows (kept (argumentIn (typeAt allowance c) c (d + 1)) ms (s′ .types))))
+EnteredIs c d m role nullable s (walked.Refused stop) S S′ T T′ = typeAt allowance c d m (s .types) ≡ stopRefused stop
+
+-- One of the types that may be entered is taken.
+abbrev pub EnteredOne : State → Walked → Type 0
+EnteredOne s (walked.Done s′) = s .types ≡ 1 + s′ .types
+EnteredOne s (walked.Refused stop) = Unit {0}
+
+pub record EnterTold (e : Lent) (msg : List ℕ) (base left role : ℕ) (nullable : Bool) (s : State) (r : Walked) (S S′ T T′ : List ℕ) : Type 0 where
+  pub spends : WalkedSpends s r
+  pub one : EnteredOne s r
+  pub is : (c : Scope) → Scoped e c → (m : Message) → cut (_from_ base msg) ≡ ok m → (d : ℕ) → left ≡ maxDepth - d
+      → EnteredIs c d m role nullable s r S S′ T T′
+
+-- All arguments of a type, one after the other; `left` is left at them.
+pub record ArgumentsTold (e : Lent) (msg : List ℕ) (base left : ℕ) (s : State) (r : Walked) (S S′ T T′ : List ℕ) : Type 0 where
+  pub spends : WalkedSpends s r
+  pub is : (c : Scope) → Scoped e c → (m : Message) → cut (_from_ base msg) ≡ ok m → (ms : List Message) → messages Type·argument m ≡ ok ms
+      → (d : ℕ) → left ≡ maxDepth - d
+      → WalkedTold (kept (argumentIn (typeAt allowance c) c d) ms (s .types)) argumentRows s r S S′ T T′
+
+-- The area that is lent has room for all that may wait: for as many as types may still be entered, or, where there is no type to look up, for as
+-- many as the message has bytes.
+pub data WaitingRoom (tables : Tables) (types bytes room : ℕ) : Type 0 where
+  asTypes : types ≤ room → WaitingRoom tables types bytes room
+  asBytes : tables .types ≡ 0 → bytes ≤ room → WaitingRoom tables types bytes room
+
+-- the same of a look-up, which finds nothing where there is nothing
+pub data FitsEntry (tables : Tables) (types room : ℕ) : Type 0 where
+  roomy : types ≤ room → FitsEntry tables types room
+  nowhere : tables .types ≡ 0 → FitsEntry tables types room
+
+-- What a walk of arguments starts from.
+pub record NestRoom (payload d2 msg nest : List ℕ) (tables : Tables) (base left : ℕ) (s : State) : Type 0 where
+  pub ready : Ready payload d2 s
+  pub inside : base + length msg ≤ length payload
+  pub deep : left ≤ maxDepth
+  pub room : WaitingRoom tables (s .types) (length msg) (length nest)
