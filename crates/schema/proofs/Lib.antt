@@ -12,6 +12,7 @@ pub mod TableLaws
 pub mod CountLaws
 pub mod ListLaws
 pub mod StandsLaws
+pub mod AnswerLaws
 pub mod FoundLaws
 pub mod GivenLaws
 pub mod HeadLaws

@@ -1,5 +1,6 @@
 // Declarations read from messages, in the specification's order. The definitions: specs/Types.antt, specs/Members.antt; how the answers
 // tell them: specs/Told.antt.
+ghost use mathlib.Core.Path.{_≡_};
 use sheet::State;
 use wire::WireError;
 
@@ -44,6 +45,18 @@ pub enum Walked {
     Refused { stop: Stop },
 }
 
+impl Walked {
+    // Why it stops, of one that is refused.
+    pub fn stop(self) -> Stop
+        ensures { λ r. ⌜ ((s : Stop) → self ≡ Walked.Refused s → r ≡ s) ⌝ }
+    {
+        match self {
+            Walked::Done { state: _ } => Stop::TooManyTypes,
+            Walked::Refused { stop } => stop,
+        }
+    }
+}
+
 // The same of what may not be there.
 pub enum Picked {
     Kept { state: State },
@@ -55,6 +68,18 @@ pub enum Picked {
 pub enum Listed {
     Done { state: State, count: usize },
     Refused { stop: Stop },
+}
+
+impl Listed {
+    // Why it stops, of one that is refused.
+    pub fn stop(self) -> Stop
+        ensures { λ r. ⌜ ((s : Stop) → self ≡ Listed.Refused s → r ≡ s) ⌝ }
+    {
+        match self {
+            Listed::Done { state: _, count: _ } => Stop::TooManyTypes,
+            Listed::Refused { stop } => stop,
+        }
+    }
 }
 
 // Where the message of a type stands among the decoded bytes, whether it is nullable by its place in the type table, and what is left of
