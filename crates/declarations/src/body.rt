@@ -172,8 +172,9 @@ fn aliases_in(
 {
     let begun = put_aliases(state, sheet);
     let place = begun.sheet;
+    let past = place + 2;
     let first = State {
-        sheet: place + 2,
+        sheet: past,
         text: begun.text,
         types: begun.types,
     };

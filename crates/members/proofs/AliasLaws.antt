@@ -100,4 +100,5 @@ module _ (e : Lent) (msg : List ℕ) (base : ℕ) (s : State) (name : Name)
         → MemberTold aliasIn aliasRows (memberCost (length msg)) e msg base s r S S₂ T T₂
     alias-told =
         pair-told aliasIn aliasRows (memberCost (length msg)) TypeAlias·name e msg base s name i h aliasPair aliasOf aliasRecord
-        alias-some alias-puts q (within-less (memberCost (length msg)) (omega arith) (alias-within afford name flags p)) (put-types p) written
+        alias-some q (within-less (memberCost (length msg)) (omega arith) (alias-within afford name flags p)) (put-types p) written
+        λ t m ts b s₂ S₂ T₂ f z. alias-puts t m ts f z

@@ -73,7 +73,7 @@ module _ {A B : Type 0} (f : Read A) (g : Read B) where
     both-then s₁ (walked.Refused x) S S₁ S₂ T T₁ T₂ (a, n, q, p) q′ = rw (q, ← put-types p, q′)
 
 -- The first type, then the second.
-module _ {p : TypePair} {e : Lent} {msg : List ℕ} {base : ℕ} {s : State} {own : Walked} {S S₁ T T₁ : List ℕ}
+module _ (p : TypePair) {e : Lent} {msg : List ℕ} {base : ℕ} {s : State} {own : Walked} {S S₁ T T₁ : List ℕ}
     (t : OptionalTold e msg base (p .first .inline) (p .first .indexed) (p .first .role) s own S S₁ T T₁) where
   own-is : (c : Scope) → Scoped e c → (m : Message) → cut (_from_ base msg) ≡ ok m → {y : Walked} → own ≡ y
       → WalkedTold (declaredType c (p .first .inline) (p .first .indexed) m (s .types)) (typeRows (p .first .role)) s y S S₁ T T₁
@@ -122,11 +122,12 @@ module _ {A : Type 0} (read : Scope → Message → Read (Option A)) (rows : A �
   module _ (p : TypePair) (make : Text → Message → Option Ty × Option Ty → A) (recordOf : Text → Message → Row)
       (reads : (c : Scope) (m : Message) (l : ℕ) (t : Text) → nameIn c number m l ≡ ok (some t, l)
       → read c m l ≡ Results._>>=_ (pairIn p c m l) (λ x. pure (some (make t m (x .0))) (x .1)))
-      (puts : (t : Text) (m : Message) (ts : Option Ty × Option Ty) {b b′ : ℕ} {s s₁ s₂ : State} {S S₁ S₂ T T₁ T₂ : List ℕ}
-      → PutRows (recordOf t m ∷ []) b s s₁ S S₁ T T₁ → PutRows (pairRows p ts) b′ s₁ s₂ S₁ S₂ T₁ T₂ → PutRows (rows (make t m ts)) b′ s s₂ S S₂ T T₂)
       (q : there ≡ true) {s₁ : State} {S S₁ T T₁ : List ℕ} (within : Within cost s s₁) (left : s₁ .types ≡ s .types)
       (written : (m : Message) → cut (_from_ base msg) ≡ ok m → (t : Text) → nameText (e .payload) (e .d2) name ≡ some t
-      → PutRows (recordOf t m ∷ []) (s .types) s s₁ S S₁ T T₁) where
+      → PutRows (recordOf t m ∷ []) (s .types) s s₁ S S₁ T T₁)
+      (puts : (t : Text) (m : Message) (ts : Option Ty × Option Ty) (b : ℕ) (s₂ : State) (S₂ T₂ : List ℕ)
+      → PutRows (recordOf t m ∷ []) (s .types) s s₁ S S₁ T T₁ → PutRows (pairRows p ts) b s₁ s₂ S₁ S₂ T₁ T₂
+      → PutRows (rows (make t m ts)) b s s₂ S S₂ T T₂) where
     spent : (w : Walked) → WalkedSpends s₁ w → PickedWithin cost s (pickedOf w)
     spent (walked.Done s₂) u = within-both cost (omega arith) within (spends-within u)
     spent (walked.Refused stop) u = tt
@@ -135,7 +136,7 @@ module _ {A : Type 0} (read : Scope → Message → Read (Option A)) (rows : A �
         → r ≡ Results._>>=_ (pairIn p c m (s₁ .types)) (λ x. pure (some (make t m (x .0))) (x .1))
         → (w : Walked) (S₂ T₂ : List ℕ) → WalkedTold (pairIn p c m (s₁ .types)) (pairRows p) s₁ w S₁ S₂ T₁ T₂
         → PickedTold r rows s (pickedOf w) S S₂ T T₂
-    told c m t f r g (walked.Done s₂) S₂ T₂ (ts, b, y, z) = (make t m ts, b, g ∙ rw y, puts t m ts f z)
+    told c m t f r g (walked.Done s₂) S₂ T₂ (ts, b, y, z) = (make t m ts, b, g ∙ rw y, puts t m ts b s₂ S₂ T₂ f z)
     told c m t f r g (walked.Refused stop) S₂ T₂ y = g ∙ rw y
 
     pub pair-told : {w : Walked} {r : Picked} {S₂ T₂ : List ℕ} → PairTold p e msg base s₁ w S₁ S₂ T₁ T₂ → r ≡ pickedOf w

@@ -119,4 +119,5 @@ module _ (e : Lent) (msg : List ℕ) (base : ℕ) (s : State) (name : Name)
         → MemberTold parameterIn parameterRows parameterCost e msg base s r S S₂ T T₂
     parameter-told =
         pair-told parameterIn parameterRows parameterCost ValueParameter·name e msg base s name i h parameterPair parameterOf parameterRecord
-        parameter-some parameter-puts q (within-less parameterCost (omega arith) (parameter-within afford name default p)) (put-types p) written
+        parameter-some q (within-less parameterCost (omega arith) (parameter-within afford name default p)) (put-types p) written
+        λ t m ts b s₂ S₂ T₂ f z. parameter-puts t m ts f z

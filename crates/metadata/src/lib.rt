@@ -57,8 +57,9 @@ fn head_alone(kind: u8, sheet: &mut [u8], text: &mut [u8]) -> Outcome
         text,
     );
     let place = head.sheet;
+    let past = place + 6;
     let after = State {
-        sheet: place + 6,
+        sheet: past,
         text: head.text,
         types: head.types,
     };

@@ -1,6 +1,6 @@
-use lib.ListN.{length}
 use Prim.Native.Nat.{_+_, _-_, _*_}
 use native.Mathlib.Omega.{arith}
+use lib.ListN.{length}
 use Rattle.schema.specs.Members.{functionIn}
 use Rattle.descriptors.specs.Defaults.{functionParts}
 use Rattle.descriptors.specs.DefaultsTold.{partCost}

@@ -1,6 +1,6 @@
+use native.Mathlib.Omega.{arith}
 use Prim.Native.Nat.{_+_}
 use lib.ListN.{length}
-use native.Mathlib.Omega.{arith}
 use Rattle.schema.proofs.TypeLaws.{inline-in}
 use Rattle.schema.proofs.ParseLaws.{part-inside}
 use Rattle.members.proofs.SignatureLaws.{property-inline, property-nothing, property-refused}
