@@ -1,3 +1,8 @@
+use mathlib.Core.Path.{_∙_}
+use native.Mathlib.Omega.{arith}
+use lib.ListN.{length}
+use Rattle.schema.specs.Told.{lent}
+use Rattle.declarations.proofs.BodyLaws.{kind-affords, kind-ends, aliases-affords, aliases-refused, aliases-done}
 use borrow.Author.Needs.{needs}
 use Rattle.declarations.proofs.body.aliases_in.Statement.{statement}
 use Rattle.declarations.proofs.body.aliases_in.Tie as tie
@@ -10,11 +15,11 @@ use Rattle.declarations.proofs.body.alias_field.Reads as alias-field-re
 
 -- src/body.rt:1:1
 put-aliases-requires : tie.Need-put-aliases-requires
-put-aliases-requires c κs = search needs
+put-aliases-requires c κs = kind-affords (length (c .before .before .before .before .before .before .before .before .args .msg .now)) (c .before .before .before .before .before .before .before .before .pre .0)
 
 -- src/body.rt:1:1
 add-past : tie.Need-add-past
-add-past c = search needs
+add-past c = let h = kind-ends (length (c .before .before .before .before .before .before .before .before .before .before .before .args .msg .now)) (c .before .before .before .before .before .before .before .before .before .before .before .pre .0) (c .before .before .put-aliases .ensures (c .before .before .before .before .before .before .before .before .before .before .before .args .text .now)) in omega arith
 
 -- src/body.rt:1:1
 alias-field-requires : tie.Need-alias-field-requires
@@ -22,7 +27,7 @@ alias-field-requires c κs = search needs
 
 -- src/body.rt:1:1
 members-in-requires : tie.Need-members-in-requires
-members-in-requires c κs = search needs
+members-in-requires c κs = (aliases-affords (length (c .before .before .before .before .before .before .before .before .before .before .before .before .before .before .args .msg .now)) (c .before .before .before .before .before .before .before .before .before .before .before .before .before .before .pre .0) (c .before .before .before .before .before .put-aliases .ensures (c .before .before .before .before .before .before .before .before .before .before .before .before .before .before .args .text .now)), c .before .before .before .before .before .before .before .before .before .before .before .before .before .before .pre .1)
 
 -- src/body.rt:1:1
 enum-known-listed : tie.Need-enum-known-listed
@@ -42,7 +47,7 @@ same-length-2 c = search needs
 
 -- src/body.rt:1:1
 returns : tie.Need-returns
-returns c = search needs
+returns c = aliases-refused (lent (c .before .before .before .before .before .before .before .before .before .before .before .before .before .before .before .before .before .before .before .before .before .args .payload .now) (c .before .before .before .before .before .before .before .before .before .before .before .before .before .before .before .before .before .before .before .before .before .args .d2 .now) (c .before .before .before .before .before .before .before .before .before .before .before .before .before .before .before .before .before .before .before .before .before .args .ends .now) (c .before .before .before .before .before .before .before .before .before .before .before .before .before .before .before .before .before .before .before .before .before .args .notes .now) (c .before .before .before .before .before .before .before .before .before .before .before .before .before .before .before .before .before .before .before .before .before .args .tables)) (c .before .before .before .before .before .before .before .before .before .before .before .before .before .before .before .before .before .before .before .before .before .args .msg .now) (c .before .before .before .before .before .before .before .before .before .before .before .before .before .before .before .before .before .before .before .before .before .args .base) (c .before .before .before .before .before .before .before .before .before .before .before .before .before .before .before .before .before .before .before .before .before .args .class) (c .before .before .before .before .before .before .before .before .before .before .before .before .before .before .before .before .before .before .before .before .before .pre .0) (c .before .before .before .before .before .before .before .before .before .before .before .before .put-aliases .ensures (c .before .before .before .before .before .before .before .before .before .before .before .before .before .before .before .before .before .before .before .before .before .args .text .now)) (c .before .before .before .before .before .before .before .before .before .alias-field .result) (c .before .before .before .before .before .before .before .before .before .alias-field .ensures) (c .before .before .before .before .before .before .members-in .result) (c .before .before .before .before .before .before .members-in .ensures) (c .enum-told .given .1)
 
 -- src/body.rt:1:1
 put-count-requires : tie.Need-put-count-requires
@@ -58,7 +63,7 @@ same-length-4 c = search needs
 
 -- src/body.rt:1:1
 returns-2 : tie.Need-returns-2
-returns-2 c = search needs
+returns-2 c = aliases-done (lent (c .before .before .before .before .before .before .before .before .before .before .before .before .before .before .before .before .before .before .before .before .before .before .before .before .before .before .args .payload .now) (c .before .before .before .before .before .before .before .before .before .before .before .before .before .before .before .before .before .before .before .before .before .before .before .before .before .before .args .d2 .now) (c .before .before .before .before .before .before .before .before .before .before .before .before .before .before .before .before .before .before .before .before .before .before .before .before .before .before .args .ends .now) (c .before .before .before .before .before .before .before .before .before .before .before .before .before .before .before .before .before .before .before .before .before .before .before .before .before .before .args .notes .now) (c .before .before .before .before .before .before .before .before .before .before .before .before .before .before .before .before .before .before .before .before .before .before .before .before .before .before .args .tables)) (c .before .before .before .before .before .before .before .before .before .before .before .before .before .before .before .before .before .before .before .before .before .before .before .before .before .before .args .msg .now) (c .before .before .before .before .before .before .before .before .before .before .before .before .before .before .before .before .before .before .before .before .before .before .before .before .before .before .args .base) (c .before .before .before .before .before .before .before .before .before .before .before .before .before .before .before .before .before .before .before .before .before .before .before .before .before .before .args .class) (c .before .before .before .before .before .before .before .before .before .before .before .before .before .before .before .before .before .before .before .before .before .before .before .before .before .before .pre .0) (c .before .before .before .before .before .before .before .before .before .before .before .before .before .before .before .before .before .put-aliases .ensures (c .before .before .before .before .before .before .before .before .before .before .before .before .before .before .before .before .before .before .before .before .before .before .before .before .before .before .args .text .now)) (c .before .before .before .before .before .before .before .before .before .before .before .before .before .before .alias-field .result) (c .before .before .before .before .before .before .before .before .before .before .before .before .before .before .alias-field .ensures) (c .before .before .before .before .before .before .before .before .before .before .before .members-in .result) (c .before .before .before .before .before .before .before .before .before .before .before .members-in .ensures) (c .before .before .before .before .before .listed .given .1) (c .before .before .put-count .ensures)
 
 pub aliases-in-spec : {M : Type 1} → statement M
 aliases-in-spec =
