@@ -44,11 +44,11 @@ put-head-requires c κs = start-room [] [] (omega arith) (omega arith) (c .befor
 
 -- src/lib.rt:48:5
 add-past : tie.Need-add-past
-add-past c = search needs
+add-past c = let h = alone-ends (c .before .before .before .before .before .before .before .before .before .before .before .before .before .before .args .kind) (c .before .before .before .before .before .before .before .before .absent .result) [] [] (omega arith) (omega arith) (c .before .before .before .before .before .before .before .start .ensures) (c .before .before .before .before .put-head .ensures) in omega arith
 
 -- src/lib.rt:48:5
 put-aliases-requires : tie.Need-put-aliases-requires
-put-aliases-requires c κs = search needs
+put-aliases-requires c κs = let h = alone-ends (c .before .before .before .before .before .before .before .before .before .before .before .before .before .before .before .args .kind) (c .before .before .before .before .before .before .before .before .before .absent .result) [] [] (omega arith) (omega arith) (c .before .before .before .before .before .before .before .before .start .ensures) (c .before .before .before .before .before .put-head .ensures) in omega arith
 
 -- src/lib.rt:48:5
 put-count-requires : tie.Need-put-count-requires
@@ -56,7 +56,7 @@ put-count-requires c κs = search needs
 
 -- src/lib.rt:48:5
 put-head-counts-requires : tie.Need-put-head-counts-requires
-put-head-counts-requires c κs = alone-ends (c .before .before .before .before .before .before .before .before .before .before .before .before .before .before .before .args .kind) (c .before .before .before .before .before .before .before .before .before .absent .result) [] [] (omega arith) (omega arith) (c .before .before .before .before .before .before .before .before .start .ensures) (c .before .before .before .before .before .put-head .ensures)
+put-head-counts-requires c κs = let h = alone-ends (c .before .before .before .before .before .before .before .before .before .before .before .before .before .before .before .before .before .before .before .before .before .before .before .args .kind) (c .before .before .before .before .before .before .before .before .before .before .before .before .before .before .before .before .before .absent .result) [] [] (omega arith) (omega arith) (c .before .before .before .before .before .before .before .before .before .before .before .before .before .before .before .before .start .ensures) (c .before .before .before .before .before .before .before .before .before .before .before .before .before .put-head .ensures) in omega arith
 
 -- src/lib.rt:39:1
 same-length : tie.Need-same-length
@@ -68,7 +68,7 @@ same-length-2 c = search needs
 
 -- src/lib.rt:39:1
 returns-2 : tie.Need-returns-2
-returns-2 c = alone-done (c .before .before .before .before .before .before .before .before .before .before .before .before .before .before .before .before .before .before .args .kind) (c .before .before .before .before .before .before .before .before .before .before .before .before .before .before .before .before .before .before .args .sheet .now) (c .before .before .before .before .before .before .before .before .before .before .before .before .before .before .before .before .before .before .args .text .now) (c .before .before .before .before .before .before .before .before .before .before .before .before .absent .result) (c .before .before .before .before .before .before .before .before .before .before .before .before .absent .ensures) [] [] (c .before .before .before .before .before .before .before .before .before .before .before .start .ensures) (c .before .before .before .before .before .before .before .before .put-head .ensures) (c .before .before .put-head-counts .ensures) (c .before .before .before .before .before .before .before .before .before .before .before .before .before .before .before .if1 .left)
+returns-2 c = alone-done (c .before .before .before .before .before .before .before .before .before .before .before .before .before .before .before .before .before .before .before .before .before .before .before .before .before .before .args .kind) (c .before .before .before .before .before .before .before .before .before .before .before .before .before .before .before .before .before .before .before .before .before .before .before .before .before .before .args .sheet .now) (c .before .before .before .before .before .before .before .before .before .before .before .before .before .before .before .before .before .before .before .before .before .before .before .before .before .before .args .text .now) (c .before .before .before .before .before .before .before .before .before .before .before .before .before .before .before .before .before .before .before .before .absent .result) (c .before .before .before .before .before .before .before .before .before .before .before .before .before .before .before .before .before .before .before .before .absent .ensures) [] [] (c .before .before .before .before .before .before .before .before .before .before .before .before .before .before .before .before .before .before .before .start .ensures) (c .before .before .before .before .before .before .before .before .before .before .before .before .before .before .before .before .put-head .ensures) (c .before .before .before .before .before .before .before .before .before .before .put-aliases .ensures _) (c .before .before .before .before .before .before .put-count .ensures) (c .before .before .put-head-counts .ensures) (c .before .before .before .before .before .before .before .before .before .before .before .before .before .before .before .before .before .before .before .before .before .before .before .if1 .left)
 
 pub head-alone-spec : {M : Type 1} → statement M
 head-alone-spec =
