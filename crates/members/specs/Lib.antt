@@ -1,6 +1,6 @@
 pub mod CallablesTold
 pub mod PropertiesTold
-pub mod ParametersTold
+pub mod PairsTold
 pub mod ClosedTold
 pub mod Lists
 pub mod SignaturesTold
