@@ -46,11 +46,11 @@ def types_line(types):
     sheet = '0102ffffffff0600000000000000' + '000001000000' + '03' + '00000100' + '0600000000000000' + 'ffffffff' * 2 + '00' + '0000'
     for i in range(types):
         sheet += '06' + ('01' if i == 0 else '05') + '00' + 'ffffffff' + ('0000' if i == types - 1 else '0100')
-    return f'0 0 {sheet}07ffffffff 66'
+    return f'0 0 {sheet}07ffffffff090000 66'
 
 
 def head(kind):
-    return f'0 0 010{kind}ffffffff0600000000000000000000000000 -'
+    return f'0 0 010{kind}ffffffff0600000000000000000000000000090000 -'
 
 
 MADE = {

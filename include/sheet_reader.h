@@ -13,9 +13,9 @@
 extern "C" {
 #endif
 
-/* The number of the sheets' format: 1 for the sheets as they are told below. It goes up whenever sheets change, so that a program that keeps
+/* The number of the sheets' format: 2 for the sheets as they are told below (1 was without type aliases). It goes up whenever sheets change, so that a program that keeps
  * sheets can tell by it which of them to make anew. */
-#define SHEET_FORMAT 1
+#define SHEET_FORMAT 2
 
 /* What sheet_read puts into answer. */
 enum {
@@ -51,7 +51,7 @@ enum {
     SHEET_STRING_LIMIT = 4096,
     SHEET_TYPE_LIMIT = 2048,
     SHEET_TEXT_LIMIT = 65534,
-    SHEET_LONGEST = 411644
+    SHEET_LONGEST = 411647
 };
 
 /* Reads one class.
@@ -99,13 +99,17 @@ void sheet_read(int32_t k, int32_t major, int32_t minor, int32_t patch,
  *   5 parameter            6      1 name ref, 5 default 1
  *   6 type                 9      1 role 1, 2 nullable 1, 3 name ref, 7 arguments 2
  *   7 default descriptor   5      1 descriptor ref
+ *   8 alias               13      1 name ref, 5 flags 8
+ *   9 aliases              3      1 aliases 2
  *
- *   sheet        head, constructors, functions, properties: as many of each as the head says
+ *   sheet        head, constructors, functions, properties: as many of each as the head says; then 9, also where it says 0, and as many
+ *                type aliases as it says
  *   constructor  2, parameters, 7
  *   function     3, parameters, type of role 2 if any, type of role 1 if any, 7
  *   property     4, type of role 2 if any, type of role 1 if any
  *   parameter    5, type of role 3 if any, type of role 4 if any
  *   type         6, its arguments: types of role 5
+ *   alias        8, type of role 6 if any, type of role 7 if any
  */
 enum {
     SHEET_HEAD = 1,
@@ -114,7 +118,9 @@ enum {
     SHEET_PROPERTY = 4,
     SHEET_PARAMETER = 5,
     SHEET_TYPE = 6,
-    SHEET_DEFAULT = 7
+    SHEET_DEFAULT = 7,
+    SHEET_ALIAS = 8,
+    SHEET_ALIASES = 9
 };
 
 /* roles of types */
@@ -123,7 +129,9 @@ enum {
     SHEET_RECEIVER = 2,
     SHEET_PARAMETER_TYPE = 3,
     SHEET_VARARG_ELEMENT = 4,
-    SHEET_ARGUMENT = 5
+    SHEET_ARGUMENT = 5,
+    SHEET_UNDERLYING = 6, /* what an alias is declared to be */
+    SHEET_EXPANDED = 7    /* the same with the aliases in it put in full */
 };
 
 #ifdef __cplusplus

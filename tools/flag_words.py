@@ -37,11 +37,14 @@ def member_words(flags, table):
 
 
 def words(record, flags):
-    """The words of a head of metadata kind 1 (the last says what kind of class), of a constructor, a function or a property (val or var)."""
+    """The words of a head of metadata kind 1 (the last says what kind of class), of a constructor, a function, a property (val or var) or an
+    alias."""
     if record == 'head':
         return class_words(flags)
     if record == 'constructor':
         return [visibility(flags), *bits(flags, CONSTRUCTOR_BITS)]
+    if record == 'alias':
+        return [visibility(flags)]
     if record == 'function':
         return member_words(flags, FUNCTION_BITS)
     return [*member_words(flags, PROPERTY_BITS), 'var' if part(flags, 8, 1) else 'val']

@@ -3,7 +3,7 @@ import array, collections, ctypes
 
 import library_build
 
-SHEET_LONGEST, TEXT_LIMIT = 411644, 65534  # areas of these sizes are always long enough
+SHEET_LONGEST, TEXT_LIMIT = 411647, 65534  # areas of these sizes are always long enough
 
 Answer = collections.namedtuple('Answer', 'number detail sheet text types')
 

@@ -88,6 +88,12 @@ def nested_types(depth):
     return package(field(3, b'\x10\0' + field(3, message)), ['f'])
 
 
+def alias(name, underlying, expanded):
+    """A type alias of a package; both types are inline, or None."""
+    inline = [field(number, message) for number, message in ((4, underlying), (6, expanded)) if message is not None]
+    return field(5, b'\x10' + varint(name) + b''.join(inline))
+
+
 def nested_annotation(pool, depth):
     """An annotation whose value is an annotation in an array, and so on."""
     name, key = pool.utf8('Lmade/Nest;'), pool.utf8('of')

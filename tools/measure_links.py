@@ -184,15 +184,16 @@ class Count:
             self.of['refused' if answer.number else 'unread'] += 1
             return
         head = sheets.Walk(answer.sheet, answer.text).sheet()
-        if len(kotlins) != len(head['of']):
-            raise SystemExit(f"measure_links: {name} has {len(head['of'])} declarations on its sheet and {len(kotlins)} for Kotlin")
+        linked = [m for m in head['of'] if m['record'] != 'alias']
+        if len(kotlins) != len(linked):
+            raise SystemExit(f"measure_links: {name} has {len(linked)} declarations on its sheet and {len(kotlins)} for Kotlin")
         members = targets.class_members(class_file)
         for j in targets.judge(targets.targets(head), members):
             if j.target.part == 'method':
                 self.method(name, head, j, kotlins[j.target.declaration][0], members)
             else:
                 self.part(j)
-        for m, told in zip(head['of'], kotlins):
+        for m, told in zip(linked, kotlins):
             if m['record'] == 'property':
                 self.of['properties'] += 1
                 self.of['fields'] += told[0] in members.fields

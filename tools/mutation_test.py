@@ -32,6 +32,8 @@ def seeds():
 
 def made():
     function = made_class.package(made_class.field(3, b'\x10\0' + made_class.field(3, b'\x30\1')), ['f', 'kotlin/Unit'])
+    aliases = made_class.package(made_class.alias(0, b'\x30\1', b'\x12\4\x12\2\x30\1') + made_class.alias(1, None, b''), ['A', 'kotlin/Int'])
+    yield made_class.class_file(aliases)
     nest = made_class.nested_annotation
     for depth in (1, 3, 50, 3000):
         yield made_class.class_file(function, before=lambda pool: [nest(pool, depth)], methods=[('f', '()V')])

@@ -85,7 +85,9 @@ def callable_json(m):
 
 
 def declaration_json(m, told):
-    """A declaration; `told` has the JSON of its targets by part."""
+    """A declaration; `told` has the JSON of its targets by part, of which an alias has none."""
+    if m['record'] == 'alias':
+        return {'name': m['name'], **flags_json(m), 'underlying': type_json(m['underlying']), 'expanded': type_json(m['expanded'])}
     if m['record'] == 'constructor':
         return {**flags_json(m), **callable_json(m), 'target': told['method']}
     if m['record'] == 'function':
@@ -101,12 +103,13 @@ def read_json(one):
     for j in one.judgements:
         told[j.target.declaration][j.target.part] = target_json(j, head)
     of = {kind: [declaration_json(m, t) for m, t in zip(head['of'], told) if m['record'] == kind]
-          for kind in ('constructor', 'function', 'property')}
+          for kind in ('constructor', 'function', 'property', 'alias')}
     return {**where(one.found, one.names.name), 'state': 'read', 'format': sheets.FORMAT,
             'kind': head['kind'], 'kind_name': sheets.KINDS[head['kind']], 'name': head['name'], 'flags': head['flags'],
             'words': flag_words.words('head', head['flags']) if head['kind'] == 1 else [],
             'parts': one.names.parts, 'facade': one.names.facade, 'types': one.answer.types,
-            'constructors': of['constructor'], 'functions': of['function'], 'properties': of['property']}
+            'constructors': of['constructor'], 'functions': of['function'], 'properties': of['property'],
+            'aliases': of['alias']}
 
 
 def refused_json(found, name, number, detail):

@@ -1,5 +1,6 @@
 #!/usr/bin/env python3
-"""./sheet from outside: examples, jars and folders, refusals, JSON, exit statuses, words. The lines of the examples are the Rust's."""
+"""./sheet from outside: examples, jars and folders, refusals, JSON, exit statuses, words. The lines of the examples are the Rust's, with
+the count of no type aliases at the end of each sheet, which the Rust doesn't read."""
 import json, os, pty, re, resource, subprocess, sys, tempfile, unittest, zipfile
 
 sys.dont_write_bytecode = True
@@ -61,7 +62,7 @@ class Examples(unittest.TestCase):
         for name in NAMES:
             self.assertEqual(sheet('read', f'examples/{name}.class'), (0, example(name, '.txt').decode(), ''), name)
 
-    def test_lines_are_the_rusts(self):
+    def test_lines(self):
         for name in NAMES:
             self.assertEqual(sheet('read', '--line', f'examples/{name}.class'), (0, example(name, '.line').decode(), ''), name)
 
@@ -77,9 +78,10 @@ class Examples(unittest.TestCase):
     def test_records(self):
         status, out, _ = sheet('read', '--records', 'examples/TillKt.class')
         lines = out.splitlines()
-        self.assertEqual((status, len(lines)), (0, 21))
+        self.assertEqual((status, len(lines)), (0, 22))
         self.assertEqual(lines[1], '  function: name cents, flags 6 (public, final), signature none, descriptor none, receiver 1, parameters 1')
         self.assertEqual(lines[4], '        type: role argument, nullable 0, name none, arguments 0')
+        self.assertEqual(lines[21], '  aliases: aliases 0')
 
 
 class Rebuilt:
@@ -96,6 +98,14 @@ class Rebuilt:
             self.method(m)
         for p in of[2]:
             self.property(p)
+        self.put(1, 9)
+        self.put(2, len(told['aliases']))
+        for a in told['aliases']:
+            self.put(1, 8)
+            self.ref(a['name'])
+            self.put(8, a['flags'])
+            self.type(6, a['underlying'])
+            self.type(7, a['expanded'])
 
     def put(self, width, *numbers):
         self.sheet += b''.join(n.to_bytes(width, 'little') for n in numbers)
@@ -222,6 +232,47 @@ class Json(InFolder):
         for command, text in shown:
             _, out, _ = sheet(*command.split()[1:])
             self.assertEqual(json.loads(text), objects(out)[0], command)
+
+
+class Aliases(InFolder):
+    """typealias Cents = Long; typealias Sales<T> = List<Cents, T>, whose expanded type has Long for Cents; and one without types."""
+    CENTS = b'\x30\1'
+
+    def setUp(self):
+        super().setUp()
+        argument = lambda message: made_class.field(2, made_class.field(2, message))
+        sales = [b'\x30\3' + argument(first) + argument(b'') for first in (b'\x18\1', self.CENTS + b'\x18\1')]
+        body = made_class.alias(0, self.CENTS, self.CENTS) + made_class.alias(2, *sales) + made_class.alias(4, None, None)
+        self.file = self.put('Aliases.class', made_class.class_file(made_class.package(
+            body, ['Cents', 'kotlin/Long', 'Sales', 'kotlin/collections/List', 'Nothing$'])))
+
+    def test_words(self):
+        self.assertEqual(sheet('read', self.file), (0, ''.join(line + '\n' for line in [
+            'file made/Made  flags 6',
+            '  public typealias Cents = kotlin.Long  flags 6',
+            '  public typealias Sales = kotlin.collections.List<(type parameter or alias)?, (type parameter or alias)>  flags 6'
+            '  expanded kotlin.collections.List<kotlin.Long?, (type parameter)>',
+            '  public typealias Nothing$ = (no type)  flags 6']), ''))
+        self.assertEqual(sheet('check', self.file)[:2], (0, ''))
+
+    def test_records(self):
+        lines = sheet('read', '--records', self.file)[1].splitlines()
+        self.assertEqual(lines[1:5], [
+            '  aliases: aliases 3',
+            '    alias: name Cents, flags 6 (public)',
+            '      type: role underlying type of an alias, nullable 0, name kotlin.Long, arguments 0',
+            '      type: role expanded type of an alias, nullable 0, name kotlin.Long, arguments 0'])
+        self.assertEqual(lines[7], '        type: role argument, nullable 1, name none, arguments 0')
+
+    def test_json(self):
+        o, = objects(sheet('read', '--json', self.file)[1])
+        self.assertEqual(schema.faults(o, SCHEMA, SCHEMA), [])
+        self.assertEqual([(a['name'], a['flags'], a['words']) for a in o['aliases']], [(name, 6, ['public']) for name in ('Cents', 'Sales', 'Nothing$')])
+        long = {'class': 'kotlin.Long', 'nullable': False, 'arguments': []}
+        self.assertEqual((o['aliases'][0]['underlying'], o['aliases'][0]['expanded'], o['aliases'][2]['expanded']), (long, long, None))
+        self.assertEqual(o['aliases'][1]['expanded']['arguments'][0], {**long, 'nullable': True})
+        made = Rebuilt(o)
+        self.assertEqual(f'0 0 {made.sheet.hex()} {made.text.hex()}\n', sheet('read', '--line', self.file)[1])
 
 
 def refused():
@@ -445,6 +496,7 @@ class Words(unittest.TestCase):
             0x1006: 'public final expect class', 0x2006: 'public final inline class', 0x36: 'public sealed class', 0x10: 'internal open class',
             0x1c6: 'public final class of kind 7'})
         self.words('constructor', {6: 'public', 2: 'private', 4: 'protected', 0x16: 'public secondary', 8: 'private to this', 10: 'local', 14: 'visibility 7'})
+        self.words('alias', {6: 'public', 7: 'public', 2: 'private', 0x10: 'internal', 14: 'visibility 7'})
         self.words('function', {
             6: 'public final', 0x46: 'public final fake override', 0x86: 'public final delegation', 0xc6: 'public final synthesized',
             0x106: 'public final operator', 0x206: 'public final infix', 0x406: 'public final inline', 0x806: 'public final tailrec',

@@ -25,8 +25,8 @@ def named(name):
     return '(unnamed)' if name is None else shown(name)
 
 
-def type_text(t):
-    """A type with its arguments. A type without a class name is a type parameter. No recursion: types may be 2,048 deep."""
+def type_text(t, unnamed='(type parameter)'):
+    """A type with its arguments; `unnamed` stands for one without a class name. No recursion: types may be 2,048 deep."""
     if t is None:
         return '(no type)'
     done, left = [], [t]
@@ -35,7 +35,7 @@ def type_text(t):
         if isinstance(t, str):
             done.append(t)
             continue
-        parts = ['(type parameter)' if t['name'] is None else shown(t['name'])]
+        parts = [unnamed if t['name'] is None else shown(t['name'])]
         if t['of']:
             parts += ['<', t['of'][0], *(part for a in t['of'][1:] for part in (', ', a)), '>']
         left += reversed(parts + ['?'] * t['nullable'])
@@ -55,12 +55,24 @@ def receiver_text(m):
 def declaration_text(m):
     """A declaration as Kotlin writes it, with the words of its flags."""
     words = ' '.join(flag_words.words(m['record'], m['flags']))
+    if m['record'] == 'alias':
+        return f"{words} typealias {shown(m['name'])} = {underlying_text(m)}"
     if m['record'] == 'property':
         return f"{words} {receiver_text(m)}{shown(m['name'])}: {type_text(m['type'])}"
     parameters = '(' + ', '.join(map(parameter_text, m['of'])) + ')'
     if m['record'] == 'constructor':
         return f'{words} constructor{parameters}'
     return f"{words} fun {receiver_text(m)}{shown(m['name'])}{parameters}: {type_text(m['type'])}"
+
+
+def is_expanded(m):
+    """Whether the underlying type of an alias is its expanded one too: then it names no other alias."""
+    return type_text(m['underlying']) == type_text(m['expanded'])
+
+
+def underlying_text(m):
+    """What an alias is declared to be. Another alias in it has no class name on the sheet, and can't be told from a type parameter."""
+    return type_text(m['underlying'], '(type parameter)' if is_expanded(m) else '(type parameter or alias)')
 
 
 def marked(words):
@@ -73,7 +85,10 @@ def method_text(name, descriptor):
 
 
 def targets_text(m, marks):
-    """The methods and fields of a declaration; a mark stands beside what it is said of."""
+    """The methods and fields of a declaration; a mark stands beside what it is said of. An alias has none: its expanded type is told, where it
+    isn't the underlying one."""
+    if m['record'] == 'alias':
+        return '' if is_expanded(m) else f"  expanded {type_text(m['expanded'])}"
     if m['record'] == 'property':
         found = ''
         for part in ('field', 'getter', 'setter'):
@@ -125,12 +140,12 @@ def cell_text(record, name, value):
 def record_lines(sheet, text):
     """A record to a line, indented under its owner; `announced` holds the arguments that are still to come of the types around."""
     Walk(sheet, text).sheet()
-    depths = {'head': 0, 'constructor': 1, 'function': 1, 'property': 1, 'parameter': 2, 'default descriptor': 2}
+    depths = {'head': 0, 'constructor': 1, 'function': 1, 'property': 1, 'parameter': 2, 'default descriptor': 2, 'aliases': 1, 'alias': 2}
     announced, base = [], 0
     for record in records(sheet, text):
         if record['record'] == 'type':
             if record['role'] != 5:
-                announced, base = [], 3 if record['role'] in (3, 4) else 2
+                announced, base = [], 3 if record['role'] in (3, 4, 6, 7) else 2
             depth = base + len(announced)
             announced.append(record['arguments'])
             while announced and announced[-1] == 0:

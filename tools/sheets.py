@@ -3,7 +3,7 @@
 import struct
 
 # the number of the sheets' format: SHEET_FORMAT of include/sheet_reader.h
-FORMAT = 1
+FORMAT = 2
 
 KINDS = {1: 'class', 2: 'file', 3: 'synthetic class', 4: 'facade of a multi-file class', 5: 'part of a multi-file class'}
 
@@ -18,9 +18,12 @@ RECORDS = {
     5: ('parameter', [('name', 'ref'), ('default', 1)]),
     6: ('type', [('role', 1), ('nullable', 1), ('name', 'ref'), ('arguments', 2)]),
     7: ('default descriptor', [('descriptor', 'ref')]),
+    8: ('alias', [('name', 'ref'), ('flags', 8)]),
+    9: ('aliases', [('aliases', 2)]),
 }
 
-ROLES = {1: 'returned or property type', 2: 'receiver', 3: 'parameter', 4: 'vararg element', 5: 'argument'}
+ROLES = {1: 'returned or property type', 2: 'receiver', 3: 'parameter', 4: 'vararg element', 5: 'argument',
+         6: 'underlying type of an alias', 7: 'expanded type of an alias'}
 
 # what happened, and what to do
 REFUSALS = {
@@ -78,14 +81,14 @@ def ref(cell, text):
 
 
 class Walk:
-    """The records, taken one after the other by their counts. `sheet` gives the head, with its declarations in order in `of`."""
+    """The records, taken one after the other by their counts. `sheet` gives the head, with its declarations in order in `of`, aliases last."""
 
     def __init__(self, sheet, text):
         self.all, self.at = list(records(sheet, text)), 0
 
     def next(self, record):
         if self.at == len(self.all) or self.all[self.at]['record'] != record:
-            raise NotALine(f'a {record} was announced and does not follow')
+            raise NotALine(f'the record "{record}" was announced and does not follow')
         self.at += 1
         return self.all[self.at - 1]
 
@@ -127,11 +130,17 @@ class Walk:
         p['receiver type'], p['type'] = self.type_of(2), self.type_of(1)
         return p
 
+    def alias(self):
+        a = self.next('alias')
+        a['underlying'], a['expanded'] = self.type_of(6), self.type_of(7)
+        return a
+
     def sheet(self):
         h = self.next('head')
         h['of'] = [self.owned(self.next('constructor'), False) for _ in range(h['constructors'])]
         h['of'] += [self.owned(self.next('function'), True) for _ in range(h['functions'])]
         h['of'] += [self.property() for _ in range(h['properties'])]
+        h['of'] += [self.alias() for _ in range(self.next('aliases')['aliases'])]
         if self.at < len(self.all):
             raise NotALine('records follow that no count announced')
         return h

@@ -28,6 +28,7 @@ CELLS = {
     **{f'{part} name': [f"{part}'s name", part] for part in ('field', 'getter', 'setter')},
     **{f'{part} descriptor': [f"{part}'s descriptor", f'{part} descriptor', 'its descriptor'] for part in ('field', 'getter', 'setter')},
     **{name: [name, f'count of {name}'] for name in ('constructors', 'functions', 'properties', 'parameters', 'arguments')},
+    'xs': ['aliases', 'count of aliases'],
 }
 RECORD_NAMES = {'types': 'type', 'default': 'default descriptor'}
 # of a cause: its name in the header, and words that tell it
@@ -53,6 +54,8 @@ ROLES = {
     'parameterRole': ('PARAMETER_TYPE', 'parameter'),
     'varargRole': ('VARARG_ELEMENT', 'vararg'),
     'argumentRole': ('ARGUMENT', 'argument'),
+    'underlyingRole': ('UNDERLYING', 'underlying'),
+    'expandedRole': ('EXPANDED', 'expanded'),
 }
 # of a limit: its name in the header, its rows in MANUAL's table of limits
 LIMITS = {

@@ -25,6 +25,9 @@ changed $manual '/^| 3 | function/s/5 flags, 8/5 flags, 4/' 'MANUAL.md: record 3
 changed $manual '/^| 3 | function/s/| 24 |/| 25 |/' 'bytes of record 3: 25'
 changed $manual '/^| 4 | property/{s/getter is default/x/;s/setter is default/getter is default/;s/x/setter is default/}' 'at 14 setter is default'
 changed $manual '/^| 6 | type | 9/d' 'kinds of records'
+changed $manual '/^| 8 | alias | 13/s/5 flags, 8/5 flags, 4/' 'record 8: at 5 flags, 4 bytes'
+changed $manual '/^| 9 | aliases | 3/s/count of aliases/count of types/' 'record 9: at 1 count of types, 2 bytes; the definitions have at 1 aliases'
+changed $manual '/^| 7 | the expanded/d' 'numbers of role'
 changed $manual '/^| 9 | a varint/s/| 9 |/| 13 |/' 'numbers of refusal'
 changed $manual '/^| 4 | the major/s/the major version is above 2/d1 is empty/' 'refusal 4 is told as'
 changed $manual '/^| 4 | the element/s/`vararg`/named/' 'role 4 is told as'
@@ -32,6 +35,8 @@ changed $manual '/^| types of a class/s/2,048/2,047/' 'limit of types of a class
 changed $header 's/SHEET_TOO_MANY_TYPES = 10/SHEET_TOO_MANY_TYPES = 9/' 'refusal TOO_MANY_TYPES: 9'
 changed $header 's/1 flags 8, 9 signature name ref/1 signature name ref, 5 flags 8/' 'sheet_reader.h: record 2: at 1 signature name'
 changed $header 's/SHEET_VARARG_ELEMENT = 4/SHEET_VARARG_ELEMENT = 3/' 'role VARARG_ELEMENT: 3'
+changed $header 's/SHEET_ALIASES = 9/SHEET_ALIASES = 8/' 'kind ALIASES: 8'
+changed $header 's/SHEET_UNDERLYING = 6/SHEET_UNDERLYING = 7/' 'role UNDERLYING: 7'
 changed $header 's/SHEET_PROPERTY = 4/SHEET_PROPERTY = 5/' 'kind PROPERTY: 5'
 changed $header 's/SHEET_TEXT_LIMIT = 65534/SHEET_TEXT_LIMIT = 65535/' 'limit TEXT_LIMIT: 65535'
 changed $tool "s/('receiver', 1), ('parameters', 2)/('parameters', 2), ('receiver', 1)/" "$tool: record 3: at 21 parameters"
@@ -44,6 +49,7 @@ changed $java/SheetReader.java 's/STRING_LIMIT = 4096/STRING_LIMIT = 4095/' 'lim
 # the definitions: what is right elsewhere is then wrong
 changed crates/sheet/specs/Rows.antt 's/∷ (text ∷ wide 1 ∷ \[\])/∷ (text ∷ wide 2 ∷ [])/' 'the same widths in recordTable'
 changed crates/inputs/specs/Refusals.antt 's/^numberOf sheetTooLong = 12/numberOf sheetTooLong = 13/' 'refusal SHEET_TOO_LONG: 12; the definitions have 13'
+changed crates/declaration_rows/specs/Rows.antt 's/^expandedRole = 7/expandedRole = 8/' 'role EXPANDED: 7; the definitions have 8'
 changed crates/declaration_rows/specs/Rows.antt 's/^argumentRole = 5/argumentRole = 6/' 'role ARGUMENT: 5; the definitions have 6'
 changed crates/declaration_rows/specs/Rows.antt 's/bit (p .getterIsDefault) ∷ bit (p .setterIsDefault)/bit (p .setterIsDefault) ∷ bit (p .getterIsDefault)/' 'the definitions have at 14 setter is default'
 

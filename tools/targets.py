@@ -57,13 +57,13 @@ def method_target(place, m, kind):
 
 
 def targets(head):
-    """The targets of a sheet, in its order. A constructor and a function has one; a property has those that are recorded."""
+    """The targets of a sheet, in its order. A constructor and a function has one; a property has those that are recorded; an alias has none."""
     found = []
     for place, m in enumerate(head['of']):
         if m['record'] == 'property':
             found += [Target(place, part, 'signature', m[part], m[part + ' descriptor'], False)
                       for part in ('field', 'getter', 'setter') if m[part] is not None]
-        else:
+        elif m['record'] != 'alias':
             found.append(method_target(place, m, head['kind']))
     return found
 

@@ -53,7 +53,9 @@ refused 'the unit: 256' say '6 256 - -'
 refused 'ends before what it announces' say input
 refused 'no refusal 13' say '13 0 - -'
 refused 'cut short' say '0 0 0102ffffffff -'
-refused 'no count announced' say '0 0 0102ffffffff060000000000000000000000000007ffffffff -'
+refused 'no count announced' say '0 0 0102ffffffff060000000000000000000000000009000007ffffffff -'
+refused '"aliases" was announced' say '0 0 0102ffffffff0600000000000000000000000000 -'
+refused '"alias" was announced' say '0 0 0102ffffffff0600000000000000000000000000090100 -'
 refused 'was announced' say '0 0 0102ffffffff0600000000000000000001000000 -'
 
 # targets.py and measure_links.py: what declarations link to, and the figures of MANUAL

@@ -20,6 +20,7 @@ fn main() {
         Task::Modes(modes) => run::modes(modes, &options),
         Task::One(bytes) => once::one(bytes, &options),
         Task::Lines(file) => once::lines(file),
+        Task::OriginalLines(file) => once::original_lines(file),
         Task::SelfTest => self_test::run(&options),
     };
     std::process::exit(if fine { 0 } else { 1 });

@@ -2,12 +2,12 @@
 
 use crate::options::Options;
 use harness::corpus;
-use harness::expected::expected;
+use harness::expected::{expected, original_answer};
 use harness::input::Input;
 use harness::limits::Areas;
 use harness::reader::Caller;
 
-/// Prints the Rust's line and how the reader's answer differs from it, if it does.
+/// Prints the line that is right and how the reader's answer differs from it, if it does.
 pub fn one(bytes: &[u8], options: &Options) -> bool {
     let Some(input) = Input::parse(bytes) else {
         println!("input");
@@ -28,11 +28,20 @@ pub fn one(bytes: &[u8], options: &Options) -> bool {
     difference.is_none() && expected.disagreement.is_none()
 }
 
-/// Prints the Rust's line for each input of a file.
+/// Prints for each input of a file the line that is right.
 pub fn lines(file: &[u8]) -> bool {
+    each(file, |input| expected(input, Areas::PROGRAM).whole.line())
+}
+
+/// Prints for each input of a file the Rust's own line, without what sheets have got since.
+pub fn original_lines(file: &[u8]) -> bool {
+    each(file, |input| original_answer(input).map_or("not run".to_string(), |whole| whole.line()))
+}
+
+fn each(file: &[u8], line: impl Fn(&Input) -> String) -> bool {
     for bytes in corpus::split(file) {
         match Input::parse(bytes) {
-            Some(input) => println!("{}", expected(&input, Areas::PROGRAM).whole.line()),
+            Some(input) => println!("{}", line(&input)),
             None => println!("input"),
         }
     }

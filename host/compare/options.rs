@@ -4,8 +4,9 @@ use harness::input::from_hex;
 use harness::reader::Reader;
 
 pub const USAGE: &str = "compare [--seed N] [--count N] [--mode exhaustive|made|damaged|boundaries|slow|all] [--show N]
-compare --file INPUT | --hex HEX    one program input: the Rust's line and the reader's
-compare --lines FILE                the Rust's line for each input of a file of inputs
+compare --file INPUT | --hex HEX    one program input: the line that is right, and whether the reader's is it
+compare --lines FILE                the line that is right for each input of a file of inputs
+compare --original-lines FILE       the Rust's own line for each, without what sheets have got since
 compare --self-test                 plants mistakes in the stand-in; each must be found
         [--reader library|stand-in|MISTAKE] [--sheet LENGTH] [--text LENGTH]";
 
@@ -30,6 +31,7 @@ pub enum Task {
     Modes(Vec<Mode>),
     One(Vec<u8>),
     Lines(Vec<u8>),
+    OriginalLines(Vec<u8>),
     SelfTest,
 }
 
@@ -76,6 +78,7 @@ impl Options {
             "--text" => self.text = number()? as usize,
             "--file" => self.task = Task::One(file()?),
             "--lines" => self.task = Task::Lines(file()?),
+            "--original-lines" => self.task = Task::OriginalLines(file()?),
             "--hex" => self.task = Task::One(from_hex(value).ok_or("no hex")?),
             "--reader" => self.reader = Reader::named(value).ok_or(format!("no reader {value} in this build"))?,
             "--mode" if value == "all" => self.task = Task::Modes(Mode::ALL.to_vec()),

@@ -2,8 +2,9 @@
 
 use crate::options::{Mode, Options};
 use harness::answer::Whole;
+use harness::comparison::Basis;
 use harness::exhaustive::Exhaustive;
-use harness::expected::{around, expected, Basis};
+use harness::expected::{around, expected};
 use harness::input::{hex, Input};
 use harness::limits::Areas;
 use harness::random::Random;
@@ -73,9 +74,10 @@ impl Source {
 pub struct Seen {
     pub calls: u64,
     numbers: [u64; 13],
-    by_limits: u64,
-    by_second: u64,
-    too_much: u64,
+    /// How many calls each basis settled, in the order of `Basis::ALL`.
+    settled: [u64; Basis::ALL.len()],
+    /// How many of the original's sheets had something put in.
+    put_in: u64,
     pub differences: u64,
     disagreements: u64,
 }
@@ -97,12 +99,8 @@ impl Run {
         let expected = expected(input, areas);
         self.seen.calls += 1;
         self.seen.numbers[expected.whole.answer.number as usize] += 1;
-        match expected.basis {
-            Basis::Original => {}
-            Basis::Limits => self.seen.by_limits += 1,
-            Basis::Second => self.seen.by_second += 1,
-            Basis::TooMuch => self.seen.too_much += 1,
-        }
+        self.seen.settled[expected.basis as usize] += 1;
+        self.seen.put_in += u64::from(expected.put_in);
         if expected.disagreement.is_some() {
             self.seen.disagreements += 1;
             if self.seen.disagreements as usize <= self.show {
@@ -144,7 +142,7 @@ const UNITS_SHOWN: usize = 200;
 fn tell(input: &Input, areas: Areas) {
     println!("  areas {} {}", areas.sheet, areas.text);
     println!("  input {}", hex(&input.to_bytes()));
-    println!("  the Rust {}", expected(input, areas).whole.line());
+    println!("  must be {}", expected(input, areas).whole.line());
     let mut units: Vec<String> = input.d1.iter().take(UNITS_SHOWN).map(|unit| format!("{unit:02x}")).collect();
     if input.d1.len() > UNITS_SHOWN {
         units.push(format!("and {} more", input.d1.len() - UNITS_SHOWN));
@@ -194,14 +192,11 @@ fn one_mode(source: &Source, mode: Mode, count: u64, options: &Options) -> bool 
         seen.numbers[0],
         if refused.is_empty() { "none".to_string() } else { refused.join(", ") }
     );
+    let settled = Basis::ALL.iter().zip(seen.settled).map(|(basis, count)| format!("{} {count}", basis.words()));
+    println!("  held to {}", settled.collect::<Vec<_>>().join(", "));
     println!(
-        "  held to the Rust {}, to the limits {}, to the second reading {} (10, ranges) and {} (memory); differences {}, second reading against the Rust {}",
-        seen.calls - seen.by_limits - seen.by_second - seen.too_much,
-        seen.by_limits,
-        seen.by_second,
-        seen.too_much,
-        seen.differences,
-        seen.disagreements
+        "  the count of no type aliases put into {} of the Rust's sheets; differences {}, second reading against the Rust {}",
+        seen.put_in, seen.differences, seen.disagreements
     );
     seen.differences == 0 && seen.disagreements == 0
 }

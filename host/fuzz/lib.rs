@@ -39,7 +39,7 @@ fn check(input: &Input, areas: Areas) -> Option<(usize, usize)> {
     let difference = CALLER.with_borrow_mut(|caller| caller.difference(Reader::DEFAULT, input, areas, &expected.whole));
     let difference = difference.or(expected.disagreement);
     if let Some(words) = difference {
-        eprintln!("areas {} {}: {words}; the Rust {}", areas.sheet, areas.text, expected.whole.line());
+        eprintln!("areas {} {}: {words}; it must be {}", areas.sheet, areas.text, expected.whole.line());
         std::process::abort();
     }
     let answer = expected.whole.answer;

@@ -1,49 +1,53 @@
-//! The answer that an input must get: the original's, with the refusals that the original doesn't have.
+//! The answer that an input must get: the original's, with the refusals that the original doesn't have; the second reading's where the original
+//! isn't held to (`comparison`).
 
 use crate::answer::{Answer, Whole};
+use crate::comparison::{self, Basis};
 use crate::input::Input;
 use crate::limits::{self, Areas};
 use crate::reader::LARGEST;
-use crate::second;
+use crate::second::{self, Reading};
 use original::class::Class;
 use original::sheet::Sheet;
-
-/// What settles an answer.
-#[derive(Debug, Clone, Copy, PartialEq, Eq)]
-pub enum Basis {
-    /// The original was run; refusals 11 and 12 are taken from its lengths.
-    Original,
-    /// Refusals 1 to 3, from what is handed in alone.
-    Limits,
-    /// The second reading, where the original isn't held to: refusal 10, and sums of ranges above 65,536.
-    Second,
-    /// The second reading, because the original would take too much memory.
-    TooMuch,
-}
 
 pub struct Expected {
     pub whole: Whole,
     pub basis: Basis,
-    /// The original's answer where the second reading differs from it: one of the two is wrong.
+    /// Whether something was put into the original's sheet before it was compared.
+    pub put_in: bool,
+    /// The second reading's line where it differs from the original: one of the two is wrong.
     pub disagreement: Option<String>,
 }
 
-const RANGES: u64 = 65_536;
-const MEMORY: u64 = 1 << 28;
-
 pub fn expected(input: &Input, areas: Areas) -> Expected {
     let reading = second::read(input);
-    let basis = basis(&reading);
-    let second = reading.into_areas(areas);
+    let basis = comparison::basis(&reading);
     if basis != Basis::Original {
-        return Expected { whole: second, basis, disagreement: None };
+        let disagreement = (!agrees_before_aliases(input, basis, &reading)).then(|| reading.whole.line());
+        return Expected { whole: reading.into_areas(areas), basis, put_in: false, disagreement };
     }
-    let whole = original_answer(input, areas);
+    let second = reading.into_areas(areas);
+    let (whole, put_in) = match original_sheet(input) {
+        Ok(sheet) => (accepted(comparison::in_form(sheet), areas), true),
+        Err(refused) => (refused, false),
+    };
     let disagreement = (whole != second).then(|| second.line());
-    Expected { whole, basis, disagreement }
+    Expected { whole, basis, put_in, disagreement }
 }
 
-/// Areas that are just long enough, one byte short in either or in both, one byte longer, too short for a head, and empty.
+/// The original's own answer with the program's areas, as it stands; none where it can't be run.
+pub fn original_answer(input: &Input) -> Option<Whole> {
+    let reading = second::read(input);
+    match comparison::basis(&reading) {
+        Basis::Limits | Basis::Types => Some(reading.whole),
+        Basis::Ranges | Basis::Memory => None,
+        Basis::Original | Basis::Aliases => {
+            Some(original_sheet(input).map_or_else(|refused| refused, |sheet| accepted(sheet, Areas::PROGRAM)))
+        }
+    }
+}
+
+/// Areas that are just long enough, one byte short in either or in both, one byte longer, of a head alone, and empty.
 pub fn around(input: &Input) -> Vec<Areas> {
     let answer = expected(input, Areas { sheet: LARGEST, text: LARGEST }).whole.answer;
     if answer.number != 0 {
@@ -56,30 +60,31 @@ pub fn around(input: &Input) -> Vec<Areas> {
         (sheet, text.saturating_sub(1)),
         (sheet - 1, text.saturating_sub(1)),
         (sheet + 1, text + 1),
-        (19, text),
+        (20, text),
         (sheet, 0),
         (0, 0),
     ];
     lengths.map(|(sheet, text)| Areas { sheet, text }).to_vec()
 }
 
-fn basis(reading: &second::Reading) -> Basis {
-    match reading.whole.answer.number {
-        1..=3 => Basis::Limits,
-        10 => Basis::Second,
-        _ if reading.ranges > RANGES => Basis::Second,
-        _ if reading.record_bytes + 4 * reading.text_total > MEMORY => Basis::TooMuch,
-        _ => Basis::Original,
+fn agrees_before_aliases(input: &Input, basis: Basis, reading: &Reading) -> bool {
+    if basis != Basis::Aliases || reading.whole.answer.number != 0 {
+        return true;
     }
+    original_sheet(input).is_ok_and(|sheet| comparison::stands_before_aliases(&sheet, reading))
 }
 
 /// The original as it is run: the caller has seen that it can be.
-fn original_answer(input: &Input, areas: Areas) -> Whole {
+fn original_sheet(input: &Input) -> Result<Sheet, Whole> {
     let class = Class::new(input.k, input.mv, &input.d1, input.strings());
-    let sheet = match class.decode() {
-        Ok(metadata) => Sheet::of(&metadata),
-        Err(refusal) => return Whole::refused(refusal.number, refusal.detail),
-    };
+    match class.decode() {
+        Ok(metadata) => Ok(Sheet::of(&metadata)),
+        Err(refusal) => Err(Whole::refused(refusal.number, refusal.detail)),
+    }
+}
+
+/// The answer of a sheet of the original in these areas.
+fn accepted(sheet: Sheet, areas: Areas) -> Whole {
     if sheet.types > limits::TYPES {
         return Whole::refused(10, 0);
     }

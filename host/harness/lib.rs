@@ -2,6 +2,7 @@
 
 pub mod answer;
 pub mod areas;
+pub mod comparison;
 pub mod corpus;
 pub mod damage;
 pub mod exhaustive;

@@ -68,7 +68,7 @@ const STRINGS_FOR_TYPES: &[&str] = &["f", "kotlin/Array", "kotlin/Int", "p", "ko
 
 /// One input of some shape; most are cheap, some take milliseconds.
 pub fn input(random: &mut Random) -> Input {
-    match random.below(16) {
+    match random.below(18) {
         0 => deep_inline(random),
         1 => deep_by_index(random),
         2 => deep_mixed(random),
@@ -84,6 +84,8 @@ pub fn input(random: &mut Random) -> Input {
         12 => string_ends(random),
         13 => long_chain(random),
         14 => old_lengths(random),
+        15 => types_by_aliases(random),
+        16 => alias_lists(random),
         _ => arrays(random),
     }
 }
@@ -147,6 +149,74 @@ fn types_by_parameters(random: &mut Random) -> Input {
     let mut function = function_with(0, &parameter.repeat(count - 1));
     function.extend(bytes(3, &last_type(random)));
     package(&[], &[bytes(3, &function)], STRINGS_FOR_TYPES)
+}
+
+fn alias_with(name: u64, rest: &[u8]) -> Vec<u8> {
+    bytes(5, &[&number(2, name), rest].concat())
+}
+
+/// A number of types around the allowance, the last ones in aliases, inline and by index.
+fn types_by_aliases(random: &mut Random) -> Input {
+    let count = around_limit(random);
+    let of_aliases = 2 * (1 + random.below(20));
+    let parameter = bytes(6, &[number(2, 3), bytes(3, &[])].concat());
+    let mut body = vec![bytes(3, &function_with(0, &parameter.repeat(count - of_aliases)))];
+    let inline = [bytes(4, &number(6, 1)), bytes(6, &number(6, 2))].concat();
+    let both = [bytes(4, &[]), number(5, 0), number(7, 0)].concat();
+    let by_index = [number(7, 0), number(5, 0)].concat();
+    for place in 1..of_aliases / 2 {
+        body.push(alias_with(
+            3,
+            if place % 3 == 0 {
+                &inline
+            } else if place % 3 == 1 {
+                &both
+            } else {
+                &by_index
+            },
+        ));
+    }
+    body.push(alias_with(0, &[bytes(4, &number(6, 2)), bytes(6, &last_type(random))].concat()));
+    body.push(type_table(&[number(6, 4)], Some(random.below(2) as u64)));
+    random.shuffle(&mut body);
+    package(&[], &body, STRINGS_FOR_TYPES)
+}
+
+/// Short lists of aliases that are whole, nameless or broken, among other members, in a class and in a package.
+fn alias_lists(random: &mut Random) -> Input {
+    let (k, function, property, field) = *random.pick(&[(1, 9, 10, 11), (1, 9, 10, 5), (2, 3, 4, 5), (5, 3, 4, 5)]);
+    let mut body = vec![type_table(&[number(6, 1), looked_up_argument(1)], None)];
+    for _ in 0..random.below(6) {
+        let name = *random.pick(&[0, 1, 2, 9, 1 << 32]);
+        let mut fields = vec![number(2, name)];
+        for (inline, index) in [(4, 5), (6, 7)] {
+            match random.below(6) {
+                0 => fields.push(bytes(inline, &last_type(random))),
+                1 => fields.push(number(index, random.below(3) as u64)),
+                2 => fields.extend([number(index, 0), bytes(inline, &number(6, 2))]),
+                3 => fields.extend([number(inline, 0), bytes(index, &[])]),
+                4 => fields.push(bytes(inline, &chain(near_64(random), &looked_up_argument(1)))),
+                _ => {}
+            }
+        }
+        if random.once_in(3) {
+            fields.remove(0);
+        }
+        if random.once_in(4) {
+            fields.push(number(1, *random.pick(&[0, 6, 1 << 40, u64::MAX])));
+        }
+        if random.once_in(12) {
+            fields.push(vec![0x0b]);
+        }
+        random.shuffle(&mut fields);
+        body.push(bytes(field, &fields.concat()));
+    }
+    body.push(bytes(function, &function_with(0, &bytes(3, &number(6, 4)))));
+    body.push(bytes(property, &function_with(3, &bytes(3, if random.once_in(12) { &[0x0b] } else { &[] }))));
+    random.shuffle(&mut body);
+    let mut input = package(&[], &body, STRINGS_FOR_TYPES);
+    input.k = k;
+    input
 }
 
 /// Entries that hold the next one twice: 2,047 types from eleven, and a few beside them.
@@ -218,11 +288,13 @@ fn long_text(random: &mut Random) -> Input {
     let each = 1 + random.below(3000);
     let rest = total % (each * width);
     let strings = [character.repeat(each), "b".repeat(rest)];
+    // The last name is a property's or an alias's.
+    let last = *random.pick(&[4, 4, 5]);
     let mut body = bytes(4, &number(2, 0)).repeat(total / (each * width));
-    body.extend(bytes(4, &number(2, 1)));
+    body.extend(bytes(last, &number(2, 1)));
     // An empty text at the end has a ref of its own.
     if random.once_in(3) {
-        body.extend(bytes(4, &number(2, 2)));
+        body.extend(bytes(last, &number(2, 2)));
     }
     package(&[], &[body], &[&strings[0], &strings[1], ""])
 }
@@ -230,9 +302,11 @@ fn long_text(random: &mut Random) -> Input {
 /// Very many of the shortest members.
 fn many_members(random: &mut Random) -> Input {
     let count = *random.pick(&[100, 3000, 10_000, 16_383]);
-    let (k, member) = match random.below(3) {
+    let (k, member) = match random.below(5) {
         0 => (1, bytes(8, &[])),
         1 => (1, bytes(9, &[])),
+        2 => (1, bytes(11, &number(2, 0))),
+        3 => (2, bytes(5, &number(2, 0))),
         _ => (2, bytes(3, &number(2, 0))),
     };
     let count = count.min((UNITS - 2) / member.len());

@@ -7,7 +7,7 @@ use harness::limits::Areas;
 pub type Case = (Input, Areas);
 
 /// The files of `cases/`, in the order in which they are run.
-const LISTS: [&str; 14] = [
+const LISTS: [&str; 15] = [
     "host_refusals",
     "kinds_and_versions",
     "fields",
@@ -16,6 +16,7 @@ const LISTS: [&str; 14] = [
     "constructors",
     "functions",
     "properties",
+    "aliases",
     "types",
     "descriptors",
     "areas",

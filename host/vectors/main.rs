@@ -1,11 +1,12 @@
-//! Writes inputs with the original's answer lines, for a program that replays them. See host/README.md.
+//! Writes inputs with the answer lines that are right, for a program that replays them. See host/README.md.
 
 mod cases;
 mod examples;
 mod sized;
 
 use harness::answer::Whole;
-use harness::expected::{expected, Basis, Expected};
+use harness::comparison::Basis;
+use harness::expected::{expected, original_answer, Expected};
 use harness::input::Input;
 use harness::limits::Areas;
 use harness::random::Random;
@@ -33,19 +34,20 @@ fn main() {
         println!("classes: none, no file of real classes in {}", corpus::folder().display());
         return;
     }
-    let lines = write(folder, "classes", &classes);
+    write(folder, "classes", &classes);
+    let own = |input| original_answer(input).expect("a real class that the original can be run on").line() + "\n";
+    let lines: String = classes.iter().map(own).collect();
     let given = std::fs::read_to_string(corpus::folder().join("classes.lines")).unwrap_or_default();
-    assert_eq!(lines, given, "the Rust's lines aren't those beside the real classes");
-    println!("classes: the Rust's lines are those that stand beside them");
+    assert_eq!(lines, given, "the Rust's own lines aren't those beside the real classes");
+    println!("classes: the Rust's own lines are those that stand beside them");
 }
 
-/// The answer of an input that a replay may hold: the original's, a limit's, or the 2,049th type.
+/// The answer of an input that a replay may hold: the original's, a limit's, the 2,049th type, or one with type aliases.
 fn answer(input: &Input, areas: Areas) -> Option<Whole> {
     let expected = checked(input, areas);
     let settled = match expected.basis {
-        Basis::Original | Basis::Limits => true,
-        Basis::Second => expected.whole.answer.number == 10,
-        Basis::TooMuch => false,
+        Basis::Original | Basis::Limits | Basis::Types | Basis::Aliases => true,
+        Basis::Ranges | Basis::Memory => false,
     };
     settled.then_some(expected.whole)
 }
@@ -61,7 +63,7 @@ fn checked(input: &Input, areas: Areas) -> Expected {
     expected
 }
 
-fn write(folder: &Path, name: &str, inputs: &[Input]) -> String {
+fn write(folder: &Path, name: &str, inputs: &[Input]) {
     let program = |input| answer(input, Areas::PROGRAM).expect("an input that is settled");
     let answers: Vec<Whole> = inputs.iter().map(program).collect();
     let lines: String = answers.iter().map(|whole| whole.line() + "\n").collect();
@@ -69,7 +71,6 @@ fn write(folder: &Path, name: &str, inputs: &[Input]) -> String {
     std::fs::write(folder.join(format!("{name}.lines")), &lines).expect("a file written");
     let accepted = answers.iter().filter(|whole| whole.answer.number == 0).count();
     println!("{name}: {} inputs, {accepted} accepted", inputs.len());
-    lines
 }
 
 /// Examples, and short inputs of every kind, with a limit on how many have the same answer's number.

@@ -12,7 +12,7 @@ use std::path::Path;
 const PATTERN: u8 = 0xa5;
 /// Whole areas are written down, so inputs are short and few.
 const LONGEST: usize = 80;
-const HEAD: u64 = 20;
+const SHORTEST: u64 = 23;
 const LONGEST_SHEET: u64 = 150;
 const ACCEPTED: usize = 26;
 const REFUSED: usize = 4;
@@ -70,8 +70,8 @@ fn pairs() -> Vec<Case> {
         let Answer { number, sheet, .. } = whole.answer;
         let longest = if number == 0 { LONGEST } else { 4 * LONGEST };
         let short = input.d1.len() <= longest && input.d2.len() <= longest && input.ends.len() <= longest;
-        // Of the sheets that are a head alone, the examples have enough.
-        let shows = number != 0 || (sheet <= LONGEST_SHEET && (sheet > HEAD || place < count));
+        // Of the sheets without declarations, the examples have enough.
+        let shows = number != 0 || (sheet <= LONGEST_SHEET && (sheet > SHORTEST || place < count));
         let most = if number == 0 { ACCEPTED } else { REFUSED };
         if !short || !shows || seen[number as usize] == most {
             continue;

@@ -8,24 +8,27 @@ use lib.ListN.{length}
 use lib.Seq.{sets}
 use Rattle.foundation.specs.Digits.{little}
 use Rattle.foundation.specs.Texts.{Text}
-use Rattle.sheet.specs.Rows.{Row, row, bodyBytes, bodyText}
+use Rattle.sheet.specs.Rows.{num, Row, row, bodyBytes, bodyText}
 use Rattle.sheet.specs.told.Put.{PutHead, PutRows, past}
 use Rattle.sheet.specs.declared.State.{State}
 use Rattle.sheet.proofs.PutLaws.{rows-then, row-patch, row-counted}
-use Rattle.declaration_rows.specs.Declarations.{Parameter, Constructor, Function, Property}
+use Rattle.declaration_rows.specs.Declarations.{Parameter, Constructor, Function, Property, Alias}
 use Rattle.declaration_rows.specs.Rows.{
   returnRole,
   receiverRole,
   parameterRole,
   varargRole,
+  underlyingRole,
+  expandedRole,
   typeRows,
   parameterRows,
   parametersRows,
   constructorRows,
   functionRows,
   propertyRows,
+  aliasRows,
 }
-use Rattle.declaration_rows.specs.told.Written.{headCells, headCounts, constructorCells, functionCells, propertyCells, parameterCells}
+use Rattle.declaration_rows.specs.told.Written.{headCells, headCounts, constructorCells, functionCells, propertyCells, parameterCells, aliasCells}
 
 module _ {b b′ : ℕ} {s s₁ s₂ : State} {S S₁ S₂ T T₁ T₂ : List ℕ} where
   pub parameter-put : (p : Parameter) → PutRows (row 5 (parameterCells (p .name) (p .declaresDefault)) ∷ []) b s s₁ S S₁ T T₁
@@ -46,7 +49,20 @@ module _ {b b′ : ℕ} {s s₁ s₂ : State} {S S₁ S₂ T T₁ T₂ : List �
       let cs = propertyCells (some (p .name)) (p .flags) (p .hasReceiver) (p .getterIsDefault) (p .setterIsDefault) (p .field) (p .getter) (p .setter) in
       rows-then (row 4 cs ∷ []) (typeRows receiverRole (p .receiver) ++ typeRows returnRole (p .type)) h q
 
+  pub alias-put : (a : Alias) → PutRows (row 8 (aliasCells (some (a .name)) (a .flags)) ∷ []) b s s₁ S S₁ T T₁
+      → PutRows (typeRows underlyingRole (a .underlying) ++ typeRows expandedRole (a .expanded)) b′ s₁ s₂ S₁ S₂ T₁ T₂
+      → PutRows (aliasRows a) b′ s s₂ S S₂ T T₂
+  unfolding aliasRows
+  alias-put a h q =
+      rows-then (row 8 (aliasCells (some (a .name)) (a .flags)) ∷ [])
+      (typeRows underlyingRole (a .underlying) ++ typeRows expandedRole (a .expanded)) h q
+
   module _ {S₃ : List ℕ} where
+    -- kind 9 with its count, and the records of the aliases
+    pub aliases-put : (n : ℕ) (rs : List Row) → PutHead 9 [] b s s₁ S S₁ T T₁ → PutRows rs b′ (past 2 s₁) s₂ S₁ S₂ T₁ T₂
+        → S₃ ≡ sets S₂ (s₁ .sheet) (little 2 n) → PutRows (row 9 (num 2 n ∷ []) ∷ rs) b′ s s₂ S S₃ T T₂
+    aliases-put n rs = row-counted 9 [] 2 n rs
+
     pub constructor-put : (c : Constructor) → PutHead 2 (constructorCells (c .flags) (c .signature)) b s s₁ S S₁ T T₁
         → PutRows (parametersRows (c .parameters)) b′ (past 2 s₁) s₂ S₁ S₂ T₁ T₂
         → S₃ ≡ sets S₂ (s₁ .sheet) (little 2 (length (c .parameters)))

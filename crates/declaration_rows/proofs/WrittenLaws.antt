@@ -25,7 +25,7 @@ use Rattle.sheet.proofs.RowLaws.{cellLength, cell-length}
 use Rattle.sheet.proofs.PutLaws.{put-sheet, put-text, put-types, put-same, put-left, cell-put, cells-then, head-then, row-done}
 use Rattle.declaration_rows.specs.Declarations.{signed}
 use Rattle.declaration_rows.specs.Rows.{nameCell, signatureCells}
-use Rattle.declaration_rows.specs.told.Written.{RecordRoom, cellLimit, signatureBy, initBy, headCells, headCounts, constructorCells, functionCells, propertyCells}
+use Rattle.declaration_rows.specs.told.Written.{RecordRoom, cellLimit, signatureBy, initBy, headCells, headCounts, constructorCells, functionCells, propertyCells, aliasCells}
 use Rattle.declaration_rows.specs.declared.SignatureNames.{SignatureNames}
 
 -- A name's text is what is written of it.
@@ -307,3 +307,6 @@ module _ {payload d2 : List ℕ} where
           name-small r name,
           (omega arith, (omega arith, (omega arith, (omega arith, (p .0, (p .1 .0, (q .0, (q .1 .0, signature-small r h)))))))),
         )
+
+    pub alias-small : (name : Name) (flags : ℕ) → All Small (aliasCells (nameText payload d2 name) flags)
+    alias-small name flags = (name-small r name, (omega arith, tt))

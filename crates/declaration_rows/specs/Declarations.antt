@@ -65,9 +65,17 @@ pub record Property : Type 0 where
   pub receiver : Option Ty
   pub type : Option Ty
 
+-- A type alias: the type that it is declared as, and that type with every alias in it expanded.
+pub record Alias : Type 0 where
+  pub name : Text
+  pub flags : ℕ
+  pub underlying : Option Ty
+  pub expanded : Option Ty
+
 pub record Declarations : Type 0 where
   pub name : Option Text
   pub flags : ℕ
   pub constructors : List Constructor
   pub functions : List Function
   pub properties : List Property
+  pub aliases : List Alias

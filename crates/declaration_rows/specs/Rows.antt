@@ -9,12 +9,12 @@ use Rattle.foundation.specs.Choices.{mapOption, concat}
 use Rattle.foundation.specs.Texts.{Text}
 use Rattle.characters.specs.Characters.{utf8}
 use Rattle.sheet.specs.Rows.{Cell, num, ref, bit, Row, row}
-use Rattle.declaration_rows.specs.Declarations.{Types, noTypes, andType, Ty, countOf, Signature, Parameter, Constructor, Function, Property}
+use Rattle.declaration_rows.specs.Declarations.{Types, noTypes, andType, Ty, countOf, Signature, Parameter, Constructor, Function, Property, Alias}
 
 abbrev pub nameCell : Option Text → Cell
 nameCell name = ref (mapOption utf8 name)
 
--- roles: 1 return or property type, 2 receiver, 3 parameter, 4 vararg element, 5 argument
+-- roles: 1 return or property type, 2 receiver, 3 parameter, 4 vararg element, 5 argument, 6 underlying and 7 expanded type of an alias
 abbrev pub returnRole : ℕ
 returnRole = 1
 
@@ -29,6 +29,12 @@ varargRole = 4
 
 abbrev pub argumentRole : ℕ
 argumentRole = 5
+
+abbrev pub underlyingRole : ℕ
+underlyingRole = 6
+
+abbrev pub expandedRole : ℕ
+expandedRole = 7
 
 -- the cells of a type's record: its role, whether it is nullable, its name, and how many arguments follow it
 abbrev pub typeCells : ℕ → Bool → Option Text → ℕ → List Cell
@@ -74,3 +80,12 @@ propertyRows p =
     nameCell (some (p .name)) ∷ num 8 (p .flags) ∷ bit (p .hasReceiver) ∷ bit (p .getterIsDefault) ∷ bit (p .setterIsDefault)
     ∷ (signatureCells (p .field) ++ (signatureCells (p .getter) ++ signatureCells (p .setter))))
     ∷ (typeRows receiverRole (p .receiver) ++ typeRows returnRole (p .type))
+
+unfoldable pub aliasRows : Alias → List Row
+aliasRows a =
+    row 8 (nameCell (some (a .name)) ∷ num 8 (a .flags) ∷ [])
+    ∷ (typeRows underlyingRole (a .underlying) ++ typeRows expandedRole (a .expanded))
+
+-- All aliases of a body: how many, also when there is none, then each.
+abbrev pub aliasesRows : List Alias → List Row
+aliasesRows xs = row 9 (num 2 (length xs) ∷ []) ∷ concat (map aliasRows xs)

@@ -1,4 +1,4 @@
-// Records written from values that are looked up, kinds 1 to 5 and 7. A count stands last in its record and is left out here: it is
+// Records written from values that are looked up, all kinds but 6. A count stands last in its record and is left out here: it is
 // written once what it counts is (sheet's `row-counted`, `row-patch`). The cells: specs/told/Written.antt.
 use names::name::Name;
 use names::name::is_there;
@@ -22,9 +22,10 @@ ghost use Rattle.names.specs.told.Name.{nameText};
 ghost use Rattle.sheet.specs.Rows.{num, ref, bit, row, bodyBytes};
 ghost use Rattle.sheet.specs.told.Put.{PutCells, PutHead, PutRows};
 ghost use Rattle.declaration_rows.specs.Rows.{nameCell, signatureCells};
-ghost use Rattle.declaration_rows.specs.told.Written.{RecordRoom, signatureBy, initBy, headCells, headCounts, constructorCells, functionCells, propertyFlags, propertySignatures, propertyCells, parameterCells};
+ghost use Rattle.declaration_rows.specs.told.Written.{RecordRoom, signatureBy, initBy, headCells, headCounts, constructorCells, functionCells, propertyFlags, propertySignatures, propertyCells, parameterCells, aliasCells};
 
-// Roles of types: a return or property type, a receiver, a parameter, a vararg element, an argument. As in specs/Rows.antt.
+// Roles of types: a return or property type, a receiver, a parameter, a vararg element, an argument, an alias's underlying and its expanded
+// type. As in specs/Rows.antt.
 pub const RETURN_ROLE: u8 = 1;
 
 pub const RECEIVER_ROLE: u8 = 2;
@@ -34,6 +35,10 @@ pub const PARAMETER_ROLE: u8 = 3;
 pub const VARARG_ROLE: u8 = 4;
 
 pub const ARGUMENT_ROLE: u8 = 5;
+
+pub const UNDERLYING_ROLE: u8 = 6;
+
+pub const EXPANDED_ROLE: u8 = 7;
 
 // The two names of a signature. It is there if both are.
 pub struct SignatureNames {
@@ -314,6 +319,34 @@ pub fn put_parameter(
     let begun = put_kind(5, state, sheet);
     let named = put_named(&*payload, &*d2, name, begun, sheet, text);
     put_flag(default, named, sheet)
+}
+
+// Kind 8, whole.
+// Callers show `RecordRoom`: members::aliases from the `Affords` that it requires.
+pub fn put_alias(
+    payload: &[u8],
+    d2: &[u16],
+    name: Name,
+    flags: u64,
+    state: State,
+    sheet: &mut [u8],
+    text: &mut [u8],
+) -> State
+    requires { ⌜ RecordRoom (2 ^ 61) (now payload) (now d2) state ⌝ }
+    ensures { λ r. ⌜ PutRows (row 8 (aliasCells (nameText (now (payload .entry)) (now (d2 .entry)) name) flags) ∷ []) (state .types) state r (now (sheet .entry)) (now (sheet .exit)) (now (text .entry)) (now (text .exit)) ⌝ }
+{
+    let begun = put_kind(8, state, sheet);
+    let named = put_named(&*payload, &*d2, name, begun, sheet, text);
+    put_wide(8, flags, named, sheet)
+}
+
+// Kind 9, up to the count of aliases.
+// Callers show that the place after it can be counted: declarations::body from the `Affords` that it requires; metadata has written a head alone.
+pub fn put_aliases(state: State, sheet: &mut [u8]) -> State
+    requires { ⌜ state .sheet ≤ 2 ^ 61 ⌝ }
+    ensures { λ r. ⌜ ((T : List ℕ) → PutHead 9 [] (state .types) state r (now (sheet .entry)) (now (sheet .exit)) T T) ⌝ }
+{
+    put_kind(9, state, sheet)
 }
 
 // Kind 7 for a constructor or function without a default descriptor.

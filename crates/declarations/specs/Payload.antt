@@ -13,7 +13,7 @@ use Rattle.sheet.specs.Rows.{num, Row, row}
 use Rattle.declaration_rows.specs.Declarations.{Declarations}
 use Rattle.schema.specs.Reading.{Read, allowance}
 use Rattle.schema.specs.Members.{bodyIn}
-use Rattle.declaration_rows.specs.Rows.{nameCell}
+use Rattle.declaration_rows.specs.Rows.{nameCell, aliasesRows}
 use Rattle.members.specs.Lists.{sectionRows}
 use Rattle.members.specs.declared.list.Member.the-variants as member
 
@@ -36,7 +36,8 @@ headRow kind d =
     num 1 kind ∷ nameCell (d .name) ∷ num 8 (d .flags) ∷ num 2 (length (d .constructors)) ∷ num 2 (length (d .functions))
     ∷ num 2 (length (d .properties)) ∷ [])
 
--- the head, then the rows of each list: constructors, functions, properties
+-- the head, then the rows of each list: constructors, functions, properties, and the type aliases after their count
 unfoldable pub declarationRows : ℕ → Declarations → List Row
 declarationRows kind d =
-    headRow kind d ∷ (sectionRows member.Constructor d ++ (sectionRows member.Function d ++ sectionRows member.Property d))
+    headRow kind d
+    ∷ (sectionRows member.Constructor d ++ (sectionRows member.Function d ++ (sectionRows member.Property d ++ aliasesRows (d .aliases))))

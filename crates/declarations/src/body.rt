@@ -1,11 +1,13 @@
-// The body of a class or package written as rows: the head, constructors, functions, properties; then the head's counts. The definitions:
+// The body of a class or package written as rows: the head, constructors, functions, properties, type aliases; then the head's counts. The definitions:
 // specs/Payload.antt, `declarationRows`, and schema's specs/Members.antt, `afterTable`; what the functions tell: specs/told/BodyTold.antt.
 ghost use mathlib.Core.Path.{_≡_};
 ghost use lib.ListN.{length};
-ghost use Rattle.schema.specs.Members.{functionField, propertyField};
+ghost use Rattle.schema.specs.Members.{functionField, propertyField, aliasField};
 ghost use Rattle.schema.specs.told.SchemaTold.{lent, Stands};
 ghost use Rattle.schema.specs.told.MembersTold.{Affords};
-ghost use Rattle.declarations.specs.told.BodyTold.{headCost, listCost, listsCost, bodyCost, BodyHead, ConstructorsTold, ListsTold, BodyWalked};
+ghost use Rattle.declarations.specs.told.BodyTold.{headCost, listCost, aliasesCost, listsCost, bodyCost, BodyHead, ConstructorsTold, AliasesTold, ListsTold, BodyWalked};
+use declaration_rows::put_aliases;
+use declaration_rows::put_count;
 use declaration_rows::put_head;
 use declaration_rows::put_head_counts;
 use fields::CLASS_CONSTRUCTOR;
@@ -13,9 +15,11 @@ use fields::CLASS_FLAGS;
 use fields::CLASS_FQ_NAME;
 use fields::CLASS_FUNCTION;
 use fields::CLASS_PROPERTY;
+use fields::CLASS_TYPE_ALIAS;
 use fields::OMITTED_FLAGS;
 use fields::PACKAGE_FUNCTION;
 use fields::PACKAGE_PROPERTY;
+use fields::PACKAGE_TYPE_ALIAS;
 use members::list::Member;
 use members::list::MemberList;
 use members::list::members_in;
@@ -33,23 +37,13 @@ pub struct Section {
     pub count: usize,
 }
 
-// The same after the head, which has no count, and after each list.
+// The same after the head, which has no count, and after each list. Kind 9 stands where the properties end.
 pub struct Sections {
     pub head: State,
     pub constructors: Section,
     pub functions: Section,
     pub properties: Section,
-}
-
-enum Lists {
-    Done {
-        constructors: Section,
-        functions: Section,
-        properties: Section,
-    },
-    Refused {
-        stop: Stop,
-    },
+    pub aliases: Section,
 }
 
 pub enum Body {
@@ -86,6 +80,16 @@ fn property_field(class: bool) -> u32
         CLASS_PROPERTY
     } else {
         PACKAGE_PROPERTY
+    }
+}
+
+fn alias_field(class: bool) -> u32
+    ensures { λ r. ⌜ r ≡ aliasField class ⌝ }
+{
+    if class {
+        CLASS_TYPE_ALIAS
+    } else {
+        PACKAGE_TYPE_ALIAS
     }
 }
 
@@ -161,8 +165,8 @@ fn constructors_in(
     )
 }
 
-// Constructors, functions, properties.
-fn lists_in(
+// The type aliases: kind 9 with their count, also when there is none, then each.
+fn aliases_in(
     class: bool,
     msg: &[u8],
     base: u32,
@@ -174,9 +178,57 @@ fn lists_in(
     state: State,
     sheet: &mut [u8],
     text: &mut [u8],
-) -> Lists
-    requires { ⌜ Affords (now payload) (now d2) (listsCost (length (now msg))) state × Stands (now payload) (now msg) base ⌝ }
-    ensures { λ r. ⌜ ListsTold class (lent (now (payload .entry)) (now (d2 .entry)) (now (ends .entry)) (now (notes .entry)) tables) (now (msg .entry)) base state r (now (sheet .entry)) (now (sheet .exit)) (now (text .entry)) (now (text .exit)) ⌝ }
+) -> Listed
+    requires { ⌜ Affords (now payload) (now d2) (aliasesCost (length (now msg))) state × Stands (now payload) (now msg) base ⌝ }
+    ensures { λ r. ⌜ AliasesTold class (lent (now (payload .entry)) (now (d2 .entry)) (now (ends .entry)) (now (notes .entry)) tables) (now (msg .entry)) base state r (now (sheet .entry)) (now (sheet .exit)) (now (text .entry)) (now (text .exit)) ⌝ }
+{
+    let begun = put_aliases(state, sheet);
+    let place = begun.sheet;
+    let past = place + 2;
+    let first = State {
+        sheet: past,
+        text: begun.text,
+        types: begun.types,
+    };
+    let listed = members_in(
+        MemberList {
+            member: Member::Alias,
+            number: alias_field(class),
+        },
+        msg,
+        base,
+        payload,
+        d2,
+        ends,
+        notes,
+        tables,
+        first,
+        sheet,
+        text,
+    );
+    let Listed::Done { state: last, count } = listed else {
+        return listed;
+    };
+    put_count(sheet, place, count);
+    Listed::Done { state: last, count }
+}
+
+// Constructors, functions, properties, type aliases, after the head.
+fn lists_in(
+    class: bool,
+    msg: &[u8],
+    base: u32,
+    payload: &[u8],
+    d2: &[u16],
+    ends: &[u32],
+    notes: &[u64],
+    tables: Tables,
+    head: State,
+    sheet: &mut [u8],
+    text: &mut [u8],
+) -> Body
+    requires { ⌜ Affords (now payload) (now d2) (listsCost (length (now msg))) head × Stands (now payload) (now msg) base ⌝ }
+    ensures { λ r. ⌜ ListsTold class (lent (now (payload .entry)) (now (d2 .entry)) (now (ends .entry)) (now (notes .entry)) tables) (now (msg .entry)) base head r (now (sheet .entry)) (now (sheet .exit)) (now (text .entry)) (now (text .exit)) ⌝ }
 {
     let made = constructors_in(
         class,
@@ -187,13 +239,16 @@ fn lists_in(
         ends,
         notes,
         tables,
-        state,
+        head,
         sheet,
         text,
     );
-    let constructors = match made {
-        Listed::Done { state, count } => Section { state, count },
-        Listed::Refused { stop } => return Lists::Refused { stop },
+    let Listed::Done {
+        state: after_constructors,
+        count: constructors,
+    } = made
+    else {
+        return Body::Refused { stop: made.stop() };
     };
     let called = members_in(
         MemberList {
@@ -207,13 +262,18 @@ fn lists_in(
         ends,
         notes,
         tables,
-        constructors.state,
+        after_constructors,
         sheet,
         text,
     );
-    let functions = match called {
-        Listed::Done { state, count } => Section { state, count },
-        Listed::Refused { stop } => return Lists::Refused { stop },
+    let Listed::Done {
+        state: after_functions,
+        count: functions,
+    } = called
+    else {
+        return Body::Refused {
+            stop: called.stop(),
+        };
     };
     let held = members_in(
         MemberList {
@@ -227,17 +287,59 @@ fn lists_in(
         ends,
         notes,
         tables,
-        functions.state,
+        after_functions,
         sheet,
         text,
     );
-    match held {
-        Listed::Done { state, count } => Lists::Done {
-            constructors,
-            functions,
-            properties: Section { state, count },
+    let Listed::Done {
+        state: after_properties,
+        count: properties,
+    } = held
+    else {
+        return Body::Refused { stop: held.stop() };
+    };
+    let aliased = aliases_in(
+        class,
+        msg,
+        base,
+        payload,
+        d2,
+        ends,
+        notes,
+        tables,
+        after_properties,
+        sheet,
+        text,
+    );
+    let Listed::Done {
+        state: after_aliases,
+        count: aliases,
+    } = aliased
+    else {
+        return Body::Refused {
+            stop: aliased.stop(),
+        };
+    };
+    Body::Done {
+        sections: Sections {
+            head,
+            constructors: Section {
+                state: after_constructors,
+                count: constructors,
+            },
+            functions: Section {
+                state: after_functions,
+                count: functions,
+            },
+            properties: Section {
+                state: after_properties,
+                count: properties,
+            },
+            aliases: Section {
+                state: after_aliases,
+                count: aliases,
+            },
         },
-        Listed::Refused { stop } => Lists::Refused { stop },
     }
 }
 
@@ -291,28 +393,18 @@ pub fn body_in(
         sheet,
         text,
     );
-    match lists {
-        Lists::Done {
-            constructors,
-            functions,
-            properties,
-        } => {
-            put_head_counts(
-                sheet,
-                place,
-                constructors.count,
-                functions.count,
-                properties.count,
-            );
-            Body::Done {
-                sections: Sections {
-                    head,
-                    constructors,
-                    functions,
-                    properties,
-                },
-            }
-        }
-        Lists::Refused { stop } => Body::Refused { stop },
-    }
+    let Body::Done { sections } = lists else {
+        return lists;
+    };
+    let constructors = sections.constructors;
+    let functions = sections.functions;
+    let properties = sections.properties;
+    put_head_counts(
+        sheet,
+        place,
+        constructors.count,
+        functions.count,
+        properties.count,
+    );
+    Body::Done { sections }
 }

@@ -63,6 +63,9 @@ Class·function = 9
 abbrev pub Class·property : ℕ
 Class·property = 10
 
+abbrev pub Class·type-alias : ℕ
+Class·type-alias = 11
+
 abbrev pub Class·type-table : ℕ
 Class·type-table = 30
 
@@ -71,6 +74,9 @@ Package·function = 3
 
 abbrev pub Package·property : ℕ
 Package·property = 4
+
+abbrev pub Package·type-alias : ℕ
+Package·type-alias = 5
 
 abbrev pub Package·type-table : ℕ
 Package·type-table = 30
@@ -134,6 +140,24 @@ Property·flags = 11
 
 abbrev pub Property·property-signature : ℕ
 Property·property-signature = 100
+
+abbrev pub TypeAlias·flags : ℕ
+TypeAlias·flags = 1
+
+abbrev pub TypeAlias·name : ℕ
+TypeAlias·name = 2
+
+abbrev pub TypeAlias·underlying-type : ℕ
+TypeAlias·underlying-type = 4
+
+abbrev pub TypeAlias·underlying-type-id : ℕ
+TypeAlias·underlying-type-id = 5
+
+abbrev pub TypeAlias·expanded-type : ℕ
+TypeAlias·expanded-type = 6
+
+abbrev pub TypeAlias·expanded-type-id : ℕ
+TypeAlias·expanded-type-id = 7
 
 abbrev pub ValueParameter·flags : ℕ
 ValueParameter·flags = 1

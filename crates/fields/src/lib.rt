@@ -46,12 +46,16 @@ pub const CLASS_FUNCTION: u32 = 9;
 
 pub const CLASS_PROPERTY: u32 = 10;
 
+pub const CLASS_TYPE_ALIAS: u32 = 11;
+
 pub const CLASS_TYPE_TABLE: u32 = 30;
 
 // Package
 pub const PACKAGE_FUNCTION: u32 = 3;
 
 pub const PACKAGE_PROPERTY: u32 = 4;
+
+pub const PACKAGE_TYPE_ALIAS: u32 = 5;
 
 // Constructor
 pub const CONSTRUCTOR_FLAGS: u32 = 1;
@@ -95,6 +99,19 @@ pub const PROPERTY_RECEIVER_TYPE_ID: u32 = 10;
 pub const PROPERTY_FLAGS: u32 = 11;
 
 pub const PROPERTY_PROPERTY_SIGNATURE: u32 = 100;
+
+// TypeAlias
+pub const TYPE_ALIAS_FLAGS: u32 = 1;
+
+pub const TYPE_ALIAS_NAME: u32 = 2;
+
+pub const TYPE_ALIAS_UNDERLYING_TYPE: u32 = 4;
+
+pub const TYPE_ALIAS_UNDERLYING_TYPE_ID: u32 = 5;
+
+pub const TYPE_ALIAS_EXPANDED_TYPE: u32 = 6;
+
+pub const TYPE_ALIAS_EXPANDED_TYPE_ID: u32 = 7;
 
 // ValueParameter
 pub const VALUE_PARAMETER_FLAGS: u32 = 1;

@@ -47,7 +47,7 @@ use Rattle.schema.specs.declared.Walked.the-variants as walked
 use Rattle.declaration_rows.proofs.WrittenLaws.{constructor-small, function-small}
 use Rattle.declaration_rows.proofs.RecordLaws.{constructor-put, function-put}
 use Rattle.schema.proofs.CountLaws.{within-then, within-both, spends-within, past-within, affords-after, affords-places, head-within, listed-within}
-use Rattle.members.proofs.ParameterLaws.{walked-spends}
+use Rattle.members.proofs.PairLaws.{walked-spends}
 use Rattle.foundation.proofs.PresenceLaws.{none-is, some-is}
 
 -- What an answer holds, and what it cannot.

@@ -1,5 +1,7 @@
 pub mod PropertyLaws
+pub mod PairLaws
 pub mod ParameterLaws
+pub mod AliasLaws
 pub mod CallableLaws
 pub mod ClosedLaws
 pub mod MemberLists

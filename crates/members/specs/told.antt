@@ -1,5 +1,5 @@
 pub mod CallablesTold
 pub mod PropertiesTold
-pub mod ParametersTold
+pub mod PairsTold
 pub mod ClosedTold
 pub mod SignaturesTold

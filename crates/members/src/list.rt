@@ -6,6 +6,7 @@ ghost use Rattle.schema.specs.told.SchemaTold.{lent, Stands};
 ghost use Rattle.schema.specs.told.MembersTold.{Affords, closedCost, MemberTold, ListTold};
 ghost use Rattle.schema.specs.told.ListsTold.{ListAtTold};
 ghost use Rattle.members.specs.Lists.{memberIn, memberRows};
+use crate::aliases::alias_in;
 use crate::closed::closed_constructor;
 use crate::closed::closed_function;
 use crate::properties::property_in;
@@ -24,6 +25,7 @@ pub enum Member {
     Constructor,
     Function,
     Property,
+    Alias,
 }
 
 // A list of a body: what its members are, and the field that they stand in.
@@ -75,6 +77,18 @@ fn member_in(
             text,
         ),
         Member::Property => property_in(
+            msg,
+            base,
+            payload,
+            d2,
+            ends,
+            notes,
+            tables,
+            state,
+            sheet,
+            text,
+        ),
+        Member::Alias => alias_in(
             msg,
             base,
             payload,

@@ -1,5 +1,5 @@
 // Value parameters: a name, whether a default is declared, a type and the type of vararg elements. The definitions: schema's specs/Members.antt,
-// `parameterIn`; what the readers tell: specs/told/ParametersTold.antt, schema's specs/told/MembersTold.antt.
+// `parameterIn`; what the readers tell: schema's specs/told/MembersTold.antt.
 ghost use mathlib.Core.Path.{_≡_};
 ghost use Prim.Native.Nat.{_+_, _*_, _≤_};
 ghost use lib.ListN.{length};
@@ -8,10 +8,11 @@ ghost use Rattle.fields.specs.Fields.{ValueParameter·flags};
 ghost use Rattle.wire.specs.Wire.{cut, Message};
 ghost use Rattle.schema.specs.Members.{bitOf, smallFlagsIn, parameterIn};
 ghost use Rattle.declaration_rows.specs.Rows.{parameterRows};
-ghost use Rattle.schema.specs.told.SchemaTold.{lent, Ready};
+ghost use Rattle.schema.specs.told.SchemaTold.{lent};
 ghost use Rattle.schema.specs.told.MembersTold.{Affords, parameterCost, MemberTold, ListTold};
 ghost use Rattle.schema.specs.told.ListsTold.{ListAtTold};
-ghost use Rattle.members.specs.told.ParametersTold.{ParameterTypesTold};
+use crate::pairs::TypePair;
+use crate::pairs::type_pair;
 use declaration_rows::PARAMETER_ROLE;
 use declaration_rows::VARARG_ROLE;
 use declaration_rows::put_parameter;
@@ -31,12 +32,10 @@ use schema::Picked;
 use schema::Stop;
 use schema::Tables;
 use schema::TypeSlot;
-use schema::Walked;
 use schema::flags::flags_in;
 use schema::name::name_in;
 use schema::types::picked;
 use sheet::State;
-use type_references::declared_type;
 use wire::Piece;
 
 // Does a parameter declare a default?
@@ -45,63 +44,6 @@ fn declares_default(msg: &[u8], base: u32) -> bool
 {
     let flags = flags_in(msg, base, VALUE_PARAMETER_FLAGS, OMITTED_SMALL_FLAGS);
     flags / 2 % 2 == 1
-}
-
-// A parameter's type, and that of its vararg elements.
-fn parameter_types(
-    msg: &[u8],
-    base: u32,
-    payload: &[u8],
-    d2: &[u16],
-    ends: &[u32],
-    notes: &[u64],
-    tables: Tables,
-    state: State,
-    sheet: &mut [u8],
-    text: &mut [u8],
-) -> Walked
-    requires { ⌜ Ready (now payload) (now d2) state × (base + length (now msg) ≤ length (now payload)) ⌝ }
-    ensures { λ r. ⌜ ParameterTypesTold (lent (now (payload .entry)) (now (d2 .entry)) (now (ends .entry)) (now (notes .entry)) tables) (now (msg .entry)) base state r (now (sheet .entry)) (now (sheet .exit)) (now (text .entry)) (now (text .exit)) ⌝ }
-{
-    let slot = TypeSlot {
-        inline: VALUE_PARAMETER_TYPE,
-        indexed: VALUE_PARAMETER_TYPE_ID,
-        role: PARAMETER_ROLE,
-    };
-    let own = declared_type(
-        msg,
-        base,
-        slot,
-        payload,
-        d2,
-        ends,
-        notes,
-        tables,
-        state,
-        sheet,
-        text,
-    );
-    let Walked::Done { state: next } = own else {
-        return own;
-    };
-    let vararg = TypeSlot {
-        inline: VALUE_PARAMETER_VARARG_ELEMENT_TYPE,
-        indexed: VALUE_PARAMETER_VARARG_ELEMENT_TYPE_ID,
-        role: VARARG_ROLE,
-    };
-    declared_type(
-        msg,
-        base,
-        vararg,
-        payload,
-        d2,
-        ends,
-        notes,
-        tables,
-        next,
-        sheet,
-        text,
-    )
 }
 
 // A parameter. One without a name is skipped before anything inside it is read.
@@ -134,9 +76,22 @@ fn parameter_in(
     }
     let default = declares_default(msg, base);
     let head = put_parameter(payload, d2, name, default, state, sheet, text);
-    picked(parameter_types(
+    let pair = TypePair {
+        first: TypeSlot {
+            inline: VALUE_PARAMETER_TYPE,
+            indexed: VALUE_PARAMETER_TYPE_ID,
+            role: PARAMETER_ROLE,
+        },
+        second: TypeSlot {
+            inline: VALUE_PARAMETER_VARARG_ELEMENT_TYPE,
+            indexed: VALUE_PARAMETER_VARARG_ELEMENT_TYPE_ID,
+            role: VARARG_ROLE,
+        },
+    };
+    picked(type_pair(
         msg,
         base,
+        pair,
         payload,
         d2,
         ends,

@@ -13,6 +13,7 @@ use lib.ListN.{length}
 use lib.Seq.{sets}
 use lib.Signed.{ltZ}
 use Rattle.foundation.specs.Choices.{if_then_else_}
+use Rattle.foundation.specs.Digits.{little}
 use Rattle.foundation.specs.Results.{Res, Cause, d1TooLong, d2TooLong, stringEnds, newerVersion, sheetTooLong}
 use Rattle.foundation.proofs.ChoiceLaws.{if-ind, and-left, and-right}
 use Rattle.foundation.specs.Texts.{Text}
@@ -21,7 +22,7 @@ use Rattle.lookup.specs.told.Strings.{codesFrom}
 use Rattle.names.specs.told.Name.{nameText, absentName}
 use Rattle.names.specs.Names.{endsFit}
 use Rattle.names.specs.declared.name.Name.{Name}
-use Rattle.sheet.specs.Rows.{Row, row, sheetFrom, texts, bodyBytes, bodyText}
+use Rattle.sheet.specs.Rows.{num, Row, row, sheetFrom, texts, bodyBytes, bodyText}
 use Rattle.sheet.specs.told.Put.{PutHead, PutRows, past}
 use Rattle.sheet.specs.declared.State.{State}
 use Rattle.sheet.proofs.PutLaws.{put-none, put-front}
@@ -30,7 +31,7 @@ use Rattle.declaration_rows.specs.Declarations.{Declarations}
 use Rattle.schema.specs.Reading.{allowance}
 use Rattle.declaration_rows.specs.told.Written as written
 use Rattle.declaration_rows.specs.told.Written.{headCells, headCounts}
-use Rattle.declaration_rows.proofs.RecordLaws.{head-put}
+use Rattle.declaration_rows.proofs.RecordLaws.{head-put, aliases-put}
 use Rattle.declaration_rows.proofs.WrittenLaws.{head-room, head-small}
 use Rattle.declarations.specs.Payload.{declarationRows}
 use Rattle.declarations.proofs.BodyLaws.{no-name}
@@ -128,11 +129,11 @@ module _ (S S′ T T′ : List ℕ) (kind : ℕ) (d1 d2 ends : List ℕ) {r : Ou
       → answered S T kind (readingBy kind d1 d2 ends) ≡ told r S′ T′
   kind-carries a b f g h = rw (carries kind a b f g) h
 
--- The head alone.
+-- The head alone, with the count of no aliases.
 abbrev alone : ℕ → List Row
 alone kind = declarationRows kind headAlone
 
-alone-length : (kind : ℕ) → length (sheetFrom 0 (alone kind)) ≡ 20
+alone-length : (kind : ℕ) → length (sheetFrom 0 (alone kind)) ≡ 23
 unfolding declarationRows rowsLength bodyLength
 alone-length kind = sheet-length 0 (alone kind)
 
@@ -144,8 +145,8 @@ no-rows : (s : State) (S T : List ℕ) → PutRows [] (s .types) s s S S T T
 unfolding sheetFrom texts
 no-rows s S T = put-none s S T
 
-alone-rows : (kind : ℕ) {b : ℕ} {s s′ : State} {S S′ T T′ : List ℕ} → PutRows (row 1 (headCells kind none 6 ++ headCounts 0 0 0) ∷ []) b s s′ S S′ T T′
-    → PutRows (alone kind) b s s′ S S′ T T′
+alone-rows : (kind : ℕ) {b : ℕ} {s s′ : State} {S S′ T T′ : List ℕ}
+    → PutRows (row 1 (headCells kind none 6 ++ headCounts 0 0 0) ∷ row 9 (num 2 0 ∷ []) ∷ []) b s s′ S S′ T T′ → PutRows (alone kind) b s s′ S S′ T T′
 unfolding declarationRows
 alone-rows kind p = p
 
@@ -154,33 +155,33 @@ module _ (kind : ℕ) (S T : List ℕ) where
   unfolding answers.written
   alone-answer = rw (alone-text kind, le-ltb (min (length T) 65534) 0 (omega arith))
 
-  pub alone-over : length S < 20 → {r : Outcome} → r ≡ record { number = 12; detail = 0; sheet = 0; text = 0; types = 0 }
+  pub alone-over : length S < 23 → {r : Outcome} → r ≡ record { number = 12; detail = 0; sheet = 0; text = 0; types = 0 }
       → answered S T kind nothingRead ≡ told r S T
   unfolding sheetWritten numberOf detailOf
-  alone-over h e = alone-answer ∙ rw (alone-length kind, lt-ltb (length S) 20 h) (refused-as e sheetTooLong 0 refl refl S T)
+  alone-over h e = alone-answer ∙ rw (alone-length kind, lt-ltb (length S) 23 h) (refused-as e sheetTooLong 0 refl refl S T)
 
-  pub alone-done : (n : Name) → n ≡ absentName → (payload d2 : List ℕ) {s s₁ : State} → s ≡ start → {S₁ S₂ T₁ : List ℕ}
+  pub alone-done : (n : Name) → n ≡ absentName → (payload d2 : List ℕ) {s s₁ s₂ : State} → s ≡ start → {S₁ S₂ S₃ S₄ T₁ : List ℕ}
       → PutHead 1 (headCells kind (nameText payload d2 n) 6) (s .types) s s₁ S S₁ T T₁
-      → ((o : ℕ) → S₂ ≡ sets S₁ (s₁ .sheet) (bodyBytes o (headCounts 0 0 0))) → 20 ≤ length S
-      → answered S T kind nothingRead ≡ told (record { number = 0; detail = 0; sheet = 20; text = 0; types = 0 }) S₂ T₁
+      → PutHead 9 [] (s₁ .types) (past 6 s₁) s₂ S₁ S₂ T₁ T₁ → S₃ ≡ sets S₂ (s₂ .sheet) (little 2 0)
+      → ((o : ℕ) → S₄ ≡ sets S₃ (s₁ .sheet) (bodyBytes o (headCounts 0 0 0))) → 23 ≤ length S
+      → answered S T kind nothingRead ≡ told (record { number = 0; detail = 0; sheet = 23; text = 0; types = 0 }) S₄ T₁
   unfolding sheetWritten
-  alone-done n e payload d2 {s} {s₁} f {S₁} {S₂} {T₁} p q h =
+  alone-done n e payload d2 {s} {s₁} {s₂} f {S₁} {S₂} {S₃} {S₄} {T₁} p q z c h =
       let name = ap (nameText payload d2) e ∙ no-name payload d2 in
       let p₁ = subst (λ (o : Option Text). PutHead 1 (headCells kind o 6) (s .types) s s₁ S S₁ T T₁) name p in
       let p₂ = subst (λ (x : State). PutHead 1 (headCells kind none 6) (x .types) x s₁ S S₁ T T₁) f p₁ in
-      let w : PutRows (alone kind) (s₁ .types) start (past 6 s₁) S S₂ T T₁ = alone-put p₂ q in
+      let w : PutRows (alone kind) (s₂ .types) start (past 2 s₂) S S₄ T T₁ = alone-put p₂ in
       let l = alone-length kind in
       let t : length (texts (alone kind)) ≡ 0 = ap length (alone-text kind) in
       let x = put-front w (omega arith) (omega arith) in
       alone-answer ∙ rw (le-ltb (length S) (length (sheetFrom 0 (alone kind))) (omega arith)) (rw (x .0, x .1, l, t))
     where
-      alone-put : {s₁ : State} {S₁ S₂ T₁ : List ℕ} → PutHead 1 (headCells kind none 6) allowance start s₁ S S₁ T T₁
-          → ((o : ℕ) → S₂ ≡ sets S₁ (s₁ .sheet) (bodyBytes o (headCounts 0 0 0))) → PutRows (alone kind) (s₁ .types) start (past 6 s₁) S S₂ T T₁
-      alone-put {s₁} {S₁} {S₂} {T₁} p q = alone-rows kind (head-put kind none 6 0 0 0 [] p (no-rows (past 6 s₁) S₁ T₁) q)
+      alone-put : PutHead 1 (headCells kind none 6) allowance start s₁ S S₁ T T₁ → PutRows (alone kind) (s₂ .types) start (past 2 s₂) S S₄ T T₁
+      alone-put p = alone-rows kind (head-put kind none 6 0 0 0 (row 9 (num 2 0 ∷ []) ∷ []) p (aliases-put 0 [] q (no-rows (past 2 s₂) S₂ T₁) z) c)
 
 -- where the head ends
 pub alone-ends : (kind : ℕ) (n : Name) (payload d2 : List ℕ) → length payload ≤ 32768 → length d2 ≤ 32768 → {s s₁ : State} {S S₁ T T₁ : List ℕ} → s ≡ start
-    → PutHead 1 (headCells kind (nameText payload d2 n) 6) (s .types) s s₁ S S₁ T T₁ → s₁ .sheet ≤ 2 ^ 63
+    → PutHead 1 (headCells kind (nameText payload d2 n) 6) (s .types) s s₁ S S₁ T T₁ → s₁ .sheet ≤ 2 ^ 60
 alone-ends kind n payload d2 a b {s} e p =
     let r : written.RecordRoom 0 payload d2 s = subst (written.RecordRoom 0 payload d2) (sym e) (record { payload = a; d2 = b; places = omega arith }) in
     omega (arith, head-room (headCells kind (nameText payload d2 n) 6) (head-small r kind n 6) r 1 p .places)

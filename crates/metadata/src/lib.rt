@@ -10,6 +10,8 @@ ghost use Rattle.passes.specs.told.AreaTold.{InLimits};
 ghost use Rattle.passes.specs.told.PassTold.{readingOf, readingBy};
 ghost use Rattle.metadata.specs.Read.{read};
 ghost use Rattle.metadata.specs.told.ReadTold.{toldBy};
+use declaration_rows::put_aliases;
+use declaration_rows::put_count;
 use declaration_rows::put_head;
 use declaration_rows::put_head_counts;
 use fields::OMITTED_FLAGS;
@@ -23,6 +25,7 @@ use names::name::absent;
 use passes::Passed;
 use passes::decode_in;
 use passes::start;
+use sheet::State;
 
 // Number and detail of a refusal (0 and 0: accepted), both lengths, the types entered, and the version as it came.
 pub struct Answer {
@@ -34,11 +37,11 @@ pub struct Answer {
     pub version: [i32; 3],
 }
 
-// Metadata kinds 3 and 4: the head alone.
+// Metadata kinds 3 and 4: the head alone, and that there are no aliases.
 fn head_alone(kind: u8, sheet: &mut [u8], text: &mut [u8]) -> Outcome
     ensures { λ r. ⌜ answered (now (sheet .entry)) (now (text .entry)) kind nothingRead ≡ told r (now (sheet .exit)) (now (text .exit)) ⌝ }
 {
-    if sheet.len() < 20 {
+    if sheet.len() < 23 {
         return refused(12, 0);
     }
     let payload = [0u8; 0];
@@ -53,11 +56,20 @@ fn head_alone(kind: u8, sheet: &mut [u8], text: &mut [u8]) -> Outcome
         sheet,
         text,
     );
-    put_head_counts(sheet, head.sheet, 0, 0, 0);
+    let place = head.sheet;
+    let past = place + 6;
+    let after = State {
+        sheet: past,
+        text: head.text,
+        types: head.types,
+    };
+    let begun = put_aliases(after, sheet);
+    put_count(sheet, begun.sheet, 0);
+    put_head_counts(sheet, place, 0, 0, 0);
     Outcome {
         number: 0,
         detail: 0,
-        sheet: 20,
+        sheet: 23,
         text: 0,
         types: 0,
     }

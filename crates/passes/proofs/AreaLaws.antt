@@ -187,8 +187,8 @@ module _ (kind : ℕ) (bytes d2 ends notes : List ℕ) (x : Measured) (SS TT : L
     walked-out (body.Done b) (a, n, f, p) d left e =
         let c = same-read a n f in
         let c′ = same-read d left e in
-        let p′ : PutRows rows n start (b .properties .state) S S′ T T′ =
-        subst (λ (y : Declarations). PutRows (declarationRows kind y) n start (b .properties .state) S S′ T T′) (sym c) (p .put) in
+        let p′ : PutRows rows n start (b .aliases .state) S S′ T T′ =
+        subst (λ (y : Declarations). PutRows (declarationRows kind y) n start (b .aliases .state) S S′ T T′) (sym c) (p .put) in
         subst (λ (y : Declarations). (S′ ≡ sheetFrom 0 (declarationRows kind y) ++ drop (length (sheetFrom 0 (declarationRows kind y))) S)
         × (T′ ≡ texts (declarationRows kind y) ++ drop (length (texts (declarationRows kind y))) T)) c′
         (put-front p′ (omega (arith, size-is)) (omega (arith, length-is)))

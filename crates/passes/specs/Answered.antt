@@ -16,7 +16,7 @@ use Rattle.declarations.specs.Payload.{declarationRows}
 
 -- what stands for the body of metadata kinds 3 and 4
 abbrev pub headAlone : Declarations
-headAlone = record { name = none; flags = omittedFlags; constructors = []; functions = []; properties = [] }
+headAlone = record { name = none; flags = omittedFlags; constructors = []; functions = []; properties = []; aliases = [] }
 
 abbrev pub nothingRead : Res (Declarations × ℕ)
 nothingRead = ok (headAlone, allowance)

@@ -34,8 +34,8 @@ fn write_out(
     ensures { λ _. ⌜ WrittenOut kind (payload kind (strings (now (d2 .entry)) (now (ends .entry))) (now (bytes .entry))) (now (sheet .entry)) (now (sheet .exit)) (now (text .entry)) (now (text .exit)) ⌝ }
 {
     let sections = measured.sections;
-    let properties = sections.properties;
-    let end = properties.state;
+    let aliases = sections.aliases;
+    let end = aliases.state;
     let size = end.sheet;
     let length = end.text;
     if size <= scratch_sheet.len() {
@@ -77,8 +77,8 @@ pub(crate) fn write_in(
     ensures { λ r. ⌜ answered (now (sheet .entry)) (now (text .entry)) kind (payload kind (strings (now (d2 .entry)) (now (ends .entry))) (now (bytes .entry))) ≡ told r (now (sheet .exit)) (now (text .exit)) ⌝ }
 {
     let sections = measured.sections;
-    let properties = sections.properties;
-    let end = properties.state;
+    let aliases = sections.aliases;
+    let end = aliases.state;
     let size = end.sheet;
     let length = end.text;
     if TEXT_LIMIT < length {

@@ -11,17 +11,17 @@ use Rattle.foundation.specs.Choices.{concat, IfSome, All}
 use Rattle.foundation.specs.Results.{Res, ok, refused}
 use Rattle.foundation.specs.Texts.{Text}
 use Rattle.foundation.proofs.ResultLaws.{Gives}
-use Rattle.fields.specs.Fields.{Class·constructor, Class·function, Class·property, Package·function, Package·property, Constructor·value-parameter, Function·name, Function·value-parameter, Property·name, Property·property-signature}
+use Rattle.fields.specs.Fields.{Class·constructor, Class·function, Class·property, Class·type-alias, Package·function, Package·property, Package·type-alias, Constructor·value-parameter, Function·name, Function·value-parameter, Property·name, Property·property-signature, TypeAlias·name}
 use Rattle.wire.specs.Wire.{Message}
 use Rattle.wire.specs.Messages.{values, index, message, messages}
 use Rattle.names.specs.Names.{Names}
 use Rattle.sheet.specs.Rows.{Row}
 use Rattle.sheet.proofs.RowLaws.{bodyLength, rowsLength, rows-length-append}
-use Rattle.declaration_rows.specs.Declarations.{Types, noTypes, andType, Ty, Parameter, Constructor, Function, Property, Declarations}
-use Rattle.declaration_rows.specs.Rows.{argumentRole, typesRows, typeRows, parameterRows, parametersRows, constructorRows, functionRows, propertyRows}
+use Rattle.declaration_rows.specs.Declarations.{Types, noTypes, andType, Ty, Parameter, Constructor, Function, Property, Alias, Declarations}
+use Rattle.declaration_rows.specs.Rows.{argumentRole, typesRows, typeRows, parameterRows, parametersRows, constructorRows, functionRows, propertyRows, aliasRows, aliasesRows}
 use Rattle.schema.specs.Reading.{Read, lift, keep, kept, Scope, scope, nameIn}
 use Rattle.schema.specs.Types.{declaredType, typeTableIn}
-use Rattle.schema.specs.Members.{named, signatureIn, fieldIn, ofSignature, parameterIn, listIn, constructorIn, functionIn, propertyIn, Head, headIn, listsIn, afterTable, bodyIn}
+use Rattle.schema.specs.Members.{named, signatureIn, fieldIn, ofSignature, parameterIn, listIn, constructorIn, functionIn, propertyIn, aliasIn, Head, headIn, listsIn, afterTable, bodyIn}
 use Rattle.schema.specs.told.TypeSizes.{
   sizeIfSome,
   sizeOfAll,
@@ -31,14 +31,15 @@ use Rattle.schema.specs.told.TypeSizes.{
   constructorSize,
   functionSize,
   propertySize,
+  aliasSize,
   declarationsSize,
 }
 use Rattle.schema.proofs.Fine.{Reads, reads-pure, reads-lift, reads-bind, reads-ifSome, reads-weaken, reads-kept}
 use Rattle.descriptors.specs.Defaults.{defaultRow, constructorParts, closedConstructor, closedFunction}
 use Rattle.declarations.specs.Payload.{declarationRows}
-use Rattle.promises.proofs.Weights.{weight, weightOf, embedded, messages-weight, many-weight, index-weight, one-weight, two-weight, three-weight}
+use Rattle.promises.proofs.Weights.{weight, weightOf, embedded, messages-weight, many-weight, index-weight, one-weight, two-weight, three-weight, four-weight}
 
--- What its records take without its types: a constructor with its kind 7, a function with its, a property, each with six bytes a parameter.
+-- What its records take without its types: a constructor with its kind 7, a function with its, a property, an alias, with six bytes a parameter.
 abbrev pub constructorCost : Constructor → ℕ
 constructorCost c = 24 + 6 * length (c .parameters)
 
@@ -48,10 +49,15 @@ functionCost f = 29 + 6 * length (f .parameters)
 abbrev pub propertyCost : Property → ℕ
 propertyCost p = 40
 
-abbrev pub membersCost : Declarations → ℕ
-membersCost d = sizeOfAll constructorCost (d .constructors) + sizeOfAll functionCost (d .functions) + sizeOfAll propertyCost (d .properties)
+abbrev pub aliasCost : Alias → ℕ
+aliasCost a = 13
 
--- The rows are as long as that, nine bytes a type, and twenty for the head.
+abbrev pub membersCost : Declarations → ℕ
+membersCost d =
+    sizeOfAll constructorCost (d .constructors) + sizeOfAll functionCost (d .functions) + sizeOfAll propertyCost (d .properties)
+    + sizeOfAll aliasCost (d .aliases)
+
+-- The rows are as long as that, nine bytes a type, twenty for the head, and three for kind 9.
 module _ {A : Type 0} (rows : A → List Row) (cost size : A → ℕ) (one : (a : A) → rowsLength (rows a) ≡ cost a + 9 * size a) where
   all-length : (xs : List A) → rowsLength (concat (map rows xs)) ≡ sizeOfAll cost xs + 9 * sizeOfAll size xs
   unfolding rowsLength
@@ -98,7 +104,11 @@ property-length : (p : Property) → rowsLength (propertyRows p) ≡ propertyCos
 unfolding propertyRows rowsLength bodyLength
 property-length p = simp (rows-length-append, type-length) (omega arith)
 
-pub declarations-length : (kind : ℕ) (d : Declarations) → rowsLength (declarationRows kind d) ≡ 20 + membersCost d + 9 * declarationsSize d
+alias-length : (a : Alias) → rowsLength (aliasRows a) ≡ aliasCost a + 9 * aliasSize a
+unfolding aliasRows rowsLength bodyLength
+alias-length a = simp (rows-length-append, type-length) (omega arith)
+
+pub declarations-length : (kind : ℕ) (d : Declarations) → rowsLength (declarationRows kind d) ≡ 23 + membersCost d + 9 * declarationsSize d
 unfolding declarationRows rowsLength bodyLength
 declarations-length kind d =
     let cs = concat (map closedConstructor (d .constructors)) in
@@ -106,11 +116,13 @@ declarations-length kind d =
     let ps = concat (map propertyRows (d .properties)) in
     omega (
       arith,
-      rows-length-append cs (fs ++ ps),
-      rows-length-append fs ps,
+      rows-length-append cs (fs ++ (ps ++ aliasesRows (d .aliases))),
+      rows-length-append fs (ps ++ aliasesRows (d .aliases)),
+      rows-length-append ps (aliasesRows (d .aliases)),
       all-length closedConstructor constructorCost constructorSize constructor-length (d .constructors),
       all-length closedFunction functionCost functionSize function-length (d .functions),
       all-length propertyRows propertyCost propertySize property-length (d .properties),
+      all-length aliasRows aliasCost aliasSize alias-length (d .aliases),
     )
 
 -- A member takes no more than twelve bytes a byte of its message, with the two of its field: so do those of a list.
@@ -203,17 +215,27 @@ module _ (s : Scope) where
       reads-bind (any-read (declaredType s _ _ m)) λ type t.
       let h : 40 ≤ 12 * embedded m = omega (arith, w, one-weight Property·name m) in reads-pure h
 
+  alias-costs : (m : Message) → Reads (Costs aliasCost m) (aliasIn s m)
+  unfolding aliasIn
+  alias-costs m =
+      reads-bind (name-weight s _ m) λ n w. named-costs _ _ _ n w λ name w.
+      reads-bind (any-read (declaredType s _ _ m)) λ underlying t.
+      reads-bind (any-read (declaredType s _ _ m)) λ expanded t.
+      let h : 13 ≤ 12 * embedded m = omega (arith, w, one-weight TypeAlias·name m) in reads-pure h
+
   lists-cost : (class : Bool) (h : Head) (m : Message) → Reads (λ d. membersCost d ≤ 12 * weight m) (listsIn class h s m)
   unfolding listsIn
   lists-cost true h m =
       reads-bind (list-costs constructorCost (constructorIn s) constructor-costs _ m) λ constructors p.
       reads-bind (list-costs functionCost (functionIn s) function-costs _ m) λ functions q.
       reads-bind (list-costs propertyCost (propertyIn s) property-costs _ m) λ properties r.
-      reads-pure (omega (arith, three-weight Class·constructor Class·function Class·property m (omega arith) (omega arith)))
+      reads-bind (list-costs aliasCost (aliasIn s) alias-costs _ m) λ aliases t.
+      reads-pure (omega (arith, four-weight Class·constructor Class·function Class·property Class·type-alias m (omega arith) (omega arith) (omega arith)))
   lists-cost false h m =
       reads-bind (list-costs functionCost (functionIn s) function-costs _ m) λ functions q.
       reads-bind (list-costs propertyCost (propertyIn s) property-costs _ m) λ properties r.
-      reads-pure (omega (arith, two-weight Package·function Package·property m (omega arith)))
+      reads-bind (list-costs aliasCost (aliasIn s) alias-costs _ m) λ aliases t.
+      reads-pure (omega (arith, three-weight Package·function Package·property Package·type-alias m (omega arith) (omega arith)))
 
 pub body-costs : (class : Bool) (names : Names) (m : Message) → Reads (λ d. membersCost d ≤ 12 * weight m) (bodyIn class names m)
 unfolding bodyIn afterTable

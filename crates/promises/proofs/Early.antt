@@ -21,7 +21,7 @@ use Rattle.names.specs.Records.{decides}
 use Rattle.declaration_rows.specs.Declarations.{Signature}
 use Rattle.schema.specs.Reading.{Read, pure, _>>=_, lift, enter, kept, Scope, scope, nameIn, classNameIn, allowance}
 use Rattle.schema.specs.Types.{Walk, maxDepth, resolveAt, typeIn, argumentIn, parseAt, typeAt, declaredType, typeTableIn}
-use Rattle.schema.specs.Members.{named, signatureOf, signatureIn, fieldOf, forgiven, fieldIn, ofSignature, parameterIn, listIn, constructorIn, functionIn, propertyIn, Head, headIn, constructorsIn, functionField, propertyField, listsIn, afterTable, bodyIn}
+use Rattle.schema.specs.Members.{named, signatureOf, signatureIn, fieldOf, forgiven, fieldIn, ofSignature, parameterIn, listIn, constructorIn, functionIn, propertyIn, aliasIn, Head, headIn, constructorsIn, functionField, propertyField, aliasField, listsIn, afterTable, bodyIn}
 use Rattle.inputs.specs.Refusals.{numberOf}
 use Rattle.inputs.specs.Inputs.{Input, kindOf, carriesDeclarations, stringLimit, supportedMajor, major, laterFault, faultOf}
 use Rattle.declarations.specs.Payload.{payload}
@@ -281,6 +281,12 @@ module _ (s : Scope) (h : EarlyNames (s .names)) where
       early-then (early-ofSignature _ (early-signatureIn _ _) signature) λ setter.
       early-then (early-declaredType _ _ m) λ type. early-pure
 
+  early-aliasIn : (m : Message) → EarlyRead (aliasIn s m)
+  unfolding aliasIn
+  early-aliasIn m =
+      early-then (early-nameIn _ m) λ n. early-named _ n λ name.
+      early-then (early-declaredType _ _ m) λ underlying. early-then (early-declaredType _ _ m) λ expanded. early-pure
+
   early-headIn : (class : Bool) (m : Message) → EarlyRead (headIn class s m)
   early-headIn true m = early-then (early-classNameIn _ m) λ name. early-pure
   early-headIn false m = early-pure
@@ -294,7 +300,8 @@ module _ (s : Scope) (h : EarlyNames (s .names)) where
   early-listsIn class head m =
       early-then (early-constructorsIn class m) λ constructors.
       early-then (early-listIn early-functionIn (functionField class) m) λ functions.
-      early-then (early-listIn early-propertyIn (propertyField class) m) λ properties. early-pure
+      early-then (early-listIn early-propertyIn (propertyField class) m) λ properties.
+      early-then (early-listIn early-aliasIn (aliasField class) m) λ aliases. early-pure
 
 early-typeTableIn : (n : ℕ) (m : Message) → EarlyRead (typeTableIn n m)
 unfolding typeTableIn

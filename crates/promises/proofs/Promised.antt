@@ -20,11 +20,11 @@ use Rattle.sheet.proofs.ReadBack.{InTable, sheet-back}
 use Rattle.sheet.proofs.RefsInOrder.{RowHas, refs-in-order}
 use Rattle.declaration_rows.specs.Declarations.{Constructor, Function, Declarations}
 use Rattle.schema.specs.Reading.{allowance}
-use Rattle.declaration_rows.specs.Rows.{constructorRows, functionRows, propertyRows}
+use Rattle.declaration_rows.specs.Rows.{constructorRows, functionRows, propertyRows, aliasRows, aliasesRows}
 use Rattle.schema.specs.Counting.{countKind}
-use Rattle.schema.specs.told.TypeSizes.{constructorSize, functionSize, propertySize, declarationsSize}
+use Rattle.schema.specs.told.TypeSizes.{constructorSize, functionSize, propertySize, aliasSize, declarationsSize}
 use Rattle.schema.proofs.Fine.{FineDeclarations}
-use Rattle.schema.proofs.TypeCount.{count-append, count-all, constructor-count, function-count, property-count}
+use Rattle.schema.proofs.TypeCount.{count-append, count-all, constructor-count, function-count, property-count, alias-count}
 use Rattle.inputs.specs.Inputs.{Input, kindOf}
 use Rattle.inputs.specs.Outcomes.{Answer}
 use Rattle.descriptors.specs.Defaults.{constructorParts, functionParts, defaultRow, closedConstructor, closedFunction}
@@ -60,11 +60,13 @@ declarations-count kind d =
     let fs = concat (map closedFunction (d .functions)) in
     let ps = concat (map propertyRows (d .properties)) in
     rw (
-      count-append 6 cs (fs ++ ps),
-      count-append 6 fs ps,
+      count-append 6 cs (fs ++ (ps ++ aliasesRows (d .aliases))),
+      count-append 6 fs (ps ++ aliasesRows (d .aliases)),
+      count-append 6 ps (aliasesRows (d .aliases)),
       count-all 6 closedConstructor constructorSize closed-constructor-count (d .constructors),
       count-all 6 closedFunction functionSize closed-function-count (d .functions),
       count-all 6 propertyRows propertySize property-count (d .properties),
+      count-all 6 aliasRows aliasSize alias-count (d .aliases),
     )
     (omega arith)
 

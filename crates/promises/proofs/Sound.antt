@@ -109,9 +109,11 @@ reading-fine i u = reading-gives (λ r. FineDeclarations (r .0)) i alone body
       constructorCount = omega arith;
       functionCount = omega arith;
       propertyCount = omega arith;
+      aliasCount = omega arith;
       constructors = tt;
       functions = tt;
       properties = tt;
+      aliases = tt;
     }
 
     body : (names : Names) (m : Message) → names .d2 ≡ d2String (stringsFrom 0 (i .ends) (i .d2)) → BodyLimits m

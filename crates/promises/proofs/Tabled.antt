@@ -4,8 +4,9 @@ use mathlib.Core.Path.{refl}
 use mathlib.Core.Bool.{Bool}
 use mathlib.Core.List.{List, [], _∷_, _++_, map}
 use mathlib.Core.Option.{Option, none, some}
-use Prim.Native.Nat.{ℕ, _<_}
+use Prim.Native.Nat.{ℕ, _^_, _<_}
 use native.Mathlib.Omega.{arith}
+use lib.ListN.{length}
 use Rattle.foundation.specs.Choices.{mapOption, concat, All, IfSome}
 use Rattle.foundation.specs.Texts.{Text}
 use Rattle.foundation.proofs.ChoiceLaws.{all-append, all-concat, all-map}
@@ -16,13 +17,15 @@ use Rattle.characters.proofs.Utf8Laws.{utf8-well-formed}
 use Rattle.sheet.specs.Rows.{bit, Row}
 use Rattle.sheet.proofs.ReadBack.{InTable, bit-fits}
 use Rattle.sheet.proofs.RefsInOrder.{CellHas, RowHas}
-use Rattle.declaration_rows.specs.Declarations.{Types, noTypes, andType, Ty, Signature, Parameter, Constructor, Function, Property, Declarations}
+use Rattle.declaration_rows.specs.Declarations.{Types, noTypes, andType, Ty, Signature, Parameter, Constructor, Function, Property, Alias, Declarations}
 use Rattle.declaration_rows.specs.Rows.{
   returnRole,
   receiverRole,
   parameterRole,
   varargRole,
   argumentRole,
+  underlyingRole,
+  expandedRole,
   typesRows,
   typeRows,
   parameterRows,
@@ -30,8 +33,10 @@ use Rattle.declaration_rows.specs.Rows.{
   constructorRows,
   functionRows,
   propertyRows,
+  aliasRows,
+  aliasesRows,
 }
-use Rattle.schema.proofs.Fine.{FineTypes, FineTy, FineParameter, FineSignature, FineConstructor, FineFunction, FineProperty, FineDeclarations}
+use Rattle.schema.proofs.Fine.{FineTypes, FineTy, FineParameter, FineSignature, FineConstructor, FineFunction, FineProperty, FineAlias, FineDeclarations}
 use Rattle.descriptors.specs.Defaults.{Parts, functionParts, constructorParts, descriptor, defaultRow, closedConstructor, closedFunction}
 use Rattle.descriptors.proofs.WellFormedLaws.{function-well-formed, constructor-well-formed}
 use Rattle.declarations.specs.Payload.{declarationRows}
@@ -179,12 +184,28 @@ property-good p f = (
       (type-good returnRole (p .type) (omega arith) (f .type)),
 )
 
+alias-good : (a : Alias) → FineAlias a → All Good (aliasRows a)
+unfolding aliasRows
+alias-good a f = (
+  ((tt, ((refl, omega (arith, f .flags)), tt)), (utf8-well-formed (a .name) (f .name), (tt, tt))),
+  all-append Good (typeRows underlyingRole (a .underlying)) (typeRows expandedRole (a .expanded))
+      (type-good underlyingRole (a .underlying) (omega arith) (f .underlying)) (type-good expandedRole (a .expanded) (omega arith) (f .expanded)),
+)
+
+-- all aliases after their count
+aliases-good : (xs : List Alias) → length xs < 2 ^ 16 → All FineAlias xs → All Good (aliasesRows xs)
+aliases-good xs n f = (
+  (((refl, omega arith), tt), (tt, tt)),
+  all-concat Good (map aliasRows xs) (all-map FineAlias (All Good) aliasRows alias-good xs f),
+)
+
 pub rows-good : (kind : ℕ) (d : Declarations) → kind < 256 → FineDeclarations d → All Good (declarationRows kind d)
 unfolding declarationRows
 rows-good kind d k f =
     let cs = all-concat Good (map closedConstructor (d .constructors)) (all-map FineConstructor (All Good) closedConstructor constructor-good (d .constructors) (f .constructors)) in
     let fs = all-concat Good (map closedFunction (d .functions)) (all-map FineFunction (All Good) closedFunction function-good (d .functions) (f .functions)) in
-    let ps = all-concat Good (map propertyRows (d .properties)) (all-map FineProperty (All Good) propertyRows property-good (d .properties) (f .properties)) in (
+    let ps = all-concat Good (map propertyRows (d .properties)) (all-map FineProperty (All Good) propertyRows property-good (d .properties) (f .properties)) in
+    let after = concat (map propertyRows (d .properties)) ++ aliasesRows (d .aliases) in (
       (
         (
           (refl, omega arith),
@@ -204,6 +225,7 @@ rows-good kind d k f =
         ),
         (tt, (text-well-formed (d .name) (f .name), (tt, (tt, (tt, (tt, tt)))))),
       ),
-      all-append Good (concat (map closedConstructor (d .constructors))) (concat (map closedFunction (d .functions)) ++ concat (map propertyRows (d .properties))) cs
-          (all-append Good (concat (map closedFunction (d .functions))) (concat (map propertyRows (d .properties))) fs ps),
+      all-append Good (concat (map closedConstructor (d .constructors))) (concat (map closedFunction (d .functions)) ++ after) cs
+          (all-append Good (concat (map closedFunction (d .functions))) after fs
+          (all-append Good (concat (map propertyRows (d .properties))) (aliasesRows (d .aliases)) ps (aliases-good (d .aliases) (f .aliasCount) (f .aliases)))),
     )

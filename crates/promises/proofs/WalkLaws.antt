@@ -12,12 +12,12 @@ use lib.ListN.{length, length-append}
 use Rattle.foundation.specs.Choices.{mapOption, bothOf, concat, All, IfSome}
 use Rattle.foundation.specs.Texts.{Text}
 use Rattle.characters.specs.Characters.{utf8, fromUtf8}
-use Rattle.sheet.specs.Rows.{bit, Row}
-use Rattle.declaration_rows.specs.Declarations.{Types, noTypes, andType, Ty, countOf, Signature, Parameter, Constructor, Function, Property, Declarations, signed}
-use Rattle.declaration_rows.specs.Rows.{returnRole, receiverRole, parameterRole, varargRole, argumentRole, typesRows, typeRows, parameterRows, parametersRows, constructorRows, functionRows, propertyRows}
+use Rattle.sheet.specs.Rows.{num, bit, Row, row}
+use Rattle.declaration_rows.specs.Declarations.{Types, noTypes, andType, Ty, countOf, Signature, Parameter, Constructor, Function, Property, Alias, Declarations, signed}
+use Rattle.declaration_rows.specs.Rows.{returnRole, receiverRole, parameterRole, varargRole, argumentRole, underlyingRole, expandedRole, typesRows, typeRows, parameterRows, parametersRows, constructorRows, functionRows, propertyRows, aliasRows}
 use Rattle.characters.specs.told.CharactersTold.{Characters}
 use Rattle.characters.proofs.Utf8Laws.{utf8-back}
-use Rattle.schema.proofs.Fine.{Named, FineTypes, FineTy, FineParameter, FineSignature, FineConstructor, FineFunction, FineProperty, FineDeclarations}
+use Rattle.schema.proofs.Fine.{Named, FineTypes, FineTy, FineParameter, FineSignature, FineConstructor, FineFunction, FineProperty, FineAlias, FineDeclarations}
 use Rattle.descriptors.specs.Defaults.{functionParts, constructorParts, descriptor, defaultRow, closedConstructor, closedFunction}
 use Rattle.declarations.specs.Payload.{declarationRows}
 use Rattle.promises.specs.Walk.{
@@ -32,6 +32,7 @@ use Rattle.promises.specs.Walk.{
   walkConstructor,
   walkFunction,
   walkProperty,
+  walkAlias,
   walkSheet,
   closedOf,
   closedFunctionOf,
@@ -196,17 +197,40 @@ property-begins : (p : Property) (rest : List Row) → PastProperty (propertyRow
 unfolding propertyRows
 property-begins p rest = (refl, refl)
 
+-- no type stands after an alias that could be its own
+abbrev PastAlias : List Row → Type 0
+PastAlias rows = Apart underlyingRole rows × Apart expandedRole rows
+
+alias-walked : (a : Alias) (rest : List Row) → FineAlias a → PastAlias rest → walkAlias (aliasRows a ++ rest) ≡ some (takenRows a rest)
+unfolding walkAlias aliasRows
+alias-walked a rest f h =
+    let expanded = type-walked expandedRole (a .expanded) rest (f .expanded) (h .1) in
+    let underlying = type-walked underlyingRole (a .underlying) (typeRows expandedRole (a .expanded) ++ rest) (f .underlying)
+    (apart-from underlyingRole expandedRole (a .expanded) rest refl (h .0)) in
+    rw (
+      append-assoc (typeRows underlyingRole (a .underlying)) (typeRows expandedRole (a .expanded)) rest,
+      underlying,
+      expanded,
+      utf8-back (a .name) (f .name),
+    )
+
+alias-begins : (a : Alias) (rest : List Row) → PastAlias (aliasRows a ++ rest)
+unfolding aliasRows
+alias-begins a rest = (refl, refl)
+
 -- the whole sheet, to its last row
 pub sheet-walked : (kind : ℕ) (d : Declarations) → FineDeclarations d → walkSheet (declarationRows kind d) ≡ some (takenRows (sheetOf kind d) [])
 unfolding walkSheet declarationRows
 sheet-walked kind d f =
-    let cs = concat (map closedConstructor (d .constructors)) in
     let fs = concat (map closedFunction (d .functions)) in
     let ps = concat (map propertyRows (d .properties)) in
+    let xs = concat (map aliasRows (d .aliases)) in
+    let counted = row 9 (num 2 (length (d .aliases)) ∷ []) in
     let constructors = list-walked walkConstructor closedOf closedConstructor FineConstructor Anything constructor-walked (λ a rest. tt)
-    (d .constructors) (fs ++ ps) (f .constructors) tt in
+    (d .constructors) (fs ++ (ps ++ (counted ∷ xs))) (f .constructors) tt in
     let functions = list-walked walkFunction closedFunctionOf closedFunction FineFunction Anything function-walked (λ a rest. tt)
-    (d .functions) ps (f .functions) tt in
+    (d .functions) (ps ++ (counted ∷ xs)) (f .functions) tt in
     let properties = list-walked walkProperty (λ p. p) propertyRows FineProperty PastProperty property-walked property-begins
-    (d .properties) [] (f .properties) (tt, tt) in
-    rw (constructors, functions, ← append-nil ps, properties, map-same (d .properties), text-back (d .name) (f .name))
+    (d .properties) (counted ∷ xs) (f .properties) (refl, refl) in
+    let aliases = list-walked walkAlias (λ a. a) aliasRows FineAlias PastAlias alias-walked alias-begins (d .aliases) [] (f .aliases) (tt, tt) in
+    rw (constructors, functions, properties, ← append-nil xs, aliases, map-same (d .properties), map-same (d .aliases), text-back (d .name) (f .name))

@@ -136,7 +136,7 @@ index-weight k m = go (values k m)
     go [] = tt
     go (v ∷ vs) = there (ifSome (asVarint v) none as32) (weightOf (v ∷ vs)) (omega (arith, value-two v))
 
--- Fields of one number, of two and of three weigh no more than the message.
+-- Fields of up to four numbers weigh no more than the message.
 abbrev only : ℕ → Field → ℕ
 only k f = if eqb (f .number) k then takes (f .value) else 0
 
@@ -166,11 +166,38 @@ only-three a b c f h g = go (eqb (f .number) a) (eqb (f .number) b) (eqb (f .num
     go false false true p q r = omega arith
     go false false false p q r = omega arith
 
-pub three-weight : (a b c : ℕ) (m : Message) → a < b → b < c → weightOf (values a m) + weightOf (values b m) + weightOf (values c m) ≤ weight m
+-- of another number
+only-other : (a d : ℕ) (f : Field) → a < d → eqb (f .number) d ≡ true → only a f ≡ 0
+only-other a d f h q = go (eqb (f .number) a) refl
+  where
+    go : (x : Bool) → eqb (f .number) a ≡ x → (if x then takes (f .value) else 0) ≡ 0
+    go true p = absurd (omega (arith, eqb-true (f .number) a p, eqb-true (f .number) d q))
+    go false p = refl
+
+only-four : (a b c d : ℕ) (f : Field) → a < b → b < c → c < d → only a f + only b f + only c f + only d f ≤ takes (f .value)
+only-four a b c d f h g k = go (eqb (f .number) d) refl
+  where
+    go : (x : Bool) → eqb (f .number) d ≡ x → only a f + only b f + only c f + (if x then takes (f .value) else 0) ≤ takes (f .value)
+    go true q = omega (arith, only-other a d f (omega arith) q, only-other b d f (omega arith) q, only-other c d f k q)
+    go false q = omega (arith, only-three a b c f h g)
+
+pub four-weight : (a b c d : ℕ) (m : Message) → a < b → b < c → c < d
+    → weightOf (values a m) + weightOf (values b m) + weightOf (values c m) + weightOf (values d m) ≤ weight m
 unfolding values
-three-weight a b c [] h g = omega arith
-three-weight a b c (f ∷ m) h g =
-    omega (arith, values-only a f m, values-only b f m, values-only c f m, only-three a b c f h g, three-weight a b c m h g)
+four-weight a b c d [] h g k = omega arith
+four-weight a b c d (f ∷ m) h g k =
+    omega (
+      arith,
+      values-only a f m,
+      values-only b f m,
+      values-only c f m,
+      values-only d f m,
+      only-four a b c d f h g k,
+      four-weight a b c d m h g k,
+    )
+
+pub three-weight : (a b c : ℕ) (m : Message) → a < b → b < c → weightOf (values a m) + weightOf (values b m) + weightOf (values c m) ≤ weight m
+three-weight a b c m h g = omega (arith, four-weight a b c (c + 1) m h g (omega arith))
 
 pub two-weight : (a b : ℕ) (m : Message) → a < b → weightOf (values a m) + weightOf (values b m) ≤ weight m
 two-weight a b m h = omega (arith, three-weight a b (b + 1) m h (omega arith))

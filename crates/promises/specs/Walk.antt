@@ -11,9 +11,9 @@ use Rattle.foundation.specs.Texts.{Text}
 use Rattle.characters.specs.Characters.{fromUtf8}
 use Rattle.sheet.specs.Rows.{Cell, num, ref, Row}
 use Rattle.sheet.specs.Reading.{rowsOf}
-use Rattle.declaration_rows.specs.Declarations.{Types, noTypes, andType, Ty, Signature, Parameter, Constructor, Function, Property, Declarations, signed}
+use Rattle.declaration_rows.specs.Declarations.{Types, noTypes, andType, Ty, Signature, Parameter, Constructor, Function, Property, Alias, Declarations, signed}
 use Rattle.descriptors.specs.Defaults.{functionParts, constructorParts, descriptor}
-use Rattle.declaration_rows.specs.Rows.{returnRole, receiverRole, parameterRole, varargRole, argumentRole}
+use Rattle.declaration_rows.specs.Rows.{returnRole, receiverRole, parameterRole, varargRole, argumentRole, underlyingRole, expandedRole}
 
 abbrev pub numOf : Cell → ℕ
 numOf (num w n) = n
@@ -161,7 +161,15 @@ walkProperty =
       type = type;
     })
 
--- What a sheet says: its metadata kind, class name and flags, and its members.
+unfoldable pub walkAlias : Walker Alias
+walkAlias =
+    takeKind 8 >>= λ r.
+    present (textAt 0 r) >>= λ name.
+    walkType underlyingRole >>= λ underlying.
+    walkType expandedRole >>= λ expanded.
+    give (record { name = name; flags = numAt 1 r; underlying = underlying; expanded = expanded })
+
+-- What a sheet says: its metadata kind, class name and flags, its members and type aliases.
 pub record Sheet : Type 0 where
   pub kind : ℕ
   pub name : Option Text
@@ -169,14 +177,17 @@ pub record Sheet : Type 0 where
   pub constructors : List (Closed Constructor)
   pub functions : List (Closed Function)
   pub properties : List Property
+  pub aliases : List Alias
 
--- the head, and as many members of each list as it counts
+-- the head, and as many members of each list as it counts; then kind 9, and as many type aliases as it counts
 unfoldable pub walkSheet : Walker Sheet
 walkSheet =
     takeKind 1 >>= λ h.
     times (numAt 3 h) walkConstructor >>= λ constructors.
     times (numAt 4 h) walkFunction >>= λ functions.
     times (numAt 5 h) walkProperty >>= λ properties.
+    takeKind 9 >>= λ n.
+    times (numAt 0 n) walkAlias >>= λ aliases.
     give (record {
       kind = numAt 0 h;
       name = textAt 1 h;
@@ -184,6 +195,7 @@ walkSheet =
       constructors = constructors;
       functions = functions;
       properties = properties;
+      aliases = aliases;
     })
 
 -- no record is left over
@@ -210,4 +222,5 @@ sheetOf kind d = record {
   constructors = map closedOf (d .constructors);
   functions = map closedFunctionOf (d .functions);
   properties = d .properties;
+  aliases = d .aliases;
 }

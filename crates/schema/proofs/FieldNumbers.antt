@@ -25,6 +25,7 @@ use Rattle.schema.specs.Members.{
   constructorIn,
   functionIn,
   propertyIn,
+  aliasIn,
   listsIn,
   afterTable,
   bodyIn,
@@ -34,13 +35,15 @@ use Rattle.schema.specs.Members.{
 pub names : Names
 names = record { records = []; d2 = λ i. ok (getElem? (ascii "C" ∷ ascii "n" ∷ ascii "T" ∷ ascii "d" ∷ ascii "U" ∷ []) i) }
 
+-- field 5 is there too, an alias in a package alone
 pub class : List ℕ
 class =
     8 ∷ 7 ∷ 24 ∷ 0 ∷ 66 ∷ 23 ∷ 8 ∷ 5 ∷ 18 ∷ 12 ∷ 8 ∷ 2 ∷ 16 ∷ 1 ∷ 26 ∷ 2 ∷ 48 ∷ 2 ∷ 34 ∷ 2 ∷ 48 ∷ 4 ∷ 162 ∷ 6 ∷ 4 ∷ 8 ∷ 1 ∷ 16 ∷ 3 ∷
     74 ∷ 30 ∷ 16 ∷ 1 ∷ 26 ∷ 4 ∷ 24 ∷ 1 ∷ 48 ∷ 2 ∷ 42 ∷ 2 ∷ 48 ∷ 4 ∷ 50 ∷ 6 ∷ 16 ∷ 1 ∷ 40 ∷ 0 ∷ 48 ∷ 0 ∷ 72 ∷ 134 ∷ 64 ∷ 162 ∷ 6 ∷ 4 ∷
     8 ∷ 1 ∷ 16 ∷ 3 ∷ 74 ∷ 6 ∷ 16 ∷ 1 ∷ 56 ∷ 0 ∷ 64 ∷ 0 ∷ 82 ∷ 45 ∷ 16 ∷ 1 ∷ 26 ∷ 2 ∷ 48 ∷ 2 ∷ 42 ∷ 10 ∷ 18 ∷ 6 ∷ 8 ∷ 2 ∷ 18 ∷ 2 ∷ 48 ∷
     4 ∷ 48 ∷ 2 ∷ 56 ∷ 64 ∷ 64 ∷ 0 ∷ 88 ∷ 7 ∷ 162 ∷ 6 ∷ 18 ∷ 10 ∷ 4 ∷ 8 ∷ 1 ∷ 16 ∷ 3 ∷ 26 ∷ 4 ∷ 8 ∷ 1 ∷ 16 ∷ 3 ∷ 34 ∷ 4 ∷ 8 ∷ 1 ∷ 16 ∷
-    3 ∷ 82 ∷ 6 ∷ 16 ∷ 1 ∷ 72 ∷ 0 ∷ 80 ∷ 0 ∷ 242 ∷ 1 ∷ 14 ∷ 10 ∷ 6 ∷ 18 ∷ 2 ∷ 24 ∷ 1 ∷ 48 ∷ 2 ∷ 10 ∷ 2 ∷ 48 ∷ 4 ∷ 16 ∷ 1 ∷ []
+    3 ∷ 82 ∷ 6 ∷ 16 ∷ 1 ∷ 72 ∷ 0 ∷ 80 ∷ 0 ∷ 90 ∷ 12 ∷ 8 ∷ 7 ∷ 16 ∷ 1 ∷ 34 ∷ 2 ∷ 48 ∷ 2 ∷ 50 ∷ 2 ∷ 48 ∷ 4 ∷ 90 ∷ 6 ∷ 16 ∷ 1 ∷ 40 ∷ 0 ∷ 56 ∷ 1 ∷ 42 ∷ 2 ∷ 16 ∷ 1 ∷
+    242 ∷ 1 ∷ 14 ∷ 10 ∷ 6 ∷ 18 ∷ 2 ∷ 24 ∷ 1 ∷ 48 ∷ 2 ∷ 10 ∷ 2 ∷ 48 ∷ 4 ∷ 16 ∷ 1 ∷ []
 
 abbrev plain : Text → Ty
 plain n = record { nullable = false; name = some n; arguments = noTypes }
@@ -111,19 +114,28 @@ expected = record {
         type = some entry;
       }
       ∷ [];
+  aliases =
+      record { name = ascii "n"; flags = 7; underlying = some (plain (ascii "T")); expanded = some (plain (ascii "U")) }
+      ∷ record {
+        name = ascii "n";
+        flags = 6;
+        underlying = some entry;
+        expanded = some (record { nullable = true; name = some (ascii "U"); arguments = noTypes });
+      }
+      ∷ [];
 }
 
-pub field-numbers : Results._>>=_ (cut (_from_ 0 class)) (λ m. bodyIn true names m allowance) ≡ ok (expected, 2029)
+pub field-numbers : Results._>>=_ (cut (_from_ 0 class)) (λ m. bodyIn true names m allowance) ≡ ok (expected, 2024)
 unfolding
     names class expected groupsFrom readVarint readBytes readDelimited readFixed readValue readField repeated cut values varintOf index flag
     bytesOf message bodiesOf cutAll messages recordAt string withoutLast qualifiedName kept nameIn classNameIn resolveAt typeIn argumentIn
     parseAt typeAt declaredType typeTableIn signatureOf signatureIn fieldOf fieldIn parameterIn listIn constructorIn functionIn propertyIn
-    listsIn afterTable bodyIn
+    aliasIn listsIn afterTable bodyIn
 field-numbers = refl
 
--- a package: a function, a property, a type table
+-- a package: a function, a property, an alias, a type table
 pub file : List ℕ
-file = 0x1a ∷ 4 ∷ 16 ∷ 1 ∷ 56 ∷ 0 ∷ 0x22 ∷ 4 ∷ 16 ∷ 1 ∷ 72 ∷ 1 ∷ 0xf2 ∷ 1 ∷ 10 ∷ 10 ∷ 2 ∷ 48 ∷ 2 ∷ 10 ∷ 2 ∷ 48 ∷ 4 ∷ 16 ∷ 1 ∷ []
+file = 0x1a ∷ 4 ∷ 16 ∷ 1 ∷ 56 ∷ 0 ∷ 0x22 ∷ 4 ∷ 16 ∷ 1 ∷ 72 ∷ 1 ∷ 0x2a ∷ 2 ∷ 16 ∷ 1 ∷ 0xf2 ∷ 1 ∷ 10 ∷ 10 ∷ 2 ∷ 48 ∷ 2 ∷ 10 ∷ 2 ∷ 48 ∷ 4 ∷ 16 ∷ 1 ∷ []
 
 pub expectedOfPackage : Declarations
 expectedOfPackage = record {
@@ -155,6 +167,7 @@ expectedOfPackage = record {
         type = some (record { nullable = true; name = some (ascii "U"); arguments = noTypes });
       }
       ∷ [];
+  aliases = record { name = ascii "n"; flags = 6; underlying = none; expanded = none } ∷ [];
 }
 
 pub package-field-numbers : Results._>>=_ (cut (_from_ 0 file)) (λ m. bodyIn false names m allowance) ≡ ok (expectedOfPackage, 2046)
@@ -162,5 +175,5 @@ unfolding
     names file expectedOfPackage groupsFrom readVarint readBytes readDelimited readFixed readValue readField repeated cut values varintOf
     index flag bytesOf message bodiesOf cutAll messages recordAt string withoutLast qualifiedName kept nameIn classNameIn resolveAt typeIn
     argumentIn parseAt typeAt declaredType typeTableIn signatureOf signatureIn fieldOf fieldIn parameterIn listIn constructorIn functionIn
-    propertyIn listsIn afterTable bodyIn
+    propertyIn aliasIn listsIn afterTable bodyIn
 package-field-numbers = refl

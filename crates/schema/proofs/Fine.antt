@@ -21,10 +21,10 @@ use Rattle.wire.proofs.Bounds.{Bounded, varintOf-below, message-bounded, messag
 use Rattle.characters.specs.Characters.{isScalar}
 use Rattle.characters.specs.told.CharactersTold.{Characters}
 use Rattle.names.specs.Names.{Names, string, qualifiedName}
-use Rattle.declaration_rows.specs.Declarations.{Types, noTypes, andType, Ty, typesOf, countOf, Signature, Parameter, Constructor, Function, Property, Declarations, signed}
+use Rattle.declaration_rows.specs.Declarations.{Types, noTypes, andType, Ty, typesOf, countOf, Signature, Parameter, Constructor, Function, Property, Alias, Declarations, signed}
 use Rattle.schema.specs.Reading.{Read, pure, _>>=_, lift, enter, keep, kept, Scope, scope, nameIn, classNameIn, allowance}
 use Rattle.schema.specs.Types.{Walk, maxDepth, resolveAt, typeIn, argumentIn, parseAt, typeAt, declaredType, typeTableIn}
-use Rattle.schema.specs.Members.{flagsIn, named, signatureOf, signatureIn, fieldOf, forgiven, fieldIn, ofSignature, parameterIn, listIn, constructorIn, functionIn, propertyIn, Head, headIn, constructorsIn, functionField, propertyField, listsIn, afterTable, bodyIn}
+use Rattle.schema.specs.Members.{flagsIn, named, signatureOf, signatureIn, fieldOf, forgiven, fieldIn, ofSignature, parameterIn, listIn, constructorIn, functionIn, propertyIn, aliasIn, Head, headIn, constructorsIn, functionField, propertyField, aliasField, listsIn, afterTable, bodyIn}
 
 -- each of them a Unicode scalar value
 -- Fine is what its row can say: names of characters, flags of 64 bits, counts of 16.
@@ -76,15 +76,23 @@ pub record FineProperty (p : Property) : Type 0 where
   pub receiver : IfSome FineTy (p .receiver)
   pub type : IfSome FineTy (p .type)
 
+pub record FineAlias (a : Alias) : Type 0 where
+  pub name : Characters (a .name)
+  pub flags : a .flags < 2 ^ 64
+  pub underlying : IfSome FineTy (a .underlying)
+  pub expanded : IfSome FineTy (a .expanded)
+
 pub record FineDeclarations (d : Declarations) : Type 0 where
   pub name : IfSome Characters (d .name)
   pub flags : d .flags < 2 ^ 64
   pub constructorCount : length (d .constructors) < 2 ^ 16
   pub functionCount : length (d .functions) < 2 ^ 16
   pub propertyCount : length (d .properties) < 2 ^ 16
+  pub aliasCount : length (d .aliases) < 2 ^ 16
   pub constructors : All FineConstructor (d .constructors)
   pub functions : All FineFunction (d .functions)
   pub properties : All FineProperty (d .properties)
+  pub aliases : All FineAlias (d .aliases)
 
 -- A name table is fine if it gives characters alone.
 pub record NamesFine (n : Names) : Type 0 where
@@ -334,6 +342,14 @@ module _ {n : ℕ} (few : n < 2 ^ 16) {s : Scope} (f : ScopeFine n s) where
       reads-bind (reads-declaredType few f _ _ m b) λ type t.
       reads-pure (record { name = c; flags = flagsIn-below _ m b; field = x; getter = y; setter = z; receiver = v; type = t })
 
+  pub reads-aliasIn : (m : Message) → Bounded n m → Reads (IfSome FineAlias) (aliasIn s m)
+  unfolding aliasIn
+  reads-aliasIn m b =
+      reads-bind (reads-nameIn f _ m) λ o c. reads-named o c λ name c.
+      reads-bind (reads-declaredType few f _ _ m b) λ underlying u.
+      reads-bind (reads-declaredType few f _ _ m b) λ expanded x.
+      reads-pure (record { name = c; flags = flagsIn-below _ m b; underlying = u; expanded = x })
+
   abbrev FineHead : Head → Type 0
   FineHead h = IfSome Characters (h .name) × (h .flags < 2 ^ 64)
 
@@ -352,15 +368,18 @@ module _ {n : ℕ} (few : n < 2 ^ 16) {s : Scope} (f : ScopeFine n s) where
       reads-bind (reads-constructorsIn class m b) λ constructors p.
       reads-bind (reads-listIn reads-functionIn (functionField class) m b) λ functions q.
       reads-bind (reads-listIn reads-propertyIn (propertyField class) m b) λ properties r.
+      reads-bind (reads-listIn reads-aliasIn (aliasField class) m b) λ aliases t.
       reads-pure (record {
         name = c .0;
         flags = c .1;
         constructorCount = lt-of-le-of-lt (p .1) few;
         functionCount = lt-of-le-of-lt (q .1) few;
         propertyCount = lt-of-le-of-lt (r .1) few;
+        aliasCount = lt-of-le-of-lt (t .1) few;
         constructors = p .0;
         functions = q .0;
         properties = r .0;
+        aliases = t .0;
       })
 
   pub reads-afterTable : (class : Bool) (m : Message) → Bounded n m → Reads FineDeclarations (afterTable class s m)

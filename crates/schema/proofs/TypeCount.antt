@@ -18,7 +18,7 @@ use Rattle.wire.specs.Wire.{Message}
 use Rattle.wire.specs.Messages.{index, message, messages}
 use Rattle.names.specs.Names.{Names, string, qualifiedName}
 use Rattle.sheet.specs.Rows.{Row}
-use Rattle.declaration_rows.specs.Declarations.{Types, noTypes, andType, Ty, typesOf, Signature, Parameter, Constructor, Function, Property}
+use Rattle.declaration_rows.specs.Declarations.{Types, noTypes, andType, Ty, typesOf, Signature, Parameter, Constructor, Function, Property, Alias}
 use Rattle.schema.specs.Reading.{Read, pure, _>>=_, lift, enter, keep, kept, Scope, scope, nameIn, classNameIn, allowance}
 use Rattle.schema.specs.Types.{Walk, maxDepth, resolveAt, typeIn, argumentIn, parseAt, typeAt, declaredType, noTable, typeTableIn}
 use Rattle.schema.specs.Members.{
@@ -34,11 +34,13 @@ use Rattle.schema.specs.Members.{
   constructorIn,
   functionIn,
   propertyIn,
+  aliasIn,
   Head,
   headIn,
   constructorsIn,
   functionField,
   propertyField,
+  aliasField,
   listsIn,
   afterTable,
   bodyIn,
@@ -52,6 +54,7 @@ use Rattle.declaration_rows.specs.Rows.{
   constructorRows,
   functionRows,
   propertyRows,
+  aliasRows,
 }
 use Rattle.schema.specs.Counting.{countKind}
 use Rattle.schema.specs.told.TypeSizes.{
@@ -63,6 +66,7 @@ use Rattle.schema.specs.told.TypeSizes.{
   constructorSize,
   functionSize,
   propertySize,
+  aliasSize,
   declarationsSize,
 }
 
@@ -249,6 +253,13 @@ module _ (s : Scope) where
       enters-after (quiet-ofSignature (quiet-signatureIn s _ _) signature) λ setter.
       enters-bind (enters-declaredType s _ _ m) λ type. enters-pure _ (omega arith)
 
+  pub enters-aliasIn : (m : Message) → Enters 0 (sizeIfSome aliasSize) (aliasIn s m)
+  unfolding aliasIn
+  enters-aliasIn m =
+      enters-after (quiet-nameIn s _ m) λ n. enters-named n λ name.
+      enters-bind (enters-declaredType s _ _ m) λ underlying.
+      enters-bind (enters-declaredType s _ _ m) λ expanded. enters-pure _ (omega arith)
+
 module _ (s : Scope) (class : Bool) (m : Message) where
   quiet-headIn : Quiet (headIn class s m)
   quiet-headIn = go class
@@ -269,7 +280,8 @@ module _ (s : Scope) (class : Bool) (m : Message) where
   enters-listsIn h =
       enters-bind enters-constructorsIn λ constructors.
       enters-bind (enters-listIn (enters-functionIn s) (functionField class) m) λ functions.
-      enters-bind (enters-listIn (enters-propertyIn s) (propertyField class) m) λ properties. enters-pure _ (omega arith)
+      enters-bind (enters-listIn (enters-propertyIn s) (propertyField class) m) λ properties.
+      enters-bind (enters-listIn (enters-aliasIn s) (aliasField class) m) λ aliases. enters-pure _ (omega arith)
 
   pub enters-afterTable : Enters 0 declarationsSize (afterTable class s m)
   unfolding afterTable
@@ -330,3 +342,7 @@ function-count f = simp (count-append, type-count, parameters-count) (omega arit
 pub property-count : (p : Property) → countKind 6 (propertyRows p) ≡ propertySize p
 unfolding propertyRows
 property-count p = simp (count-append, type-count) (omega arith)
+
+pub alias-count : (a : Alias) → countKind 6 (aliasRows a) ≡ aliasSize a
+unfolding aliasRows
+alias-count a = simp (count-append, type-count) (omega arith)

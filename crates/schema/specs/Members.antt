@@ -1,4 +1,4 @@
--- Parameters, constructors, functions, properties, and the bodies of classes and packages, each read in document 01's order.
+-- Parameters, constructors, functions, properties, type aliases, and the bodies of classes and packages, each read in document 01's order.
 -- Assumes nothing.
 use mathlib.Core.Bool.{Bool, true, false, not, _||_}
 use mathlib.Core.List.{List, []}
@@ -8,11 +8,11 @@ use lib.Dec.{eqb}
 use Rattle.foundation.specs.Choices.{ifSome, isSome, mapOption, orElse, bothOf}
 use Rattle.foundation.specs.Results.{Res, ok, refused}
 use Rattle.foundation.specs.Texts.{Text, ascii}
-use Rattle.fields.specs.Fields.{Class·flags, Class·fq-name, Class·constructor, Class·function, Class·property, Class·type-table, Package·function, Package·property, Package·type-table, Constructor·flags, Constructor·value-parameter, Constructor·constructor-signature, Function·name, Function·return-type, Function·receiver-type, Function·value-parameter, Function·return-type-id, Function·receiver-type-id, Function·flags, Function·method-signature, Property·name, Property·return-type, Property·receiver-type, Property·getter-flags, Property·setter-flags, Property·return-type-id, Property·receiver-type-id, Property·flags, Property·property-signature, ValueParameter·flags, ValueParameter·name, ValueParameter·type, ValueParameter·vararg-element-type, ValueParameter·type-id, ValueParameter·vararg-element-type-id, JvmMethodSignature·name, JvmMethodSignature·desc, JvmFieldSignature·name, JvmFieldSignature·desc, JvmPropertySignature·field, JvmPropertySignature·getter, JvmPropertySignature·setter, omittedFlags, omittedSmallFlags}
+use Rattle.fields.specs.Fields.{Class·flags, Class·fq-name, Class·constructor, Class·function, Class·property, Class·type-alias, Class·type-table, Package·function, Package·property, Package·type-alias, Package·type-table, Constructor·flags, Constructor·value-parameter, Constructor·constructor-signature, Function·name, Function·return-type, Function·receiver-type, Function·value-parameter, Function·return-type-id, Function·receiver-type-id, Function·flags, Function·method-signature, Property·name, Property·return-type, Property·receiver-type, Property·getter-flags, Property·setter-flags, Property·return-type-id, Property·receiver-type-id, Property·flags, Property·property-signature, TypeAlias·flags, TypeAlias·name, TypeAlias·underlying-type, TypeAlias·underlying-type-id, TypeAlias·expanded-type, TypeAlias·expanded-type-id, ValueParameter·flags, ValueParameter·name, ValueParameter·type, ValueParameter·vararg-element-type, ValueParameter·type-id, ValueParameter·vararg-element-type-id, JvmMethodSignature·name, JvmMethodSignature·desc, JvmFieldSignature·name, JvmFieldSignature·desc, JvmPropertySignature·field, JvmPropertySignature·getter, JvmPropertySignature·setter, omittedFlags, omittedSmallFlags}
 use Rattle.wire.specs.Wire.{Message}
 use Rattle.wire.specs.Messages.{value, varintOf, message, messages}
 use Rattle.names.specs.Names.{Names}
-use Rattle.declaration_rows.specs.Declarations.{Ty, Signature, signed, Parameter, Constructor, Function, Property, Declarations}
+use Rattle.declaration_rows.specs.Declarations.{Ty, Signature, signed, Parameter, Constructor, Function, Property, Alias, Declarations}
 use Rattle.schema.specs.Reading.{Read, pure, _>>=_, lift, kept, Scope, scope, nameIn, classNameIn}
 use Rattle.schema.specs.Types.{declaredType, typeTableIn}
 
@@ -134,6 +134,14 @@ propertyIn s m =
       type = type;
     })
 
+-- Omitted flags are 6 by metadata.proto too.
+unfoldable pub aliasIn : Scope → Message → Read (Option Alias)
+aliasIn s m =
+    nameIn s TypeAlias·name m >>= λ n. named n λ name.
+    declaredType s TypeAlias·underlying-type TypeAlias·underlying-type-id m >>= λ underlying.
+    declaredType s TypeAlias·expanded-type TypeAlias·expanded-type-id m >>= λ expanded.
+    pure (record { name = name; flags = flagsIn TypeAlias·flags m; underlying = underlying; expanded = expanded })
+
 -- A class name and flags.
 pub record Head : Type 0 where
   pub name : Option Text
@@ -151,7 +159,7 @@ abbrev pub constructorsIn : Bool → Scope → Message → Read (List Constructo
 constructorsIn true s m = listIn (constructorIn s) Class·constructor m
 constructorsIn false s m = pure []
 
--- where the functions, the properties and the type table stand
+-- where the functions, the properties, the type aliases and the type table stand
 abbrev pub functionField : Bool → ℕ
 functionField true = Class·function
 functionField false = Package·function
@@ -160,22 +168,28 @@ abbrev pub propertyField : Bool → ℕ
 propertyField true = Class·property
 propertyField false = Package·property
 
+abbrev pub aliasField : Bool → ℕ
+aliasField true = Class·type-alias
+aliasField false = Package·type-alias
+
 abbrev pub typeTableField : Bool → ℕ
 typeTableField true = Class·type-table
 typeTableField false = Package·type-table
 
--- constructors, functions, properties
+-- constructors, functions, properties, type aliases
 unfoldable pub listsIn : Bool → Head → Scope → Message → Read Declarations
 listsIn class h s m =
     constructorsIn class s m >>= λ constructors.
     listIn (functionIn s) (functionField class) m >>= λ functions.
     listIn (propertyIn s) (propertyField class) m >>= λ properties.
+    listIn (aliasIn s) (aliasField class) m >>= λ aliases.
     pure (record {
       name = h .name;
       flags = h .flags;
       constructors = constructors;
       functions = functions;
       properties = properties;
+      aliases = aliases;
     })
 
 -- what follows the type table

@@ -33,7 +33,7 @@ pub data Form : Type 0 where
   wide : ℕ → Form  -- a number of that width
   text : Form  -- a ref
 
--- document 01's table, kinds 1 to 7
+-- document 01's table, kinds 1 to 7, and document 02's type aliases, kinds 8 and 9
 abbrev pub recordTable : List (List Form)
 recordTable =
     -- 1 head: metadata kind, class name, flags, counts of constructors, functions, properties
@@ -50,6 +50,10 @@ recordTable =
     ∷ (wide 1 ∷ wide 1 ∷ text ∷ wide 2 ∷ [])
     -- 7 default descriptor
     ∷ (text ∷ [])
+    -- 8 type alias: name, flags
+    ∷ (text ∷ wide 8 ∷ [])
+    -- 9 count of type aliases
+    ∷ (wide 2 ∷ [])
     ∷ []
 
 -- the body that the table has for a kind

@@ -9,7 +9,7 @@ ghost use Rattle.promises.specs.Promises.{Promised, Enough};
 ghost use Rattle.sheet_calls.specs.Calls.{toldIn, DemandWithAny};
 use metadata::read;
 
-// `read`, with the answer's number, detail, sheet length, text length and types in this order. Areas of 411,644 and 65,534 bytes are always enough.
+// `read`, with the answer's number, detail, sheet length, text length and types in this order. Areas of 411,647 and 65,534 bytes are always enough.
 // Of an accepted answer (number 0) it ensures what is promised of every sheet and, with any second one, demand 3. Nothing is asked of what is handed in.
 #[no_mangle]
 pub extern "C" fn sheet_read(

@@ -1,4 +1,4 @@
-//! Constructors, functions, properties, classes and packages.
+//! Constructors, functions, properties, type aliases, classes and packages.
 
 use super::fields::Fields;
 use super::Maker;
@@ -103,6 +103,27 @@ impl Maker<'_> {
         self.joined(fields)
     }
 
+    /// A type alias: its types stand inline, by index, or both.
+    pub(super) fn alias(&mut self) -> Vec<u8> {
+        let mut fields = Fields::new();
+        self.flags(&mut fields, 1);
+        self.name(&mut fields, 2);
+        self.declared(&mut fields, 4, 5, 0);
+        self.declared(&mut fields, 6, 7, 0);
+        self.joined(fields)
+    }
+
+    /// In one body of three, so that the original can be held to the others. Seldom they stand in the field that is another's.
+    pub(super) fn aliases(&mut self, fields: &mut Fields, field: u32, of_the_other: u32) {
+        if self.random.once_in(3) {
+            self.members(fields, field, Self::alias);
+        }
+        if self.random.once_in(10) {
+            self.members(fields, of_the_other, Self::alias);
+        }
+        self.odd_before(fields, field);
+    }
+
     pub(super) fn members(&mut self, fields: &mut Fields, field: u32, make: fn(&mut Self) -> Vec<u8>) {
         for _ in 0..*self.random.pick(&[0, 1, 1, 2, 5]) {
             let member = make(self);
@@ -117,6 +138,7 @@ impl Maker<'_> {
         self.members(&mut fields, 8, Self::constructor);
         self.members(&mut fields, 9, Self::function);
         self.members(&mut fields, 10, Self::property);
+        self.aliases(&mut fields, 11, 5);
         self.type_table(&mut fields);
         self.joined(fields)
     }
@@ -128,6 +150,7 @@ impl Maker<'_> {
         if self.random.once_in(8) {
             self.members(&mut fields, 8, Self::constructor);
         }
+        self.aliases(&mut fields, 5, 11);
         self.type_table(&mut fields);
         self.joined(fields)
     }

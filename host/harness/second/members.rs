@@ -12,6 +12,7 @@ pub struct Class {
     pub constructors: Vec<Constructor>,
     pub functions: Vec<Function>,
     pub properties: Vec<Property>,
+    pub aliases: Vec<Alias>,
     pub types: u64,
 }
 
@@ -51,6 +52,14 @@ pub struct Property {
     pub ty: Option<Type>,
 }
 
+/// A type alias: what it was declared to be, and that with every alias in it put in full.
+pub struct Alias {
+    pub name: u32,
+    pub flags: u64,
+    pub underlying: Option<Type>,
+    pub expanded: Option<Type>,
+}
+
 /// A signature whose name and descriptor are both usable.
 #[derive(Clone, Copy)]
 pub struct Signature {
@@ -85,6 +94,11 @@ pub fn class(body: &Message<'_>, kind: u8, names: &Names<'_>) -> Result<Class, R
         .iter()
         .filter_map(|message| property(message, names, &mut types).transpose())
         .collect::<Result<_, _>>()?;
+    let aliases = body
+        .messages(alias_field(kind))?
+        .iter()
+        .filter_map(|message| alias(message, names, &mut types).transpose())
+        .collect::<Result<_, _>>()?;
     Ok(Class {
         kind,
         name: body.index(3).filter(|_| is_class),
@@ -92,8 +106,23 @@ pub fn class(body: &Message<'_>, kind: u8, names: &Names<'_>) -> Result<Class, R
         constructors,
         functions,
         properties,
+        aliases,
         types: types.entered,
     })
+}
+
+/// The body's field for type aliases; field 5 of a class is something else.
+fn alias_field(kind: u8) -> u32 {
+    match kind {
+        1 if planted(Mistake::ClassAliasField) => 5,
+        1 => 11,
+        _ => 5,
+    }
+}
+
+/// Whether the body holds a type alias, with or without a name. Another wire type makes none.
+pub fn has_aliases(body: &Message<'_>, kind: u8) -> bool {
+    body.has_message(if kind == 1 { 11 } else { 5 })
 }
 
 /// An index that leads to a string.
@@ -196,4 +225,21 @@ fn property<'a>(message: &Message<'a>, names: &Names<'_>, types: &mut Types<'a>)
         receiver,
         ty,
     }))
+}
+
+fn alias<'a>(message: &Message<'a>, names: &Names<'_>, types: &mut Types<'a>) -> Result<Option<Alias>, Refused> {
+    let Some(name) = usable(message, 2, names) else {
+        if planted(Mistake::SkippedAliasRead) {
+            types.declared(message, 4, 5)?;
+        }
+        return Ok(None);
+    };
+    let (underlying, expanded) = if planted(Mistake::ExpandedFirst) {
+        let expanded = types.declared(message, 6, 7)?;
+        (types.declared(message, 4, 5)?, expanded)
+    } else {
+        let underlying = types.declared(message, 4, 5)?;
+        (underlying, types.declared(message, 6, 7)?)
+    };
+    Ok(Some(Alias { name, flags: message.number(1).unwrap_or(OMITTED), underlying, expanded }))
 }

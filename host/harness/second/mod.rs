@@ -31,11 +31,13 @@ pub struct Reading {
     pub record_bytes: u64,
     /// What the ranges of the name records sum to.
     pub ranges: u64,
+    /// Whether the body could be cut into its fields and holds a type alias, named or not.
+    pub aliases: bool,
 }
 
 /// The reading apart from the areas.
 pub fn read(input: &Input) -> Reading {
-    let mut reading = Reading { whole: Whole::default(), text_total: 0, record_bytes: 0, ranges: 0 };
+    let mut reading = Reading { whole: Whole::default(), text_total: 0, record_bytes: 0, ranges: 0, aliases: false };
     if let Some(number) = limits::before_reading(input) {
         reading.whole = Whole::refused(number, 0);
         return reading;
@@ -67,6 +69,7 @@ fn payload(bytes: &[u8], input: &Input, kind: u8, reading: &mut Reading) -> Resu
     let strings: Vec<&[u16]> = input.strings().collect();
     let names = names::Names::of(table, &strings, reading)?;
     let body = wire::cut(&bytes[at..])?;
+    reading.aliases = members::has_aliases(&body, kind);
     let class = members::class(&body, kind, &names)?;
     let mut out = sheet::Writer::default();
     out.class(&class, &names);

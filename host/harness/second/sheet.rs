@@ -1,7 +1,7 @@
 //! Records and texts, by the specification's table.
 
 use super::descriptors;
-use super::members::{Class, Constructor, Function, Parameter, Property, Signature, SignatureName};
+use super::members::{Alias, Class, Constructor, Function, Parameter, Property, Signature, SignatureName};
 use super::mistakes::{planted, Mistake};
 use super::names::Names;
 use super::types::Type;
@@ -21,6 +21,9 @@ impl Writer {
         self.text(None);
         self.number(6, 8);
         self.number(0, 6);
+        if !planted(Mistake::HeadsWithoutAliases) {
+            self.alias_count(0);
+        }
     }
 
     pub fn class(&mut self, class: &Class, names: &Names<'_>) {
@@ -39,6 +42,7 @@ impl Writer {
         for property in &class.properties {
             self.property(property, names);
         }
+        self.aliases(&class.aliases, names);
     }
 
     fn constructor(&mut self, constructor: &Constructor, names: &Names<'_>) {
@@ -100,6 +104,27 @@ impl Writer {
         self.bytes.extend(setter);
         self.text = later.text;
         self.text_total = later.text_total;
+    }
+
+    /// It stands also where there are no aliases.
+    fn alias_count(&mut self, count: usize) {
+        self.bytes.push(9);
+        self.number(count as u64, 2);
+    }
+
+    fn aliases(&mut self, aliases: &[Alias], names: &Names<'_>) {
+        if aliases.is_empty() && planted(Mistake::NoEmptyAliases) {
+            return;
+        }
+        self.alias_count(aliases.len());
+        for alias in aliases {
+            self.bytes.push(8);
+            self.text(names.string(alias.name));
+            let flags = if planted(Mistake::AliasFlagsCut) { u64::from(alias.flags as u32) } else { alias.flags };
+            self.number(flags, 8);
+            self.declared(6, &alias.underlying, names);
+            self.declared(7, &alias.expanded, names);
+        }
     }
 
     fn parameters(&mut self, parameters: &[Parameter], names: &Names<'_>) {

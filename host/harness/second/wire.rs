@@ -128,6 +128,11 @@ impl<'a> Message<'a> {
         self.bytes(field).map(cut).transpose()
     }
 
+    /// Whether a length-delimited occurrence of the field is there.
+    pub fn has_message(&self, field: u32) -> bool {
+        self.parts(field).next().is_some()
+    }
+
     fn parts(&self, field: u32) -> impl Iterator<Item = &'a [u8]> + '_ {
         self.all(field).filter_map(|value| match value {
             Value::Bytes(bytes) => Some(bytes),

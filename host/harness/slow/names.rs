@@ -56,6 +56,7 @@ fn places() -> Vec<Place> {
     let returning = |ty: &[u8]| bytes(3, &function_with(SHORT, &bytes(3, ty)));
     let signature = [number(1, 0), number(2, 0)].concat();
     let three = [bytes(1, &signature), bytes(3, &signature), bytes(4, &signature)].concat();
+    let alias = [number(2, 0), bytes(4, &slow_type), bytes(6, &slow_type)].concat();
     let place = |words, member, types| Place { words, member, types };
     vec![
         place("name of each property", bytes(4, &number(2, 0)), 0),
@@ -65,6 +66,7 @@ fn places() -> Vec<Place> {
         place("name and signature of each function", bytes(3, &function_with(0, &bytes(100, &signature))), 0),
         place("name and signatures of each property", bytes(4, &[number(2, 0), bytes(100, &three)].concat()), 0),
         place("name of each function, written twice", bytes(3, &number(2, 0)), 0),
+        place("name and both types of each alias", bytes(5, &alias), 2),
     ]
 }
 

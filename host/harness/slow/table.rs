@@ -11,6 +11,7 @@ pub fn inputs() -> Vec<Slow> {
     let strangers = |count: usize| [number(6, 1), vec![0; 2 * count]].concat();
     let failing = |count: usize| [number(6, 1), looked_up_argument(900).repeat(count)].concat();
     let half = by_index.repeat(2047);
+    let aliases = bytes(5, &[number(2, 0), number(5, 0), number(7, 0)].concat()).repeat(1023);
     let inputs = vec![
         ("a large entry of failing lookups, entered 1,024 times", body(by_index.clone(), &doubling(true))),
         ("2,047 types by index", body(by_index, &doubling(false))),
@@ -18,6 +19,7 @@ pub fn inputs() -> Vec<Slow> {
             "an entry with 8,000 fields that nothing asks for, each function's type",
             body(half.clone(), &[strangers(8000)]),
         ),
+        ("the same entry, both types of each alias", body(aliases, &[strangers(8000)])),
         ("an array with 3,000 failing arguments, each function's type", body(half, &[failing(3000)])),
     ];
     let slow = |(words, body): (&str, Vec<u8>)| {

@@ -25,6 +25,7 @@ const LONG_STRANGER: [u8; 6] = [0xf8, 0xff, 0x01, 0x80, 0x80, 0x01];
 fn members() -> Vec<Slow> {
     let function = |rest: &[u8]| package(&[], &bytes(3, &function_with(0, rest)), &names());
     let property = |rest: &[u8]| package(&[], &bytes(4, &function_with(0, rest)), &names());
+    let alias = |rest: &[u8]| package(&[], &bytes(5, &function_with(0, rest)), &names());
     let parameter = |rest: &[u8]| bytes(6, &function_with(0, rest));
     let long = filled(&LONG_STRANGER, 32);
     vec![
@@ -41,6 +42,9 @@ fn members() -> Vec<Slow> {
             "functions of four bytes with an empty name",
             package(&[], &filled(&bytes(3, &number(2, 0)), 8), &[String::new()]),
         ),
+        slow("fields of an alias that nothing asks for", alias(&filled(&STRANGER, 32))),
+        slow("aliases of four bytes", package(&[], &filled(&bytes(5, &number(2, 0)), 8), &names())),
+        slow("aliases without a name", package(&[], &filled(&bytes(5, &[]), 8), &names())),
         slow("parameters of four bytes", function(&filled(&parameter(&[]), 32))),
         slow(
             "suspending functions",

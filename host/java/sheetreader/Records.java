@@ -17,9 +17,11 @@ public final class Records {
     public static final int PARAMETER = 5;
     public static final int TYPE = 6;
     public static final int DEFAULT = 7;
+    public static final int ALIAS = 8;
+    public static final int ALIASES = 9;
 
     /** bytes of a record of each kind, from kind 1 on */
-    private static final int[] LENGTHS = {20, 19, 24, 40, 6, 9, 5};
+    private static final int[] LENGTHS = {20, 19, 24, 40, 6, 9, 5, 13, 3};
 
     private static final long ABSENT = 0xFFFFFFFFL;
 

@@ -58,3 +58,6 @@ propertyCells name flags receiver getterDefault setterDefault field getter sette
 
 abbrev pub parameterCells : Option Text → Bool → List Cell
 parameterCells name default = nameCell name ∷ bit default ∷ []
+
+abbrev pub aliasCells : Option Text → ℕ → List Cell
+aliasCells name flags = nameCell name ∷ num 8 flags ∷ []

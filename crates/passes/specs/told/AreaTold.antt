@@ -34,7 +34,7 @@ start = record { sheet = 0; text = 0; types = allowance }
 
 -- how far both areas are written, and the types that are left
 abbrev pub lastOf : Measured → State
-lastOf m = m .sections .properties .state
+lastOf m = m .sections .aliases .state
 
 -- The decoded bytes are read, their rows measured, and written where two areas hold them: what is lent is theirs.
 pub record MeasuredAt (kind : ℕ) (bytes d2 ends notes : List ℕ) (m : Measured) (S T : List ℕ) : Type 0 where

@@ -4,7 +4,7 @@ use mathlib.Core.List.{List, [], _∷_}
 use mathlib.Core.Option.{Option}
 use Prim.Native.Nat.{ℕ, suc, _+_}
 use Rattle.foundation.specs.Choices.{ifSome}
-use Rattle.declaration_rows.specs.Declarations.{Types, noTypes, andType, Ty, Parameter, Constructor, Function, Property, Declarations}
+use Rattle.declaration_rows.specs.Declarations.{Types, noTypes, andType, Ty, Parameter, Constructor, Function, Property, Alias, Declarations}
 
 -- of one that may not be there
 abbrev pub sizeIfSome : {A : Type 0} → (A → ℕ) → Option A → ℕ
@@ -34,7 +34,10 @@ functionSize f = sizeOfAll parameterSize (f .parameters) + (sizeIfSome typeSize 
 abbrev pub propertySize : Property → ℕ
 propertySize p = sizeIfSome typeSize (p .receiver) + sizeIfSome typeSize (p .type)
 
+abbrev pub aliasSize : Alias → ℕ
+aliasSize a = sizeIfSome typeSize (a .underlying) + sizeIfSome typeSize (a .expanded)
+
 abbrev pub declarationsSize : Declarations → ℕ
 declarationsSize d =
     sizeOfAll constructorSize (d .constructors)
-    + (sizeOfAll functionSize (d .functions) + sizeOfAll propertySize (d .properties))
+    + (sizeOfAll functionSize (d .functions) + (sizeOfAll propertySize (d .properties) + sizeOfAll aliasSize (d .aliases)))

@@ -149,7 +149,7 @@ final class Test {
         char[] d1 = new char[SheetReader.UNIT_LIMIT];
         for (int i = 2; i < d1.length; i += 2) d1[i] = 8 << 3 | 2;
         Answer answer = SheetReader.read(1, 1, 9, 0, d1, new char[0], new int[0]);
-        same("a long sheet", "read: " + (20 + 24 * constructors) + " bytes of sheet, " + 3 * constructors + " of text, 0 types", answer.toString());
+        same("a long sheet", "read: " + (23 + 24 * constructors) + " bytes of sheet, " + 3 * constructors + " of text, 0 types", answer.toString());
         int found = 0;
         for (Records r = answer.records(); r.next();) if (r.kind() == Records.DEFAULT && r.text(1).equals("()V")) found++;
         same("its records", "" + constructors, "" + found);
@@ -157,7 +157,7 @@ final class Test {
 
     private static void records(Path path) throws IOException {
         Answer sale = ClassMetadata.of(Files.readAllBytes(path)).read();
-        int[] counts = new int[8];
+        int[] counts = new int[10];
         List<String> functions = new ArrayList<>();
         for (Records r = sale.records(); r.next();) {
             counts[r.kind()]++;
@@ -166,7 +166,7 @@ final class Test {
             }
             if (r.kind() == Records.FUNCTION) functions.add(r.text(1) + r.text(17));
         }
-        same("counts of records", "1 1 4 5", counts[1] + " " + counts[2] + " " + counts[3] + " " + counts[4]);
+        same("counts of records", "1 1 4 5 0 1", counts[1] + " " + counts[2] + " " + counts[3] + " " + counts[4] + " " + counts[8] + " " + counts[9]);
         same("types", "" + sale.types, "" + counts[Records.TYPE]);
         same("functions", 4, functions.size());
     }

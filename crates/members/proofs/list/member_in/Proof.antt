@@ -12,6 +12,7 @@ use Rattle.members.proofs.list.member_in.Lts as lts
 use Rattle.members.proofs.closed.closed_constructor.Reads as closed-constructor-reads
 use Rattle.members.proofs.closed.closed_function.Reads as closed-function-reads
 use Rattle.members.proofs.properties.property_in.Reads as property-in-reads
+use Rattle.members.proofs.aliases.alias_in.Reads as alias-in-reads
 
 -- src/list.rt:62:13
 enum-told : tie.Need-enum-told
@@ -36,6 +37,14 @@ enum-told-3 c = search needs
 -- src/list.rt:77:29
 property-in-requires : tie.Need-property-in-requires
 property-in-requires c κs = (affords-less (c .before .before .before .before .before .before .before .before .before .before .before .pre .0) (memberCost (length (c .before .before .before .before .before .before .before .before .before .before .before .args .msg .now))) (omega arith), c .before .before .before .before .before .before .before .before .before .before .before .pre .1 .inside)
+
+-- src/list.rt:87:13
+enum-told-4 : tie.Need-enum-told-4
+enum-told-4 c = search needs
+
+-- src/list.rt:88:29
+alias-in-requires : tie.Need-alias-in-requires
+alias-in-requires c κs = (affords-less (c .before .before .before .before .before .before .before .before .before .before .before .pre .0) (memberCost (length (c .before .before .before .before .before .before .before .before .before .before .before .args .msg .now))) (omega arith), c .before .before .before .before .before .before .before .before .before .before .before .pre .1 .inside)
 
 -- src/list.rt:36:1
 same-length : tie.Need-same-length
@@ -73,6 +82,18 @@ same-length-6 c = search needs
 returns-3 : tie.Need-returns-3
 returns-3 c = of-kind member.Property (c .before .before .before .before .before .before .before .enum-told3 .given .1) (costs-less (omega arith) (c .before .before .before .before .property-in .ensures))
 
+-- src/list.rt:36:1
+same-length-7 : tie.Need-same-length-7
+same-length-7 c = search needs
+
+-- src/list.rt:36:1
+same-length-8 : tie.Need-same-length-8
+same-length-8 c = search needs
+
+-- src/list.rt:36:1
+returns-4 : tie.Need-returns-4
+returns-4 c = of-kind member.Alias (c .before .before .before .before .before .before .before .enum-told4 .given .1) (costs-less (omega arith) (c .before .before .before .before .alias-in .ensures))
+
 pub member-in-spec : {M : Type 1} → statement M
 member-in-spec =
     tie.close
@@ -83,6 +104,8 @@ member-in-spec =
     closed-function-requires
     enum-told-3
     property-in-requires
+    enum-told-4
+    alias-in-requires
     same-length
     same-length-2
     returns
@@ -91,4 +114,7 @@ member-in-spec =
     returns-2
     same-length-5
     same-length-6
-    returns-3)
+    returns-3
+    same-length-7
+    same-length-8
+    returns-4)

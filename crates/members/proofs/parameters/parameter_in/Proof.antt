@@ -11,7 +11,7 @@ use Rattle.members.proofs.parameters.parameter_in.Lts as lts
 use Rattle.names.proofs.name.is_there.Reads as is-there-reads
 use Rattle.schema.proofs.name.name_in.Reads as name-in-reads
 use Rattle.members.proofs.parameters.declares_default.Reads as declares-default-reads
-use Rattle.members.proofs.parameters.parameter_types.Reads as parameter-types-reads
+use Rattle.members.proofs.pairs.type_pair.Reads as type-pair-reads
 use Rattle.declaration_rows.proofs.put_parameter.Reads as put-parameter-reads
 use Rattle.schema.proofs.types.picked.Reads as picked-reads
 
@@ -36,8 +36,8 @@ put-parameter-requires : tie.Need-put-parameter-requires
 put-parameter-requires c κs = search needs
 
 -- src/parameters.rt:157:12
-parameter-types-requires : tie.Need-parameter-types-requires
-parameter-types-requires c κs = (affords-ready (affords-after (c .before .before .before .before .before .before .before .before .before .before .before .before .before .before .before .before .before .before .before .before .pre .0) 0 (parameter-within (c .before .before .before .before .before .before .before .before .before .before .before .before .before .before .before .before .before .before .before .before .pre .0) (c .before .before .before .before .before .before .before .before .before .before .before .before .name-in .result) (c .before .before .before .before .before .before .before .before .before .declares-default .result) (c .before .before .before .before .before .before .put-parameter .ensures)) (omega arith)), c .before .before .before .before .before .before .before .before .before .before .before .before .before .before .before .before .before .before .before .before .pre .1)
+type-pair-requires : tie.Need-type-pair-requires
+type-pair-requires c κs = (affords-ready (affords-after (c .before .before .before .before .before .before .before .before .before .before .before .before .before .before .before .before .before .before .before .before .pre .0) 0 (parameter-within (c .before .before .before .before .before .before .before .before .before .before .before .before .before .before .before .before .before .before .before .before .pre .0) (c .before .before .before .before .before .before .before .before .before .before .before .before .name-in .result) (c .before .before .before .before .before .before .before .before .before .declares-default .result) (c .before .before .before .before .before .before .put-parameter .ensures)) (omega arith)), c .before .before .before .before .before .before .before .before .before .before .before .before .before .before .before .before .before .before .before .before .pre .1)
 
 -- src/parameters.rt:157:5
 picked-requires : tie.Need-picked-requires
@@ -53,7 +53,7 @@ same-length-2 c = search needs
 
 -- src/parameters.rt:122:1
 returns-2 : tie.Need-returns-2
-returns-2 c = let a = c .before .before .before .before .before .before .before .before .before .before .before .before .before .before .before .before .before .before .before .before .before .before .before .before .before .before .args in let e = lent (a .payload .now) (a .d2 .now) (a .ends .now) (a .notes .now) (a .tables) in parameter-told e (a .msg .now) (a .base) (a .state) (c .before .before .before .before .before .before .before .before .before .before .before .before .before .before .before .before .before .before .name-in .result) (c .before .before .before .before .before .before .before .before .before .before .before .before .before .before .before .before .before .before .name-in .ensures) (c .before .before .before .before .before .before .before .before .before .before .before .before .before .before .before .before .before .is-there .ensures) (c .before .before .before .before .before .before .before .before .before .before .before .before .before .before .before .before .before .before .before .before .before .before .before .before .before .before .pre .0) (not-false _ (c .before .before .before .before .before .before .before .before .before .before .before .before .before .before .before .before .if1 .left)) (c .before .before .before .before .before .before .before .before .before .before .before .before .before .before .before .declares-default .result) (c .before .before .before .before .before .before .before .before .before .before .before .before .before .before .before .declares-default .ensures) (c .before .before .before .before .before .before .before .before .before .before .before .before .put-parameter .ensures) (c .before .before .before .before .before .parameter-types .ensures) (c .picked .ensures)
+returns-2 c = let a = c .before .before .before .before .before .before .before .before .before .before .before .before .before .before .before .before .before .before .before .before .before .before .before .before .before .before .args in let e = lent (a .payload .now) (a .d2 .now) (a .ends .now) (a .notes .now) (a .tables) in parameter-told e (a .msg .now) (a .base) (a .state) (c .before .before .before .before .before .before .before .before .before .before .before .before .before .before .before .before .before .before .name-in .result) (c .before .before .before .before .before .before .before .before .before .before .before .before .before .before .before .before .before .before .name-in .ensures) (c .before .before .before .before .before .before .before .before .before .before .before .before .before .before .before .before .before .is-there .ensures) (c .before .before .before .before .before .before .before .before .before .before .before .before .before .before .before .before .before .before .before .before .before .before .before .before .before .before .pre .0) (not-false _ (c .before .before .before .before .before .before .before .before .before .before .before .before .before .before .before .before .if1 .left)) (c .before .before .before .before .before .before .before .before .before .before .before .before .before .before .before .declares-default .result) (c .before .before .before .before .before .before .before .before .before .before .before .before .before .before .before .declares-default .ensures) (c .before .before .before .before .before .before .before .before .before .before .before .before .put-parameter .ensures) (c .before .before .before .before .before .type-pair .ensures) (c .picked .ensures)
 
 pub parameter-in-spec : {M : Type 1} → statement M
 parameter-in-spec =
@@ -64,7 +64,7 @@ parameter-in-spec =
     returns
     declares-default-requires
     put-parameter-requires
-    parameter-types-requires
+    type-pair-requires
     picked-requires
     same-length
     same-length-2

@@ -1,0 +1,74 @@
+//! Which answers the original settles, and how they are brought to the form of the sheets. The original stays as it was published, while
+//! sheets and refusals have gone on since. All that is left out of the comparison with it, and all that is put into its answers, stands here,
+//! each with its reason; a run counts each.
+
+use crate::second::Reading;
+use original::sheet::Sheet;
+
+/// What settles an answer.
+#[derive(Debug, Clone, Copy, PartialEq, Eq)]
+pub enum Basis {
+    /// The original was run; refusals 11 and 12 are taken from its lengths.
+    Original,
+    /// Refusals 1 to 3, from what is handed in alone.
+    Limits,
+    /// The second reading: the original has no refusal 10, and can be kept busy for hours by types.
+    Types,
+    /// The second reading: the specification leaves out ranges that sum to more than 65,536.
+    Ranges,
+    /// The second reading: the original would take too much memory for its copies of records and its texts.
+    Memory,
+    /// The second reading: the payload has type aliases, which the original doesn't read. What stands before them on an accepted sheet must
+    /// still be the original's.
+    Aliases,
+}
+
+impl Basis {
+    pub const ALL: [Self; 6] = [Self::Original, Self::Limits, Self::Types, Self::Ranges, Self::Memory, Self::Aliases];
+
+    pub fn words(self) -> &'static str {
+        match self {
+            Self::Original => "the Rust",
+            Self::Limits => "the limits",
+            Self::Types => "the second reading for 10",
+            Self::Ranges => "the second reading for ranges",
+            Self::Memory => "the second reading for memory",
+            Self::Aliases => "the second reading for type aliases",
+        }
+    }
+}
+
+const RANGES: u64 = 65_536;
+const MEMORY: u64 = 1 << 28;
+
+/// What settles the answer of an input, by what the second reading met.
+pub fn basis(reading: &Reading) -> Basis {
+    match reading.whole.answer.number {
+        1..=3 => Basis::Limits,
+        10 => Basis::Types,
+        _ if reading.ranges > RANGES => Basis::Ranges,
+        _ if reading.record_bytes + 4 * reading.text_total > MEMORY => Basis::Memory,
+        _ if reading.aliases => Basis::Aliases,
+        _ => Basis::Original,
+    }
+}
+
+/// The record of kind 9 of a sheet without type aliases: a count of 0.
+const NO_ALIASES: [u8; 3] = [9, 0, 0];
+
+/// The original's sheet of a payload without type aliases, in the form of the sheets: the count of no aliases is put at its end.
+pub fn in_form(mut sheet: Sheet) -> Sheet {
+    sheet.bytes.extend(NO_ALIASES);
+    sheet
+}
+
+/// Whether the original's sheet is what stands before the aliases of a sheet that was accepted: the records of kinds 8 and 9 and the aliases'
+/// types, and the texts of these, stand after all else.
+pub fn stands_before_aliases(sheet: &Sheet, reading: &Reading) -> bool {
+    let whole = &reading.whole;
+    let rest = whole.sheet.strip_prefix(sheet.bytes.as_slice());
+    let begins = rest.is_some_and(|rest| rest.first() == Some(&NO_ALIASES[0]));
+    begins
+        && whole.text.starts_with(&sheet.text[..sheet.text.len().min(whole.text.len())])
+        && sheet.types <= whole.answer.types
+}
