@@ -113,7 +113,7 @@ pub fn changes(refused: Answer) -> Vec<Change> {
 
 /// Whether a refusal is the original's after these changes. `bytes` are the decoded ones.
 pub fn agrees(refused: Answer, original: Answer, bytes: &[u8]) -> bool {
-    let number = if refused.number > 12 { 7 } else { refused.number };
+    let number = if [13, 14].contains(&refused.number) { 7 } else { refused.number };
     let detail = match number {
         7 | 9 => 0,
         8 => bytes.get(refused.detail as usize).map_or(u64::MAX, |tag| u64::from(tag & 7)),
