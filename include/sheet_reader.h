@@ -19,15 +19,17 @@ extern "C" {
 
 /* What sheet_read puts into answer. */
 enum {
-    SHEET_NUMBER = 0,       /* 0: read; 1 to 12: refused, see below */
-    SHEET_DETAIL = 1,       /* of 6 the unit, of 8 the wire type, else 0 */
+    SHEET_NUMBER = 0,       /* 0: read; else refused, see below */
+    SHEET_DETAIL = 1,       /* of 6 the unit; of 7, 8, 9, 13 and 14 where it broke, an offset among the payload's bytes; else 0 */
     SHEET_LENGTH = 2,       /* bytes of the sheet, 0 if refused */
     SHEET_TEXT_LENGTH = 3,  /* bytes of the text, 0 if refused */
     SHEET_TYPES = 4,        /* type records on the sheet, 0 if refused */
     SHEET_ANSWER = 5        /* how many numbers answer has */
 };
 
-/* Refusals, in the order in which they are tested. Both areas are then as they were. */
+/* Refusals. Both areas are then as they were. They are tested in the order of their numbers, but 7 to 10, 13 and 14 as the payload is read: of
+ * these the first that is met is given. An offset counts the payload's bytes from 0: where d1 begins with a unit 0, the byte at offset n is its
+ * unit n + 1. It is that of the first byte of the varint or fixed number that was read, also where not even that is there. */
 enum {
     SHEET_READ = 0,
     SHEET_D1_TOO_LONG = 1,         /* more than SHEET_UNIT_LIMIT units */
@@ -36,12 +38,14 @@ enum {
     SHEET_NEWER_VERSION = 4,       /* major above 2 */
     SHEET_EMPTY = 5,               /* d1 has no units */
     SHEET_NOT_A_BYTE = 6,          /* a unit of d1 is above 255; detail: the first such unit */
-    SHEET_TRUNCATED = 7,           /* something runs past its message, or a field number past 32 bits */
-    SHEET_WIRE_TYPE = 8,           /* detail: the wire type */
-    SHEET_OVERSIZED_VARINT = 9,    /* a varint has an eleventh byte */
+    SHEET_TRUNCATED = 7,           /* a varint is cut short by its message's end; detail: its offset */
+    SHEET_WIRE_TYPE = 8,           /* a field has wire type 3, 4, 6 or 7; detail: its tag's offset */
+    SHEET_OVERSIZED_VARINT = 9,    /* a varint has an eleventh byte; detail: its offset */
     SHEET_TOO_MANY_TYPES = 10,     /* more than SHEET_TYPE_LIMIT */
     SHEET_TEXT_TOO_LONG = 11,      /* longer than text_size or SHEET_TEXT_LIMIT: lend SHEET_TEXT_LIMIT bytes */
-    SHEET_SHEET_TOO_LONG = 12      /* longer than sheet_size: lend more; SHEET_LONGEST is always enough */
+    SHEET_SHEET_TOO_LONG = 12,     /* longer than sheet_size: lend more; SHEET_LONGEST is always enough */
+    SHEET_PAST_MESSAGE = 13,       /* a length, or a fixed number, runs past its message; detail: the length's or the number's offset */
+    SHEET_FIELD_TOO_LARGE = 14     /* a field number is above 32 bits; detail: its tag's offset */
 };
 
 /* Limits. Areas of SHEET_LONGEST and SHEET_TEXT_LIMIT bytes are always enough: with them 12 is never given, and 11 only to a class whose text fits no

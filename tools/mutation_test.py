@@ -4,14 +4,15 @@
 Damaged class files in every form of ./sheet: COUNT copies of the examples and of made classes (annotations nested in one another, elements of
 kotlin.Metadata of wrong kinds, types nested in one another), changed in some places of the file, of bytes alone, or of what the annotation
 holds; then a tenth as many damaged jars.
-A fault is an exception that the tool doesn't expect, JSON that doesn't keep to the schema, or a character in the output that doesn't print. The
+A fault is an exception that the tool doesn't expect, JSON that doesn't keep to the schema, a character in the output that doesn't print, or an
+offset of the reader's at which the tool's own walk of the payload finds nothing broken. The
 same seed gives the same run. At the end stands what came of them; the exit status is 1 if there was a fault, with the class in a file that is
 named."""
 import io, json, os, random, sys, tempfile, time, traceback, zipfile
 
 sys.dont_write_bytecode = True
 sys.setrecursionlimit(20000)
-import class_input, made_class, output, runs, schema, sheet_json
+import class_input, made_class, output, payloads, runs, schema, sheet_json
 from commands import check, read
 
 ROOT = os.path.dirname(os.path.dirname(os.path.realpath(__file__)))
@@ -129,8 +130,11 @@ class Checked(read.InJson):
         found = check.findings(one)
         self.told(sheet_json.checked_json(one, found))
 
-    def refused(self, *words):
-        self.told(sheet_json.refused_json(*words))
+    def refused(self, found, name, refusal):
+        """The tool's own walk comes to the offset that the reader tells, and finds something broken there."""
+        self.told(sheet_json.refused_json(found, name, refusal))
+        if (refusal.place is not None) != (refusal.number in payloads.PLACED) or refusal.place and refusal.place.where == payloads.UNKNOWN:
+            raise AssertionError(f'no place is told: {refusal}')
 
     def not_a_class(self, *words):
         self.told(sheet_json.not_a_class_json(*words))

@@ -2,7 +2,7 @@
 read names itself and doesn't end the run. At the end stand a summary and the exit status."""
 import collections, time
 
-import class_input, classes, library, sheets, targets
+import class_input, classes, library, payloads, sheets, targets
 from output import Progress, say
 from sheet_text import ClassNames
 
@@ -12,6 +12,10 @@ REFUSED = 1   # one was refused or is damaged, or a file named by itself has no 
 USAGE = 2     # the command line
 FOUND = 3     # `check` found something
 FAILED = 4    # a file can't be read, the output can't be written, or the library can't be built
+
+
+# a class that was refused: number, detail, and where it broke, a payloads.Place or None
+Refusal = collections.namedtuple('Refusal', 'number detail place')
 
 
 class Read:
@@ -32,8 +36,7 @@ class Read:
 
 
 class Run:
-    """`show` has a method for each thing that may come of a class: read(Read), refused(found, name, number, detail),
-    not_a_class(found, why)."""
+    """`show` has a method for each thing that may come of a class: read(Read), refused(found, name, Refusal), not_a_class(found, why)."""
 
     def __init__(self, show, command):
         self.show, self.command, self.library = show, command, None
@@ -69,7 +72,8 @@ class Run:
             return self.show.not_a_class(found, str(why) or 'it is longer than 64 MiB')
         if answer.number:
             self.refusals[answer.number] += 1
-            return self.show.refused(found, name, answer.number, answer.detail)
+            place = payloads.place(metadata, answer.number, answer.detail)
+            return self.show.refused(found, name, Refusal(answer.number, answer.detail, place))
         self.read += 1
         self.show.read(one)
 

@@ -112,10 +112,13 @@ def read_json(one):
             'aliases': of['alias']}
 
 
-def refused_json(found, name, number, detail):
+def refused_json(found, name, refusal):
+    """A runs.Refusal."""
+    number, detail, place = refusal
     what, advice = sheets.REFUSALS[number]
+    told = place and {'offset': place.offset, 'of': place.of, 'byte': place.byte, 'what': place.what, 'where': place.where}
     return {**where(found, name), 'state': 'refused',
-            'refusal': {'number': number, 'detail': detail, 'name': sheets.REFUSAL_NAMES[number], 'what': what, 'advice': advice}}
+            'refusal': {'number': number, 'detail': detail, 'name': sheets.REFUSAL_NAMES[number], 'what': what, 'advice': advice, 'place': told}}
 
 
 def not_a_class_json(found, why):

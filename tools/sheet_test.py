@@ -1,11 +1,11 @@
 #!/usr/bin/env python3
 """./sheet from outside: examples, jars and folders, refusals, JSON, exit statuses, words. The lines of the examples are the Rust's, with
 the count of no type aliases at the end of each sheet, which the Rust doesn't read."""
-import json, os, pty, re, resource, subprocess, sys, tempfile, unittest, zipfile
+import json, os, pty, re, resource, subprocess, sys, tempfile, types, unittest, zipfile
 
 sys.dont_write_bytecode = True
 sys.setrecursionlimit(20000)
-import flag_words, made_class, schema
+import flag_words, made_class, payloads, schema
 
 ROOT = os.path.dirname(os.path.dirname(os.path.realpath(__file__)))
 SHEET, EXAMPLES = os.path.join(ROOT, 'sheet'), os.path.join(ROOT, 'examples')
@@ -288,9 +288,11 @@ def refused():
         (5, 0, {'k': 2}),
         (6, 256, {'k': 2, 'd1': ['\0\u0100']}),
         (7, 0, {'k': 2, 'd1': ['\0']}),
-        (8, 3, {'k': 2, 'd1': ['\0\0\x0b']}),
+        (8, 1, {'k': 2, 'd1': ['\0\0\x0b']}),
         (9, 0, {'k': 2, 'd1': ['\0' + '\x80' * 11]}),
         (10, 0, made_class.nested_types(2049)),
+        (13, 0, {'k': 2, 'd1': ['\0\1']}),
+        (14, 1, {'k': 2, 'd1': ['\0\0\x80\x80\x80\x80\x80\x01\0']}),
         (11, 0, {**big_class, 'd1': made_class.payload(b'\0' + function * 3), 'd2': [long_text]}),
     ]
 
@@ -308,7 +310,48 @@ class Refusals(InFolder):
             self.assertEqual((status, said, schema.faults(o, SCHEMA, SCHEMA)), (1, '', []))
             self.assertEqual((o['class'], o['refusal']['number'], o['refusal']['detail']), ('made/Made', number, detail))
             self.assertTrue(o['refusal']['name'] and o['refusal']['what'] and o['refusal']['advice'])
+            self.assertEqual(o['refusal']['place'] is not None, number in payloads.PLACED)
             self.assertEqual(sheet('check', path)[0], 1)
+
+    def test_where_it_broke(self):
+        """The words for each number, at places of every depth."""
+        field, argument = made_class.field, lambda message: made_class.field(2, made_class.field(2, message))
+        function = lambda rest: field(3, b'\x10\0' + rest)
+        deep = b'\x0b'
+        for _ in range(5):
+            deep = argument(deep)
+        for data, said in [
+                (b'', 'offset 0 of 0 decoded bytes, at their end: a length is missing there, at the end of its message, in the length of the name table'),
+                (b'\x7f\0', 'offset 0 of 2 decoded bytes, byte 7f hex: the length there is 127, and its message has 1 left, in the length of the name table'),
+                (b'\0\x0b', 'offset 1 of 2 decoded bytes, byte 0b hex: the tag there has wire type 3, in the package itself'),
+                (b'\0\x80\x80\x80\x80\x80\x01', 'offset 1 of 7 decoded bytes, byte 80 hex: the tag there has the field number 4294967296, in the package itself'),
+                (b'\6' + field(1, b'') + field(1, b'\x10\x80'), 'offset 6 of 7 decoded bytes, byte 80 hex: the number there is cut short, in record 2 of the name table'),
+                (b'\4' + field(5, b'\1\x80'), 'offset 4 of 5 decoded bytes, byte 80 hex: the number there is cut short, in the list of local names of the name table'),
+                (b'\0' + function(b'') + function(b'\x08'), 'offset 10 of 10 decoded bytes, at their end: a number is missing there, at the end of its message, in function 2'),
+                (b'\0' + function(b'\x08' + b'\x80' * 11), 'offset 6 of 17 decoded bytes, byte 80 hex: the number there has more than ten bytes, in function 1'),
+                (b'\0' + function(field(6, b'\x10\0' + field(3, b'\x0d\1\2'))), 'offset 12 of 14 decoded bytes, byte 01 hex: '
+                 'a fixed number of 4 bytes begins there, and its message has 2 left, in the type of parameter 1 of function 1'),
+                (b'\0' + function(field(3, argument(b'') + argument(argument(b'\x12\x7f')))), 'byte 7f hex: the length there is 127, '
+                 'and its message has 0 left, in argument 1 of argument 2 of the return type of function 1'),
+                (b'\0' + function(field(3, deep)), 'in argument 1, 5 arguments deep, of the return type of function 1'),
+                (b'\0' + field(4, b'\x10\0' + field(100, field(4, b'\x0b'))), 'in the setter of the signature of property 1'),
+                (b'\0' + made_class.alias(0, b'', b'\x0b'), 'in the expanded type of type alias 1'),
+                (b'\0' + field(30, field(1, b'') + field(1, b'\x0b')), 'in entry 2 of the type table')]:
+            path = self.put('Bad.class', made_class.class_file(made_class.package(b'', ['f'], d1=made_class.payload(data))))
+            status, _, told = sheet('read', path)
+            self.assertEqual(status, 1)
+            self.assertIn(said + '). What to do: ', told)
+        o, = objects(sheet('read', '--json', path)[1])
+        self.assertEqual(o['refusal']['place'], {'offset': 8, 'of': 9, 'byte': 11, 'what': 'the tag there has wire type 3', 'where': 'entry 2 of the type table'})
+
+    def test_the_payload_of_a_class_and_of_the_seven_bit_form(self):
+        told = lambda k, d1, number, detail: payloads.place(types.SimpleNamespace(k=k, d1=d1), number, detail)
+        self.assertEqual(told(1, list(b'\0\0\x42\1\x0b'), 8, 3).where, 'constructor 1')
+        self.assertEqual(told(1, list(b'\0\0\x5a\1\x0b'), 8, 3).where, 'type alias 1')
+        self.assertEqual(told(1, [0x80, 0x16], 8, 1), payloads.Place(1, 1, None, 'what stands there cannot be read', payloads.UNKNOWN))
+        self.assertEqual(payloads.decoded([0x80, 0x16, 0]), b'\0\x0b')
+        self.assertEqual(told(1, [0x80, 0x16, 0], 8, 1).where, 'the class itself')
+        self.assertEqual((told(1, [], 5, 0), told(1, [0, 256], 6, 256), told(1, [0], 10, 0), told(1, [0], 7, 9)), (None,) * 4)
 
     def test_every_number_has_a_name_as_in_the_header(self):
         with open(os.path.join(ROOT, 'include', 'sheet_reader.h'), encoding='utf-8') as f:

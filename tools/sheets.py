@@ -33,19 +33,21 @@ REFUSALS = {
     4: ('the major metadata version is above 2', 'the class comes from a newer compiler: compile it with an older metadata version'),
     5: ('d1 is empty', 'compile the class again, or leave it out'),
     6: ('a unit of d1 is above 255', 'd1 was damaged on the way: take the class file anew, or compile again'),
-    7: ('the payload is truncated', 'd1 is damaged, or has the seven-bit form of an old compiler: take the class file anew, or compile again'),
+    7: ('the payload is truncated: a varint is cut short by the end of its message', 'd1 is damaged, or has the seven-bit form of an old compiler: take the class file anew, or compile again'),
     8: ('a field has a wire type that is not read', 'd1 is damaged, or has the seven-bit form of an old compiler: take the class file anew, or compile again'),
     9: ('a varint is too long', 'd1 is damaged, or has the seven-bit form of an old compiler: take the class file anew, or compile again'),
     10: ('the class has more than 2,048 types', 'the class is too large for this reader: split its source file'),
     11: ('the texts are longer than the text area or 65,534 bytes', 'lend a text area of 65,534 bytes; if it was that long, split the source file'),
     12: ('the sheet is longer than its area', 'lend a longer sheet area'),
+    13: ('a length or a fixed number runs past its message', 'd1 is damaged, or has the seven-bit form of an old compiler: take the class file anew, or compile again'),
+    14: ('a field number is too large for 32 bits', 'd1 is damaged, or has the seven-bit form of an old compiler: take the class file anew, or compile again'),
 }
-DETAILS = {6: 'the unit', 8: 'the type'}
+DETAILS = {6: 'the unit', **dict.fromkeys((7, 8, 9, 13, 14), 'the offset among the decoded bytes')}
 
 # the names that include/sheet_reader.h gives them, as SHEET_TRUNCATED
 REFUSAL_NAMES = {
     1: 'd1 too long', 2: 'd2 too long', 3: 'string ends', 4: 'newer version', 5: 'empty', 6: 'not a byte', 7: 'truncated', 8: 'wire type',
-    9: 'oversized varint', 10: 'too many types', 11: 'text too long', 12: 'sheet too long',
+    9: 'oversized varint', 10: 'too many types', 11: 'text too long', 12: 'sheet too long', 13: 'past message', 14: 'field too large',
 }
 
 
@@ -164,8 +166,8 @@ def line_answer(line):
     return number, detail, sheet, text
 
 
-def refusal_text(number, detail):
-    """A refusal in words, with what to do."""
+def refusal_text(number, detail, place=None):
+    """A refusal in words, with what to do; `place` has the words for where it broke, if the payload is there to tell it by."""
     what, advice = REFUSALS[number]
-    told = f' ({DETAILS[number]}: {detail})' if number in DETAILS else ''
+    told = f' ({place})' if place else f' ({DETAILS[number]}: {detail})' if number in DETAILS else ''
     return f'refused, {number}: {what}{told}. What to do: {advice}.'

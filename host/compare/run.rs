@@ -1,8 +1,8 @@
 //! Runs over numbered inputs, what they count, and the differences that they show.
 
 use crate::options::{Mode, Options};
-use harness::answer::Whole;
-use harness::comparison::Basis;
+use harness::answer::{Whole, NUMBERS};
+use harness::comparison::{Basis, Change};
 use harness::exhaustive::Exhaustive;
 use harness::expected::{around, expected};
 use harness::input::{hex, Input};
@@ -73,11 +73,11 @@ impl Source {
 #[derive(Default)]
 pub struct Seen {
     pub calls: u64,
-    numbers: [u64; 13],
+    numbers: [u64; NUMBERS],
     /// How many calls each basis settled, in the order of `Basis::ALL`.
     settled: [u64; Basis::ALL.len()],
-    /// How many of the original's sheets had something put in.
-    put_in: u64,
+    /// How often each change was made before the original was compared, in the order of `Change::ALL`.
+    changed: [u64; Change::ALL.len()],
     pub differences: u64,
     disagreements: u64,
 }
@@ -100,7 +100,9 @@ impl Run {
         self.seen.calls += 1;
         self.seen.numbers[expected.whole.answer.number as usize] += 1;
         self.seen.settled[expected.basis as usize] += 1;
-        self.seen.put_in += u64::from(expected.put_in);
+        for change in expected.changes {
+            self.seen.changed[change as usize] += 1;
+        }
         if expected.disagreement.is_some() {
             self.seen.disagreements += 1;
             if self.seen.disagreements as usize <= self.show {
@@ -183,7 +185,7 @@ fn one_mode(source: &Source, mode: Mode, count: u64, options: &Options) -> bool 
     }
     let seen = &run.seen;
     let refused: Vec<String> =
-        (1..13).filter(|n| seen.numbers[*n] > 0).map(|n| format!("{n}: {}", seen.numbers[n])).collect();
+        (1..NUMBERS).filter(|n| seen.numbers[*n] > 0).map(|n| format!("{n}: {}", seen.numbers[n])).collect();
     println!(
         "{}: {inputs} inputs, {} calls in {:.1} s; accepted {}, refused {}",
         mode.name(),
@@ -194,9 +196,8 @@ fn one_mode(source: &Source, mode: Mode, count: u64, options: &Options) -> bool 
     );
     let settled = Basis::ALL.iter().zip(seen.settled).map(|(basis, count)| format!("{} {count}", basis.words()));
     println!("  held to {}", settled.collect::<Vec<_>>().join(", "));
-    println!(
-        "  the count of no type aliases put into {} of the Rust's sheets; differences {}, second reading against the Rust {}",
-        seen.put_in, seen.differences, seen.disagreements
-    );
+    let changed = Change::ALL.iter().zip(seen.changed).map(|(change, count)| format!("{} {count}", change.words()));
+    println!("  of those held to the Rust: {}", changed.collect::<Vec<_>>().join(", "));
+    println!("  differences {}, second reading against the Rust {}", seen.differences, seen.disagreements);
     seen.differences == 0 && seen.disagreements == 0
 }

@@ -2,6 +2,9 @@
 
 use crate::input::hex;
 
+/// 0 and the numbers of refusals.
+pub const NUMBERS: usize = 15;
+
 /// Number, detail, both lengths and the number of types, in the order of the array that the reader fills.
 #[derive(Debug, Clone, Copy, PartialEq, Eq, Default)]
 pub struct Answer {

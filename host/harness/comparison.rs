@@ -2,6 +2,7 @@
 //! sheets and refusals have gone on since. All that is left out of the comparison with it, and all that is put into its answers, stands here,
 //! each with its reason; a run counts each.
 
+use crate::answer::Answer;
 use crate::second::Reading;
 use original::sheet::Sheet;
 
@@ -34,6 +35,33 @@ impl Basis {
             Self::Ranges => "the second reading for ranges",
             Self::Memory => "the second reading for memory",
             Self::Aliases => "the second reading for type aliases",
+        }
+    }
+}
+
+/// What is changed before an answer is compared with the original's.
+#[derive(Debug, Clone, Copy, PartialEq, Eq)]
+pub enum Change {
+    /// The original's sheet has no count of type aliases, and gets one of 0 at its end.
+    NoAliases,
+    /// 13 is taken for 7: the original has one number for all that is cut short.
+    PastMessage,
+    /// 14 is taken for 7, for the same reason.
+    FieldTooLarge,
+    /// The detail of 7, 8, 9, 13 and 14 is a place, which the original doesn't tell; of 8 it tells the wire type, which must be the one at that
+    /// place. All other details are compared.
+    Place,
+}
+
+impl Change {
+    pub const ALL: [Self; 4] = [Self::NoAliases, Self::PastMessage, Self::FieldTooLarge, Self::Place];
+
+    pub fn words(self) -> &'static str {
+        match self {
+            Self::NoAliases => "count of no type aliases put in",
+            Self::PastMessage => "13 taken for 7",
+            Self::FieldTooLarge => "14 taken for 7",
+            Self::Place => "place in the detail skipped",
         }
     }
 }
@@ -71,4 +99,25 @@ pub fn stands_before_aliases(sheet: &Sheet, reading: &Reading) -> bool {
     begins
         && whole.text.starts_with(&sheet.text[..sheet.text.len().min(whole.text.len())])
         && sheet.types <= whole.answer.types
+}
+
+/// What has to be changed in a refusal to compare it with the original's.
+pub fn changes(refused: Answer) -> Vec<Change> {
+    match refused.number {
+        7..=9 => vec![Change::Place],
+        13 => vec![Change::PastMessage, Change::Place],
+        14 => vec![Change::FieldTooLarge, Change::Place],
+        _ => Vec::new(),
+    }
+}
+
+/// Whether a refusal is the original's after these changes. `bytes` are the decoded ones.
+pub fn agrees(refused: Answer, original: Answer, bytes: &[u8]) -> bool {
+    let number = if [13, 14].contains(&refused.number) { 7 } else { refused.number };
+    let detail = match number {
+        7 | 9 => 0,
+        8 => bytes.get(refused.detail as usize).map_or(u64::MAX, |tag| u64::from(tag & 7)),
+        _ => refused.detail,
+    };
+    Answer { number, detail, ..refused } == original
 }

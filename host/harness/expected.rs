@@ -2,7 +2,7 @@
 //! isn't held to (`comparison`).
 
 use crate::answer::{Answer, Whole};
-use crate::comparison::{self, Basis};
+use crate::comparison::{self, Basis, Change};
 use crate::input::Input;
 use crate::limits::{self, Areas};
 use crate::reader::LARGEST;
@@ -13,8 +13,8 @@ use original::sheet::Sheet;
 pub struct Expected {
     pub whole: Whole,
     pub basis: Basis,
-    /// Whether something was put into the original's sheet before it was compared.
-    pub put_in: bool,
+    /// What was changed before the original was compared.
+    pub changes: Vec<Change>,
     /// The second reading's line where it differs from the original: one of the two is wrong.
     pub disagreement: Option<String>,
 }
@@ -24,15 +24,18 @@ pub fn expected(input: &Input, areas: Areas) -> Expected {
     let basis = comparison::basis(&reading);
     if basis != Basis::Original {
         let disagreement = (!agrees_before_aliases(input, basis, &reading)).then(|| reading.whole.line());
-        return Expected { whole: reading.into_areas(areas), basis, put_in: false, disagreement };
+        return Expected { whole: reading.into_areas(areas), basis, changes: Vec::new(), disagreement };
     }
     let second = reading.into_areas(areas);
-    let (whole, put_in) = match original_sheet(input) {
-        Ok(sheet) => (accepted(comparison::in_form(sheet), areas), true),
-        Err(refused) => (refused, false),
+    let (whole, changes) = match original_sheet(input) {
+        Ok(sheet) => (accepted(comparison::in_form(sheet), areas), vec![Change::NoAliases]),
+        Err(original) if same_refusal(input, &second, &original) => {
+            (second.clone(), comparison::changes(second.answer))
+        }
+        Err(original) => (original, Vec::new()),
     };
     let disagreement = (whole != second).then(|| second.line());
-    Expected { whole, basis, put_in, disagreement }
+    Expected { whole, basis, changes, disagreement }
 }
 
 /// The original's own answer with the program's areas, as it stands; none where it can't be run.
@@ -65,6 +68,11 @@ pub fn around(input: &Input) -> Vec<Areas> {
         (0, 0),
     ];
     lengths.map(|(sheet, text)| Areas { sheet, text }).to_vec()
+}
+
+fn same_refusal(input: &Input, second: &Whole, original: &Whole) -> bool {
+    let bytes = second::decode(&input.d1).unwrap_or_default();
+    comparison::agrees(second.answer, original.answer, &bytes)
 }
 
 fn agrees_before_aliases(input: &Input, basis: Basis, reading: &Reading) -> bool {

@@ -190,8 +190,9 @@ fn alias_lists(random: &mut Random) -> Input {
         let name = *random.pick(&[0, 1, 2, 9, 1 << 32]);
         let mut fields = vec![number(2, name)];
         for (inline, index) in [(4, 5), (6, 7)] {
-            match random.below(6) {
+            match random.below(8) {
                 0 => fields.push(bytes(inline, &last_type(random))),
+                6 | 7 => fields.push(bytes(inline, random.pick::<&[u8]>(&[&[0x0b], &[0x80], &[0x80; 11], &[0x0a, 1]]))),
                 1 => fields.push(number(index, random.below(3) as u64)),
                 2 => fields.extend([number(index, 0), bytes(inline, &number(6, 2))]),
                 3 => fields.extend([number(inline, 0), bytes(index, &[])]),

@@ -7,7 +7,7 @@ use harness::limits::Areas;
 pub type Case = (Input, Areas);
 
 /// The files of `cases/`, in the order in which they are run.
-const LISTS: [&str; 15] = [
+const LISTS: [&str; 16] = [
     "host_refusals",
     "kinds_and_versions",
     "fields",
@@ -19,6 +19,7 @@ const LISTS: [&str; 15] = [
     "aliases",
     "types",
     "descriptors",
+    "places",
     "areas",
     "edges",
     "limits",

@@ -4,7 +4,7 @@ mod cases;
 mod examples;
 mod sized;
 
-use harness::answer::Whole;
+use harness::answer::{Whole, NUMBERS};
 use harness::comparison::Basis;
 use harness::expected::{expected, original_answer, Expected};
 use harness::input::Input;
@@ -76,7 +76,7 @@ fn write(folder: &Path, name: &str, inputs: &[Input]) {
 /// Examples, and short inputs of every kind, with a limit on how many have the same answer's number.
 fn made_inputs() -> Vec<Input> {
     let mut inputs = examples::marked_examples();
-    let mut seen = [0; 13];
+    let mut seen = [0; NUMBERS];
     for number in 0..4000 {
         let input = numbered(number);
         let short = input.d1.len() <= LONGEST && input.d2.len() <= LONGEST && input.ends.len() <= LONGEST;

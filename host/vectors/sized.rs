@@ -2,7 +2,7 @@
 
 use crate::cases::Case;
 use crate::{answer, cases, examples, numbered, settled};
-use harness::answer::{Answer, Whole};
+use harness::answer::{Answer, Whole, NUMBERS};
 use harness::expected::around;
 use harness::input::hex;
 use harness::limits::{Areas, TEXT};
@@ -60,7 +60,7 @@ fn line(whole: &Whole, areas: Areas) -> String {
 
 fn pairs() -> Vec<Case> {
     let mut pairs = Vec::new();
-    let mut seen = [0; 13];
+    let mut seen = [0; NUMBERS];
     let examples = examples::marked_examples();
     let count = examples.len();
     for (place, input) in examples.into_iter().chain((0..4000).map(numbered)).enumerate() {

@@ -13,7 +13,7 @@ its default descriptor (`default`), or the field, getter and setter of a propert
 
 Exit status: 0 all were read; 1 one was refused or is damaged, or a file named by itself has no Kotlin metadata; 2 usage; 4 a file can't be
 read, the output can't be written, or the library can't be built."""
-import output, runs, sheet_json, sheets
+import output, payloads, runs, sheet_json, sheets
 from sheet_text import record_lines, sheet_lines
 
 SUMMARY = 'the sheets of classes, in words or as JSON'
@@ -33,8 +33,9 @@ class InText:
         self.first = False
         output.write(heading + ''.join(line + '\n' for line in self.lines(one)))
 
-    def refused(self, found, _, number, detail):
-        output.say(f'{found.path()}: {sheets.refusal_text(number, detail)}')
+    def refused(self, found, _, refusal):
+        place = refusal.place and payloads.text(refusal.place)
+        output.say(f'{found.path()}: {sheets.refusal_text(refusal.number, refusal.detail, place)}')
 
     def not_a_class(self, found, why):
         output.say(f'{found.path()}: not a class file that can be read: {why}')
@@ -46,8 +47,8 @@ class InLines(InText):
     def read(self, one):
         output.write(sheets.answer_line(0, 0, one.answer.sheet, one.answer.text) + '\n')
 
-    def refused(self, _, __, number, detail):
-        output.write(sheets.answer_line(number, detail, b'', b'') + '\n')
+    def refused(self, _, __, refusal):
+        output.write(sheets.answer_line(refusal.number, refusal.detail, b'', b'') + '\n')
 
 
 class InJson:
@@ -57,8 +58,8 @@ class InJson:
     def read(self, one):
         output.write(sheet_json.line(sheet_json.read_json(one)))
 
-    def refused(self, found, name, number, detail):
-        output.write(sheet_json.line(sheet_json.refused_json(found, name, number, detail)))
+    def refused(self, found, name, refusal):
+        output.write(sheet_json.line(sheet_json.refused_json(found, name, refusal)))
 
     def not_a_class(self, found, why):
         output.write(sheet_json.line(sheet_json.not_a_class_json(found, why)))

@@ -1,4 +1,4 @@
--- Document 01's numbers and details of the twelve refusals, in one place.
+-- Numbers and details of all refusals, in one place: document 01's twelve, then those that came later.
 -- Assumes nothing.
 use Prim.Native.Nat.{ℕ}
 use Rattle.foundation.specs.Results.{
@@ -27,15 +27,15 @@ numberOf newerVersion = 4
 numberOf emptyPayload = 5
 numberOf (notAByte unit) = 6
 numberOf varintCutShort = 7
-numberOf pastItsMessage = 7
-numberOf fieldTooLarge = 7
+numberOf pastItsMessage = 13
+numberOf fieldTooLarge = 14
 numberOf (wireType type) = 8
 numberOf oversizedVarint = 9
 numberOf tooManyTypes = 10
 numberOf textTooLong = 11
 numberOf sheetTooLong = 12
 
--- The unit of 6, the type of 8, else 0. What a refusal tells may depend on its place among the decoded bytes too; none does so far.
+-- The unit of 6; of 7, 8, 9, 13 and 14 the place of the refusal, an offset among the decoded bytes; else 0.
 unfoldable pub detailOf : Cause → ℕ → ℕ
 detailOf d1TooLong place = 0
 detailOf d2TooLong place = 0
@@ -43,11 +43,11 @@ detailOf stringEnds place = 0
 detailOf newerVersion place = 0
 detailOf emptyPayload place = 0
 detailOf (notAByte unit) place = unit
-detailOf varintCutShort place = 0
-detailOf pastItsMessage place = 0
-detailOf fieldTooLarge place = 0
-detailOf (wireType type) place = type
-detailOf oversizedVarint place = 0
+detailOf varintCutShort place = place
+detailOf pastItsMessage place = place
+detailOf fieldTooLarge place = place
+detailOf (wireType type) place = place
+detailOf oversizedVarint place = place
 detailOf tooManyTypes place = 0
 detailOf textTooLong place = 0
 detailOf sheetTooLong place = 0

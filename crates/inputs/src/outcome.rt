@@ -28,20 +28,20 @@ pub fn refused(number: u64, detail: u64) -> Outcome
     }
 }
 
-// 7, 8 with the wire type, 9.
+// 7, 8, 9, 13 and 14, each with its place.
 fn wire_refusal(error: WireError) -> Outcome
     ensures { λ r. ⌜ RefusedAs (wireCause error) (wirePlace error) r ⌝ }
 {
     match error {
-        WireError::VarintCutShort { place: _ } => refused(7, 0),
-        WireError::OversizedVarint { place: _ } => refused(9, 0),
-        WireError::PastItsMessage { place: _ } => refused(7, 0),
-        WireError::FieldTooLarge { place: _ } => refused(7, 0),
-        WireError::WireType { kind, place: _ } => refused(8, kind as u64),
+        WireError::VarintCutShort { place } => refused(7, place as u64),
+        WireError::OversizedVarint { place } => refused(9, place as u64),
+        WireError::PastItsMessage { place } => refused(13, place as u64),
+        WireError::FieldTooLarge { place } => refused(14, place as u64),
+        WireError::WireType { kind: _, place } => refused(8, place as u64),
     }
 }
 
-// 7 to 10.
+// 7 to 10, 13 and 14.
 pub fn stop_refusal(stop: Stop) -> Outcome
     ensures { λ r. ⌜ RefusedAs (stopCause stop) (stopPlace stop) r ⌝ }
 {

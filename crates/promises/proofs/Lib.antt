@@ -4,7 +4,8 @@ pub mod Costs
 pub mod WalkLaws
 pub mod Tabled
 pub mod Sound
-pub mod Early
+pub mod Places
+pub mod Broke
 pub mod Longest
 pub mod Promised
 pub mod Answered

@@ -24,7 +24,7 @@ use Rattle.metadata.specs.Read.{reading, read}
 use Rattle.promises.specs.Promises.{longestSheet, sheetBytes, textBytes, Enough}
 use Rattle.promises.proofs.Accepted.{accepted-reads, Fitting, sheet-bytes, text-bytes}
 use Rattle.promises.proofs.Costs.{membersCost, declarations-length}
-use Rattle.promises.proofs.Early.{Early, reading-early}
+use Rattle.promises.proofs.Places.{Breaks, breaks-early, reading-breaks}
 use Rattle.promises.proofs.Sound.{bodyLimit, reading-costs, reading-enters}
 
 -- What is read of any input makes a sheet of 411,647 bytes at most.
@@ -68,26 +68,28 @@ text-refused : (sheet text : List ℕ) (rows : List Row) (n : ℕ) → min (leng
 unfolding written numberOf
 text-refused sheet text rows n h = rw (lt-ltb (min (length text) textLimit) (length (texts rows)) h)
 
--- An answer above 10 comes of what was read, and its rows.
-late-reads : (sheet text : List ℕ) (i : Input) → 11 ≤ read sheet text i .number → (d : Declarations) × (left : ℕ) × (reading i ≡ ok (d, left))
+-- 11 and 12 come of what was read, and its rows.
+late-reads : (sheet text : List ℕ) (i : Input) → 11 ≤ read sheet text i .number → read sheet text i .number ≤ 12
+    → (d : Declarations) × (left : ℕ) × (reading i ≡ ok (d, left))
 unfolding read
-late-reads sheet text i = go (reading i) (reading-early i)
+late-reads sheet text i = go (reading i) (reading-breaks i)
   where
-    go : (r : Res (Declarations × ℕ)) → Early r → 11 ≤ answered sheet text (kindOf (i .k)) r .number → (d : Declarations) × (left : ℕ) × (r ≡ ok (d, left))
-    go (ok r) h z = (r .0, r .1, refl)
-    go (refused c p) h z = absurd (omega arith)
+    go : (r : Res (Declarations × ℕ)) → Breaks i r → 11 ≤ answered sheet text (kindOf (i .k)) r .number → answered sheet text (kindOf (i .k)) r .number ≤ 12
+        → (d : Declarations) × (left : ℕ) × (r ≡ ok (d, left))
+    go (ok r) h y z = (r .0, r .1, refl)
+    go (refused c p) h y z = absurd (breaks-early i c p h y z)
 
 module _ (sheet text : List ℕ) (i : Input) where
   sheet-enough : longestSheet ≤ length sheet → read sheet text i .number ≡ 12 → ⊥
   sheet-enough h z =
-      let g = late-reads sheet text i (omega arith) in
+      let g = late-reads sheet text i (omega arith) (omega arith) in
       let e = read-written sheet text i (g .0) (g .1) (g .2) in
       let short = short-area sheet text (declarationRows (kindOf (i .k)) (g .0)) (allowance - g .1) (sym (ap (λ (a : Answer). a .number) e) ∙ z) in
       omega (arith, short, sheet-short i (g .0) (g .1) (g .2))
 
   text-enough : textLimit ≤ length text → read sheet text i .number ≡ 11 → (sheet′ text′ : List ℕ) → read sheet′ text′ i .number ≡ 11
   text-enough h z sheet′ text′ =
-      let g = late-reads sheet text i (omega arith) in
+      let g = late-reads sheet text i (omega arith) (omega arith) in
       let rows = declarationRows (kindOf (i .k)) (g .0) in
       let e = read-written sheet text i (g .0) (g .1) (g .2) in
       let long = long-text sheet text rows (allowance - g .1) (sym (ap (λ (a : Answer). a .number) e) ∙ z) in

@@ -1,11 +1,14 @@
--- What is promised of an accepted answer, on the bytes of its two areas; and areas that are always enough.
+-- What is promised of an accepted answer, on the bytes of its two areas; areas that are always enough; and where a refused payload broke.
 -- Assumes nothing.
 use mathlib.Core.Path.{_≡_}
+use mathlib.Core.Bool.{Bool, _||_}
 use mathlib.Core.List.{List}
 use mathlib.Core.Option.{some}
-use Prim.Native.Nat.{ℕ, _+_, _≤_}
+use Prim.Native.Nat.{ℕ, _+_, _≤_, _<_}
+use lib.Dec.{eqb}
 use lib.ListN.{length, take}
 use Rattle.foundation.specs.Results.{ok}
+use Rattle.encoding.specs.Encoding.{decoded}
 use Rattle.sheet.specs.Rows.{Row}
 use Rattle.sheet.specs.Reading.{rowsOf}
 use Rattle.sheet.specs.Refs.{refsOf, CutInOrder}
@@ -59,3 +62,17 @@ pub record Enough (sheet text : List ℕ) (i : Input) (a : Answer) : Type 0 wher
   -- and with both an input is accepted if it is with any other areas, with the same sheet and the same text.
   pub bothEnough : longestSheet ≤ length sheet → textLimit ≤ length text → (sheet′ text′ : List ℕ) → read sheet′ text′ i .number ≡ 0
       → (a .number ≡ 0) × (sheetBytes a ≡ sheetBytes (read sheet′ text′ i)) × (textBytes a ≡ textBytes (read sheet′ text′ i))
+
+-- The numbers whose detail is an offset among the decoded bytes.
+abbrev pub tellsOffset : ℕ → Bool
+tellsOffset number = eqb number 7 || (eqb number 8 || (eqb number 9 || (eqb number 13 || eqb number 14)))
+
+-- Where an answer with such a number says that the payload broke:
+pub record BrokeAt (i : Input) (a : Answer) : Type 0 where
+  -- d1 was decoded,
+  pub bytes : List ℕ
+  pub decodes : decoded (i .d1) ≡ ok bytes
+  -- and the detail is an offset among its bytes. It is their number only if a varint (7) or a fixed value (13) is missing at the very end;
+  pub offset : a .detail ≤ length bytes
+  -- a tag (8, 14) and an oversized varint (9) are there.
+  pub there : (a .number ≡ 7 → ⊥) → (a .number ≡ 13 → ⊥) → a .detail < length bytes

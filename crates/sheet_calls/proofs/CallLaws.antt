@@ -3,6 +3,7 @@
 use mathlib.Core.Path.{_≡_, ap, _∙_}
 use mathlib.Core.List.{List, [], _∷_}
 use Prim.Native.Nat.{ℕ}
+use lib.Dec.{T}
 use lib.IntN.{ℤ}
 use mir.Facts.{toZ-ofZ}
 use mir.Syntax.{w32}
@@ -13,8 +14,9 @@ use Rattle.inputs.specs.Outcomes as definition
 use Rattle.metadata.specs.Read.{read}
 use Rattle.metadata.specs.told.ReadTold.{toldBy}
 use Rattle.metadata.specs.declared.Answer.{Answer}
-use Rattle.promises.specs.Promises.{Promised, Enough}
+use Rattle.promises.specs.Promises.{Promised, Enough, tellsOffset, BrokeAt}
 use Rattle.promises.proofs.Answered.{answer-promised}
+use Rattle.promises.proofs.Broke.{answer-broke}
 use Rattle.promises.proofs.Longest.{areas-enough}
 use Rattle.defaults.specs.Demand.{Demand}
 use Rattle.defaults.proofs.Demand.{demand-3}
@@ -37,16 +39,21 @@ exported-is S T k major minor patch d1 d2 ends f g h i r S′ T′ e =
 -- What `sheet_read` ensures of its answer, clause by clause.
 abbrev pub Answers : List ℕ → List ℕ → Input → definition.Answer → Type 0
 Answers sheet text i a =
-    (read sheet text i ≡ a) × (Enough sheet text i a × (Units (i .d2) × ((a .number ≡ 0 → Promised i a) × (a .number ≡ 0 → DemandWithAny i a))))
+    (read sheet text i ≡ a)
+    × (Enough sheet text i a
+    × ((T (tellsOffset (a .number)) → BrokeAt i a) × (Units (i .d2) × ((a .number ≡ 0 → Promised i a) × (a .number ≡ 0 → DemandWithAny i a)))))
 
 -- It holds of an answer that equals the definition's, where the units of d2 are of 16 bits,
 pub answers : (sheet text : List ℕ) (i : Input) (a : definition.Answer) → read sheet text i ≡ a → Units (i .d2) → Answers sheet text i a
 answers sheet text i a e u = (
   e,
-  (areas-enough sheet text i e, (u, (answer-promised sheet text i e u, λ y sheet′ text′ j b e′ v z. demand-3 sheet text sheet′ text′ i j e e′ u v y z))),
+  (
+    areas-enough sheet text i e,
+    (answer-broke sheet text i e, (u, (answer-promised sheet text i e u, λ y sheet′ text′ j b e′ v z. demand-3 sheet text sheet′ text′ i j e e′ u v y z))),
+  ),
 )
 
 -- and two such answers keep demand 3 if both are accepted: of neither input anything is asked.
 pub two-calls : (sheet text sheet′ text′ : List ℕ) (i j : Input) (a b : definition.Answer) → Answers sheet text i a → Answers sheet′ text′ j b
     → a .number ≡ 0 → b .number ≡ 0 → Demand i j a b
-two-calls sheet text sheet′ text′ i j a b p q y z = p .1 .1 .1 .1 y sheet′ text′ j b (q .0) (q .1 .1 .0) z
+two-calls sheet text sheet′ text′ i j a b p q y z = p .1 .1 .1 .1 .1 y sheet′ text′ j b (q .0) (q .1 .1 .1 .0) z

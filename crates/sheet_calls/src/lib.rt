@@ -1,16 +1,18 @@
 // The functions that the static library exports: a slice is a pointer and a length.
 ghost use mathlib.Core.Path.{_≡_};
 ghost use mathlib.Core.List.{[], _∷_};
+ghost use lib.Dec.{T};
 ghost use lib.ListN.{getD};
 ghost use Rattle.characters.specs.WellFormed.{Units};
 ghost use Rattle.inputs.specs.Inputs.{input};
 ghost use Rattle.metadata.specs.Read.{read};
-ghost use Rattle.promises.specs.Promises.{Promised, Enough};
+ghost use Rattle.promises.specs.Promises.{Promised, Enough, tellsOffset, BrokeAt};
 ghost use Rattle.sheet_calls.specs.Calls.{toldIn, DemandWithAny};
 use metadata::read;
 
 // `read`, with the answer's number, detail, sheet length, text length and types in this order. Areas of 411,647 and 65,534 bytes are always enough.
-// Of an accepted answer (number 0) it ensures what is promised of every sheet and, with any second one, demand 3. Nothing is asked of what is handed in.
+// The detail of a 7, 8, 9, 13 or 14 is an offset among the decoded bytes. Of an accepted answer (number 0) it ensures what is promised of every sheet
+// and, with any second one, demand 3. Nothing is asked of what is handed in.
 #[no_mangle]
 pub extern "C" fn sheet_read(
     k: i32,
@@ -26,6 +28,7 @@ pub extern "C" fn sheet_read(
 )
     ensures { λ _. ⌜ read (now (sheet .entry)) (now (text .entry)) (input k (major ∷ minor ∷ patch ∷ []) (now (d1 .entry)) (now (d2 .entry)) (now (ends .entry))) ≡ toldIn (now (answer .exit)) (now (sheet .exit)) (now (text .exit)) ⌝ }
     ensures enough { λ _. ⌜ Enough (now (sheet .entry)) (now (text .entry)) (input k (major ∷ minor ∷ patch ∷ []) (now (d1 .entry)) (now (d2 .entry)) (now (ends .entry))) (toldIn (now (answer .exit)) (now (sheet .exit)) (now (text .exit))) ⌝ }
+    ensures broke { λ _. ⌜ (T (tellsOffset (getD (now (answer .exit)) 0 0)) → BrokeAt (input k (major ∷ minor ∷ patch ∷ []) (now (d1 .entry)) (now (d2 .entry)) (now (ends .entry))) (toldIn (now (answer .exit)) (now (sheet .exit)) (now (text .exit)))) ⌝ }
     ensures units { λ _. ⌜ Units (now (d2 .entry)) ⌝ }
     ensures promised { λ _. ⌜ (getD (now (answer .exit)) 0 0 ≡ 0 → Promised (input k (major ∷ minor ∷ patch ∷ []) (now (d1 .entry)) (now (d2 .entry)) (now (ends .entry))) (toldIn (now (answer .exit)) (now (sheet .exit)) (now (text .exit)))) ⌝ }
     ensures demanded { λ _. ⌜ (getD (now (answer .exit)) 0 0 ≡ 0 → DemandWithAny (input k (major ∷ minor ∷ patch ∷ []) (now (d1 .entry)) (now (d2 .entry)) (now (ends .entry))) (toldIn (now (answer .exit)) (now (sheet .exit)) (now (text .exit)))) ⌝ }

@@ -72,7 +72,16 @@ mistakes! {
     SheetBeforeText: "12 is tested before 11",
     PastTheText: "a byte past the text is written",
     TouchesWhenRefused: "a refusal touches the sheet",
-    DetailLeft: "a refusal 7 has a detail",
+    DetailLeft: "refusals 10 to 12 have a detail",
+    PastTruncated: "what runs past its message is refused with 7",
+    FieldTruncated: "a field too large is refused with 7",
+    WireTypeTold: "8 tells the wire type and not the tag's place",
+    BodyPlace: "a length past its message tells the body's place",
+    FixedTagPlace: "a fixed value past its message tells its tag's place",
+    MissingBytePlace: "a varint cut short tells the place of the missing byte",
+    PlaceInMessage: "a place is counted from its message's first byte",
+    PlaceInRun: "a place in a packed run is counted from the run's first byte",
+    PlaceWithMarker: "a place counts the marker",
 }
 
 thread_local! {

@@ -64,11 +64,12 @@ pub fn read(input: &Input) -> Reading {
 }
 
 fn payload(bytes: &[u8], input: &Input, kind: u8, reading: &mut Reading) -> Result<(), Refused> {
+    let whole = wire::Part::whole(bytes);
     let mut at = 0;
-    let table = wire::delimited(bytes, &mut at)?;
+    let table = wire::delimited(whole, &mut at)?;
     let strings: Vec<&[u16]> = input.strings().collect();
     let names = names::Names::of(table, &strings, reading)?;
-    let body = wire::cut(&bytes[at..])?;
+    let body = wire::cut(whole.from(at))?;
     reading.aliases = members::has_aliases(&body, kind);
     let class = members::class(&body, kind, &names)?;
     let mut out = sheet::Writer::default();
@@ -139,8 +140,14 @@ pub fn stand_in(mistake: Mistake, input: &Input, sheet: &mut [u8], text: &mut [u
     if planted(Mistake::TouchesWhenRefused) && whole.answer.number == 7 && !sheet.is_empty() {
         sheet[0] = 1;
     }
-    if planted(Mistake::DetailLeft) && whole.answer.number == 7 {
+    if planted(Mistake::DetailLeft) && whole.answer.number >= 10 && whole.answer.number <= 12 {
         answer[1] = 1;
+    }
+    if planted(Mistake::PlaceWithMarker) && [7, 8, 9, 13, 14].contains(&whole.answer.number) {
+        answer[1] += 1;
+    }
+    if planted(Mistake::PastTruncated) && whole.answer.number == 13 {
+        answer[0] = 7;
     }
     mistakes::plant(Mistake::None);
 }

@@ -1,7 +1,7 @@
 //! Names by index: records of the name table first, then the strings of d2.
 
 use super::mistakes::{planted, Mistake};
-use super::wire::{cut, Message, Refused};
+use super::wire::{cut, Message, Part, Refused};
 use super::Reading;
 
 /// A record of the name table that serves the indices from `first` on, up to the next record's.
@@ -29,7 +29,7 @@ pub struct Names<'a> {
 }
 
 impl<'a> Names<'a> {
-    pub fn of(table: &'a [u8], strings: &'a [&'a [u16]], reading: &mut Reading) -> Result<Self, Refused> {
+    pub fn of(table: Part<'a>, strings: &'a [&'a [u16]], reading: &mut Reading) -> Result<Self, Refused> {
         let table = cut(table)?;
         if planted(Mistake::LocalFirst) {
             table.numbers(5)?;

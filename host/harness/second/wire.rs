@@ -2,22 +2,53 @@
 
 use super::mistakes::{planted, Mistake};
 
+/// Why a payload is refused. A place is an offset among the decoded bytes, of the first byte of the varint or fixed value that is read.
 #[derive(Debug, Clone, Copy, PartialEq, Eq)]
 pub enum Refused {
-    Truncated,
-    WireType(u8),
-    Oversized,
+    /// A varint is cut short by its message's end.
+    Truncated(usize),
+    /// Of the tag.
+    WireType(usize),
+    Oversized(usize),
     Types,
+    /// Of the length, or of the fixed value itself.
+    PastMessage(usize),
+    /// Of the tag.
+    FieldTooLarge(usize),
 }
 
 impl Refused {
     pub fn number(self) -> (u64, u64) {
         match self {
-            Self::Truncated => (7, 0),
-            Self::WireType(wire_type) => (8, u64::from(wire_type)),
-            Self::Oversized => (9, 0),
+            Self::Truncated(place) => (7, place as u64),
+            Self::WireType(place) => (8, place as u64),
+            Self::Oversized(place) => (9, place as u64),
             Self::Types => (10, 0),
+            Self::PastMessage(place) => (13, place as u64),
+            Self::FieldTooLarge(place) => (14, place as u64),
         }
+    }
+}
+
+/// Some of the decoded bytes, and the place of the first of them.
+#[derive(Debug, Clone, Copy)]
+pub struct Part<'a> {
+    pub bytes: &'a [u8],
+    pub start: usize,
+}
+
+impl<'a> Part<'a> {
+    pub fn whole(bytes: &'a [u8]) -> Self {
+        Self { bytes, start: 0 }
+    }
+
+    /// What stands from an offset in this part on.
+    pub fn from(self, at: usize) -> Self {
+        Self { bytes: &self.bytes[at..], start: self.start + at }
+    }
+
+    fn place(self, at: usize) -> usize {
+        self.start + at
     }
 }
 
@@ -25,7 +56,7 @@ impl Refused {
 pub enum Value<'a> {
     Varint(u64),
     Fixed,
-    Bytes(&'a [u8]),
+    Bytes(Part<'a>),
 }
 
 /// A message cut into its fields, in order.
@@ -33,55 +64,72 @@ pub enum Value<'a> {
 pub struct Message<'a>(Vec<(u32, Value<'a>)>);
 
 /// A varint's groups of 7 bits; of the tenth only the lowest bit counts.
-pub fn varint(bytes: &[u8], at: &mut usize) -> Result<u64, Refused> {
-    let rest = &bytes[*at..];
+pub fn varint(part: Part<'_>, at: &mut usize) -> Result<u64, Refused> {
+    let rest = &part.bytes[*at..];
+    let place = part.place(*at);
     let length = rest.iter().take(10).take_while(|byte| **byte >= 0x80).count() + 1;
     if planted(Mistake::EleventhMissing) && length == 11 {
-        return Err(Refused::Oversized);
+        return Err(Refused::Oversized(place));
     }
     if rest.len() < length {
-        return Err(Refused::Truncated);
+        let missing = if planted(Mistake::MissingBytePlace) { rest.len() } else { 0 };
+        return Err(Refused::Truncated(place + missing));
     }
     if length == 11 || (planted(Mistake::TenthByteWhole) && length == 10 && rest[9] > 1) {
-        return Err(Refused::Oversized);
+        return Err(Refused::Oversized(place));
     }
     *at += length;
     let groups = rest[..length].iter().enumerate();
     Ok(groups.fold(0, |number, (place, byte)| number | u64::from(byte & 0x7f) << (7 * place)))
 }
 
-fn part<'a>(bytes: &'a [u8], at: &mut usize, length: u64) -> Result<&'a [u8], Refused> {
-    let rest = &bytes[*at..];
-    if length > rest.len() as u64 {
-        return Err(Refused::Truncated);
+/// So many bytes; `of` is the place to tell where they run past the end.
+fn taken<'a>(part: Part<'a>, at: &mut usize, length: u64, of: usize) -> Result<Part<'a>, Refused> {
+    let rest = part.from(*at);
+    if length > rest.bytes.len() as u64 {
+        return Err(Refused::PastMessage(of));
     }
     *at += length as usize;
-    Ok(&rest[..length as usize])
+    Ok(Part { bytes: &rest.bytes[..length as usize], start: rest.start })
 }
 
-pub fn delimited<'a>(bytes: &'a [u8], at: &mut usize) -> Result<&'a [u8], Refused> {
-    let length = varint(bytes, at)?;
-    part(bytes, at, length)
+fn fixed(part: Part<'_>, at: &mut usize, length: u64, tag: usize) -> Result<(), Refused> {
+    let of = if planted(Mistake::FixedTagPlace) { tag } else { part.place(*at) };
+    taken(part, at, length, of).map(|_| ())
 }
 
-pub fn cut(bytes: &[u8]) -> Result<Message<'_>, Refused> {
+pub fn delimited<'a>(part: Part<'a>, at: &mut usize) -> Result<Part<'a>, Refused> {
+    let place = part.place(*at);
+    let length = varint(part, at)?;
+    let of = if planted(Mistake::BodyPlace) { part.place(*at) } else { place };
+    taken(part, at, length, of)
+}
+
+pub fn cut(part: Part<'_>) -> Result<Message<'_>, Refused> {
+    let part = if planted(Mistake::PlaceInMessage) { Part::whole(part.bytes) } else { part };
     let mut fields = Vec::new();
     let mut at = 0;
-    while at < bytes.len() {
-        let tag = varint(bytes, &mut at)?;
+    while at < part.bytes.len() {
+        let place = part.place(at);
+        let tag = varint(part, &mut at)?;
         let wire_type = (tag % 8) as u8;
+        let wrong_type = if planted(Mistake::WireTypeTold) { usize::from(wire_type) } else { place };
         if planted(Mistake::FieldAfterType) && ![0, 1, 2, 5].contains(&wire_type) {
-            return Err(Refused::WireType(wire_type));
+            return Err(Refused::WireType(wrong_type));
         }
         let Ok(field) = u32::try_from(tag / 8) else {
-            return Err(Refused::Truncated);
+            return Err(if planted(Mistake::FieldTruncated) {
+                Refused::Truncated(place)
+            } else {
+                Refused::FieldTooLarge(place)
+            });
         };
         let value = match wire_type {
-            0 => Value::Varint(varint(bytes, &mut at)?),
-            1 => part(bytes, &mut at, 8).map(|_| Value::Fixed)?,
-            2 => Value::Bytes(delimited(bytes, &mut at)?),
-            5 => part(bytes, &mut at, 4).map(|_| Value::Fixed)?,
-            _ => return Err(Refused::WireType(wire_type)),
+            0 => Value::Varint(varint(part, &mut at)?),
+            1 => fixed(part, &mut at, 8, place).map(|()| Value::Fixed)?,
+            2 => Value::Bytes(delimited(part, &mut at)?),
+            5 => fixed(part, &mut at, 4, place).map(|()| Value::Fixed)?,
+            _ => return Err(Refused::WireType(wrong_type)),
         };
         fields.push((field, value));
     }
@@ -114,18 +162,22 @@ impl<'a> Message<'a> {
         u32::try_from(number).ok()
     }
 
-    pub fn bytes(&self, field: u32) -> Option<&'a [u8]> {
+    fn part(&self, field: u32) -> Option<Part<'a>> {
         match self.first(field) {
-            Some(Value::Bytes(bytes)) => Some(bytes),
+            Some(Value::Bytes(part)) => Some(part),
             _ => None,
         }
+    }
+
+    pub fn bytes(&self, field: u32) -> Option<&'a [u8]> {
+        self.part(field).map(|part| part.bytes)
     }
 
     pub fn message(&self, field: u32) -> Result<Option<Message<'a>>, Refused> {
         if planted(Mistake::MessageSkips) {
             return self.parts(field).next().map(cut).transpose();
         }
-        self.bytes(field).map(cut).transpose()
+        self.part(field).map(cut).transpose()
     }
 
     /// Whether a length-delimited occurrence of the field is there.
@@ -133,9 +185,9 @@ impl<'a> Message<'a> {
         self.parts(field).next().is_some()
     }
 
-    fn parts(&self, field: u32) -> impl Iterator<Item = &'a [u8]> + '_ {
+    fn parts(&self, field: u32) -> impl Iterator<Item = Part<'a>> + '_ {
         self.all(field).filter_map(|value| match value {
-            Value::Bytes(bytes) => Some(bytes),
+            Value::Bytes(part) => Some(part),
             _ => None,
         })
     }
@@ -150,8 +202,9 @@ impl<'a> Message<'a> {
             match value {
                 Value::Varint(number) if !planted(Mistake::PackedOnly) => numbers.push(number),
                 Value::Bytes(run) => {
+                    let run = if planted(Mistake::PlaceInRun) { Part::whole(run.bytes) } else { run };
                     let mut at = 0;
-                    while at < run.len() {
+                    while at < run.bytes.len() {
                         numbers.push(varint(run, &mut at)?);
                     }
                 }
