@@ -46,7 +46,7 @@ use Rattle.type_references.specs.ParseTold.{
   nowhere,
   noEntryArea,
   NestRoom,
-  TypeRoom,
+  ParseRoom,
 }
 use Rattle.type_references.proofs.PendingLaws.{walked-then}
 use Rattle.type_references.proofs.WalkLaws.{loop-start, loop-end}
@@ -105,7 +105,7 @@ module _ (e : Lent) {index : ℕ} {x : Piece} (t : EntryTold (e .payload) (entri
   entry-fits (noEntryArea z h) = noArea z (entry-alone h)
 
   pub entry-room : {nest : List ℕ} {left : ℕ} {s : State} → Ready (e .payload) (e .d2) s → left ≤ 64 → FitsEntry e index (s .types) (length nest)
-      → TypeRoom e (take (b - a) (drop a (e .payload))) nest a (left - 1) s
+      → ParseRoom e (take (b - a) (drop a (e .payload))) nest a (left - 1) s
   entry-room h k f =
       let i = entry-in (e .payload) (entriesIn (e .tables) (e .notes)) (e .tables .types) index t g in
       record { ready = h; inside = entry-inside (e .payload) a b (i .0) (i .1); deep = omega arith; room = entry-fits f }
@@ -134,7 +134,7 @@ module _ {e : Lent} {msg : List ℕ} {base left role : ℕ} {nullable : Bool} {s
     entered-area (lentArea h z) k = entered-fits h
     entered-area (noArea z h) k = absurd (k z)
 
-    pub entered-room : {nest : List ℕ} → TypeRoom e msg nest base left s → (length nest ≡ 0 → ⊥)
+    pub entered-room : {nest : List ℕ} → ParseRoom e msg nest base left s → (length nest ≡ 0 → ⊥)
         → NestRoom (e .payload) (e .d2) msg nest (e .tables) base less s₁
     entered-room h k =
         let one = subst (WalkedSpends s) q (n .spends) in
@@ -171,6 +171,6 @@ module _ {e : Lent} {msg : List ℕ} {base left role : ℕ} {nullable : Bool} {s
     stops (lentArea h z) k = let one = subst (EnteredOne s) q (n .one) in absurd (omega (arith, z k, one))
     stops (noArea z h) k = parse-alone h
 
-    pub parse-stops : {nest : List ℕ} → TypeRoom e msg nest base left s → length nest ≡ 0
+    pub parse-stops : {nest : List ℕ} → ParseRoom e msg nest base left s → length nest ≡ 0
         → ParseTold e msg base left role nullable s (walked.Done s₁) S S₁ T T₁
     parse-stops h k = stops (h .room) k

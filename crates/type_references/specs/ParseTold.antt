@@ -142,7 +142,7 @@ pub record NestRoom (payload d2 msg nest : List ℕ) (tables : Tables) (base lef
   pub room : Fits tables (s .types) (length msg) (length nest)
 
 -- What the reading of a type starts from.
-pub record TypeRoom (e : Lent) (msg nest : List ℕ) (base left : ℕ) (s : State) : Type 0 where
+pub record ParseRoom (e : Lent) (msg nest : List ℕ) (base left : ℕ) (s : State) : Type 0 where
   pub ready : Ready (e .payload) (e .d2) s
   pub inside : base + length msg ≤ length (e .payload)
   pub deep : left ≤ maxDepth

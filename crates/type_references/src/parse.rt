@@ -5,7 +5,7 @@ ghost use Prim.Native.Nat.{_≤_};
 ghost use lib.ListN.{length};
 ghost use Rattle.schema.specs.Told.{lent, Ready};
 ghost use Rattle.schema.specs.TypesTold.{ParseTold, ResolveTold};
-ghost use Rattle.type_references.specs.ParseTold.{ArgumentsTold, FitsEntry, NestRoom, TypeRoom};
+ghost use Rattle.type_references.specs.ParseTold.{ArgumentsTold, FitsEntry, NestRoom, ParseRoom};
 use crate::arguments::Argument;
 use crate::arguments::argument_at;
 use crate::enter::TypePlace;
@@ -147,7 +147,7 @@ pub(crate) fn parse_at(
     sheet: &mut [u8],
     text: &mut [u8],
 ) -> Walked
-    requires { ⌜ TypeRoom (lent (now payload) (now d2) (now ends) (now notes) tables) (now msg) (now nest) base (place .left) state ⌝ }
+    requires { ⌜ ParseRoom (lent (now payload) (now d2) (now ends) (now notes) tables) (now msg) (now nest) base (place .left) state ⌝ }
     ensures { λ r. ⌜ ParseTold (lent (now (payload .entry)) (now (d2 .entry)) (now (ends .entry)) (now (notes .entry)) tables) (now (msg .entry)) base (place .left) (place .role) (place .nullable) state r (now (sheet .entry)) (now (sheet .exit)) (now (text .entry)) (now (text .exit)) ⌝ }
 {
     let entered = enter_type(
