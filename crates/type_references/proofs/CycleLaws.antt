@@ -1,39 +1,52 @@
 -- The cycle of calls: what each call asks for, what falls, and a type entered and then its arguments.
 -- Assumes nothing.
-use mathlib.Core.Path.{_≡_, refl, sym, subst}
+use mathlib.Core.Path.{_≡_, refl, ap, sym, subst, _∙_}
 use mathlib.Core.Bool.{Bool}
+use mathlib.Core.Option.{Option·some-injective}
 use mathlib.Core.List.{List, []}
 use Prim.Native.Nat.{ℕ, _+_, _-_, _*_, _≤_, _<_}
 use native.Mathlib.Omega.{arith}
-use lib.ListN.{length, take, drop}
+use lib.ListN.{length, take, drop, getElem?}
 use lib.Seq.{take-length}
 use Rattle.fields.specs.Fields.{Type·argument}
-use Rattle.messages.specs.told.Asked.{NextBodyTold}
+use Rattle.foundation.specs.Results.{ok, _from_}
+use Rattle.wire.specs.Wire.{Message, cut}
+use Rattle.wire.proofs.WalkLaws.{whole, ok-same}
+use Rattle.messages.specs.told.Asked.{bodies, NextIs, NextBodyTold}
 use Rattle.wire.specs.declared.Piece.{Piece}
 use Rattle.wire.specs.declared.Piece.the-variants as piece
 use Rattle.sheet.specs.declared.State.{State}
-use Rattle.schema.specs.Reading.{kept, allowance}
+use Rattle.schema.specs.Reading.{Scope, kept, allowance}
 use Rattle.schema.specs.Types.{argumentIn, typeAt}
-use Rattle.schema.specs.told.SchemaTold.{Lent, Ready, Spends, WalkedSpends}
-use Rattle.schema.specs.told.TypesTold.{orNullable, rowsIn, ParseTold}
+use Rattle.schema.specs.told.SchemaTold.{Lent, Scoped, entriesIn, Ready, Spends, WalkedSpends}
+use Rattle.schema.specs.told.TypesTold.{orNullable, rowsIn, EntryIs, EntryTold, ParseTold}
 use Rattle.schema.specs.declared.Tables.{Tables}
 use Rattle.schema.specs.declared.Stop.{Stop}
 use Rattle.schema.specs.declared.Walked.{Walked}
 use Rattle.schema.specs.declared.Walked.the-variants as walked
-use Rattle.schema.proofs.TypeLaws.{spends-then, ready-after}
+use Rattle.schema.proofs.TypeLaws.{spends-none, spends-then, ready-after}
+use Rattle.schema.proofs.EntryLaws.{entry-in, entry-below}
 use Rattle.schema.proofs.ParseLaws.{entry-inside}
 use Rattle.type_references.specs.told.Pending.{argumentRows}
 use Rattle.type_references.specs.told.ParseTold.{
   EnteredIs,
+  EnteredOne,
   EnterTold,
   ArgumentsTold,
   WaitingRoom,
   asTypes,
   asBytes,
+  Alone,
+  AloneEntry,
+  FitsType,
+  lentArea,
+  noArea,
   FitsEntry,
   roomy,
   nowhere,
+  noEntryArea,
   NestRoom,
+  ParseRoom,
 }
 use Rattle.type_references.proofs.PendingLaws.{walked-then}
 use Rattle.type_references.proofs.WalkLaws.{loop-start, loop-end}
@@ -57,17 +70,45 @@ pub falls-entry : (left : ℕ) {t : ℕ} → 3 * remaining left 0 ≡ t → (lef
 falls-entry left e h payload k a b p q =
     falls-inside left (length (take (b - a) (drop a payload))) e h (omega (arith, entry-inside payload a b p q))
 
--- What is asked for where an entry of the type table is read.
-pub entry-room : {payload d2 nest : List ℕ} {tables : Tables} {left : ℕ} {s : State} → Ready payload d2 s → left ≤ 64
-    → FitsEntry tables (s .types) (length nest) → {i : ℕ} → i < tables .types → (a b : ℕ) → a ≤ b → b ≤ length payload
-    → NestRoom payload d2 (take (b - a) (drop a payload)) nest tables a (left - 1) s
-entry-room {payload = payload} h k (roomy l) n a b p q =
-    record { ready = h; inside = entry-inside payload a b p q; deep = omega arith; room = asTypes l }
-entry-room h k (nowhere z) n a b p q = absurd (omega arith)
+-- An area with room.
+pub fits-types : {e : Lent} {base : ℕ} {msg : List ℕ} {types room : ℕ} → types ≤ room → FitsType e base msg types room
+fits-types h = lentArea (asTypes h) (λ z. omega arith)
 
-pub arguments-left : {e : Lent} {msg : List ℕ} {base left k : ℕ} {s : State} {r : Walked} {S S′ T T′ : List ℕ} → left ≡ k
-    → ArgumentsTold e msg base k s r S S′ T T′ → ArgumentsTold e msg base left s r S S′ T T′
-arguments-left {e} {msg} {base} {s = s} {r} {S} {S′} {T} {T′} q = subst (λ (n : ℕ). ArgumentsTold e msg base n s r S S′ T T′) (sym q)
+pub fits-bytes : {e : Lent} {base : ℕ} {msg : List ℕ} {types room : ℕ} → e .tables .types ≡ 0 → length msg < room → FitsType e base msg types room
+fits-bytes z h = lentArea (asBytes z (omega arith)) (λ k. absurd (omega arith))
+
+-- A type is alone if no argument is found in its message, and so is an entry if none is found in its.
+pub alone : {e : Lent} {base : ℕ} {msg : List ℕ} {x : Piece} → NextBodyTold base msg Type·argument 0 x → x ≡ piece.Nothing → Alone e base msg
+alone {base = base} {msg} t g = λ c o m k. subst (NextIs base msg Type·argument m) g (t .is m (ap cut (whole base msg) ∙ k))
+
+module _ (e : Lent) {index : ℕ} {x : Piece} (t : EntryTold (e .payload) (entriesIn (e .tables) (e .notes)) (e .tables .types) index x) {a b : ℕ}
+    (g : x ≡ piece.Body a b) where
+  entry-is : (c : Scope) → Scoped e c → EntryIs (e .payload) (getElem? (c .table .types) index) (piece.Body a b)
+  entry-is c o = subst (EntryIs (e .payload) (getElem? (c .table .types) index)) g (t .is (c .table .types) (o .entries))
+
+  pub alone-entry : Alone e a (take (b - a) (drop a (e .payload))) → AloneEntry e index
+  alone-entry h c o m q =
+      let j = entry-is c o in
+      let same : j .0 ≡ m = Option·some-injective (j .0) m (sym (j .1) ∙ q) in
+      subst (λ (y : Message). bodies Type·argument y ≡ []) same (h c o (j .0) (j .2))
+
+  entry-alone : AloneEntry e index → Alone e a (take (b - a) (drop a (e .payload)))
+  entry-alone h c o m k =
+      let j = entry-is c o in
+      let same : j .0 ≡ m = ok-same (sym (j .2) ∙ k) in
+      subst (λ (y : Message). bodies Type·argument y ≡ []) same (h c o (j .0) (j .1))
+
+  -- What is asked for where an entry of the type table is read.
+  entry-fits : {types room : ℕ} → FitsEntry e index types room → FitsType e a (take (b - a) (drop a (e .payload))) types room
+  entry-fits (roomy l) = fits-types l
+  entry-fits (nowhere z) = absurd (omega (arith, entry-below (e .payload) (entriesIn (e .tables) (e .notes)) (e .tables .types) index t g))
+  entry-fits (noEntryArea z h) = noArea z (entry-alone h)
+
+  pub entry-room : {nest : List ℕ} {left : ℕ} {s : State} → Ready (e .payload) (e .d2) s → left ≤ 64 → FitsEntry e index (s .types) (length nest)
+      → ParseRoom e (take (b - a) (drop a (e .payload))) nest a (left - 1) s
+  entry-room h k f =
+      let i = entry-in (e .payload) (entriesIn (e .tables) (e .notes)) (e .tables .types) index t g in
+      record { ready = h; inside = entry-inside (e .payload) a b (i .0) (i .1); deep = omega arith; room = entry-fits f }
 
 walked-spends : {s s₁ : State} (w : Walked) → Spends s s₁ → WalkedSpends s₁ w → WalkedSpends s w
 walked-spends (walked.Done s′) h k = spends-then h k
@@ -89,19 +130,20 @@ module _ {e : Lent} {msg : List ℕ} {base left role : ℕ} {nullable : Bool} {s
     entered-fits (asTypes h) = let one = subst (WalkedSpends s) q (n .spends) in asTypes (omega (arith, one .types))
     entered-fits (asBytes z h) = asBytes z h
 
-    pub entered-room : {payload d2 nest : List ℕ} {tables : Tables} → NestRoom payload d2 msg nest tables base left s
-        → NestRoom payload d2 msg nest tables base less s₁
-    entered-room h =
+    entered-area : {room : ℕ} → FitsType e base msg (s .types) room → (room ≡ 0 → ⊥) → WaitingRoom (e .tables) (s₁ .types) (length msg) room
+    entered-area (lentArea h z) k = entered-fits h
+    entered-area (noArea z h) k = absurd (k z)
+
+    pub entered-room : {nest : List ℕ} → ParseRoom e msg nest base left s → (length nest ≡ 0 → ⊥)
+        → NestRoom (e .payload) (e .d2) msg nest (e .tables) base less s₁
+    entered-room h k =
         let one = subst (WalkedSpends s) q (n .spends) in
         record {
           ready = ready-after (h .ready) one;
           inside = h .inside;
           deep = omega (arith, h .deep);
-          room = entered-fits (h .room);
+          room = entered-area (h .room) k;
         }
-
-    pub entered-ready : {payload d2 : List ℕ} → Ready payload d2 s → Ready payload d2 s₁
-    entered-ready h = ready-after h (subst (WalkedSpends s) q (n .spends))
 
     pub parse-entered : {r : Walked} {S₂ T₂ : List ℕ} → ArgumentsTold e msg base less s₁ r S₁ S₂ T₁ T₂ → ParseTold e msg base left role nullable s r S S₂ T T₂
     parse-entered {r} {S₂} {T₂} u = record {
@@ -115,8 +157,20 @@ module _ {e : Lent} {msg : List ℕ} {base left role : ℕ} {nullable : Bool} {s
     }
 
     -- a type with no argument
-    pub parse-alone : {x : Piece} → NextBodyTold base msg Type·argument 0 x → x ≡ piece.Nothing → ParseTold e msg base left role nullable s (walked.Done s₁) S S₁ T T₁
-    parse-alone {x} t g =
-        let all : NextBodyTold base (take (length msg) msg) Type·argument 0 x = subst (λ (l : List ℕ). NextBodyTold base l Type·argument 0 x) (sym (take-length msg)) t in
-        let none : ArgumentsTold e msg base less s₁ (walked.Done s₁) S₁ S₁ T₁ T₁ = loop-end (loop-start {nest = []}) all g refl in
-        parse-entered none
+    parse-alone : Alone e base msg → ParseTold e msg base left role nullable s (walked.Done s₁) S S₁ T T₁
+    parse-alone h = parse-entered (record { spends = spends-none s₁; is = λ c o. none c o .is c o })
+      where
+        next : (c : Scope) → Scoped e c → NextBodyTold base (take (length msg) msg) Type·argument 0 piece.Nothing
+        next c o = subst (λ (l : List ℕ). NextBodyTold base l Type·argument 0 piece.Nothing) (sym (take-length msg))
+            (record { is = λ m k. h c o m (ap cut (sym (whole base msg)) ∙ k); inside = tt; later = tt; begins = tt })
+
+        none : (c : Scope) → Scoped e c → ArgumentsTold e msg base less s₁ (walked.Done s₁) S₁ S₁ T₁ T₁
+        none c o = loop-end (loop-start {nest = []}) (next c o) refl refl
+
+    stops : {room : ℕ} → FitsType e base msg (s .types) room → room ≡ 0 → ParseTold e msg base left role nullable s (walked.Done s₁) S S₁ T T₁
+    stops (lentArea h z) k = let one = subst (EnteredOne s) q (n .one) in absurd (omega (arith, z k, one))
+    stops (noArea z h) k = parse-alone h
+
+    pub parse-stops : {nest : List ℕ} → ParseRoom e msg nest base left s → length nest ≡ 0
+        → ParseTold e msg base left role nullable s (walked.Done s₁) S S₁ T T₁
+    parse-stops h k = stops (h .room) k

@@ -272,8 +272,8 @@ module _ {e : Lent} {msg : List ℕ} {base left : ℕ} {s₀ : State} {S₀ T₀
     loop-height (asBytes z h) = omega (arith, few-wait)
 
     -- what is free of the area is lent: it has room, and what waits is as it was when it is back
-    pub loop-room : {tables : Tables} → WaitingRoom tables (s₀ .types) (length msg) (length nest)
-        → FitsEntry tables (s .types) (length (midOf height (length nest - height) nest))
+    pub loop-room : WaitingRoom (e .tables) (s₀ .types) (length msg) (length nest) → {index : ℕ}
+        → FitsEntry e index (s .types) (length (midOf height (length nest - height) nest))
     loop-room (asTypes h) = roomy (omega (arith, g .room, mid-len height (length nest) nest (omega arith)))
     loop-room (asBytes z h) = nowhere z
 

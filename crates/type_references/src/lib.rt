@@ -2,27 +2,26 @@
 // 64, and so are the types that may still be entered. The definitions: schema's specs/Types.antt; what waits while inner types are read:
 // specs/told/Pending.antt.
 ghost use mathlib.Core.Path.{_≡_};
-ghost use Prim.Native.Nat.{_+_, _≤_};
+ghost use Prim.Native.Nat.{_+_, _≤_, _<_};
 ghost use lib.ListN.{length};
 ghost use Rattle.schema.specs.told.SchemaTold.{lent, Ready};
 ghost use Rattle.schema.specs.told.TypesTold.{ParseTold};
-ghost use Rattle.type_references.specs.told.ParseTold.{ArgumentsTold};
-ghost use Rattle.type_references.specs.told.OptionalTold.{LookedTold, OptionalTold};
+ghost use Rattle.type_references.specs.told.OptionalTold.{optionalOf, LookedTold, OptionalTold};
 use arguments::Argument;
 use arguments::type_field;
 use enter::TypePlace;
-use enter::enter_type;
 use fields::TYPE_ARGUMENT;
 use messages::next_body;
-use parse::arguments_at;
+use parse::parse_at;
+use parse::resolve_at;
 use schema::ALLOWANCE;
 use schema::MAX_DEPTH;
+use schema::Picked;
 use schema::Stop;
 use schema::Tables;
 use schema::TypeSlot;
 use schema::Walked;
 use schema::types::entry_at;
-use schema::types::less;
 use sheet::State;
 use wire::Piece;
 
@@ -31,11 +30,11 @@ mod arguments; // arguments.rt: the arguments of a type
 mod enter; // enter.rt: a type's own row
 mod parse; // parse.rt: types inside types
 
-// The arguments of a declaration's own type where there is no type to look up: as many wait as a short message has bytes at most.
-fn short_arguments(
+// A type in an area of 1 KB, where there is no type to look up: as many wait as a short message has bytes at most.
+fn short_type(
     msg: &[u8],
     base: u32,
-    left: usize,
+    place: TypePlace,
     payload: &[u8],
     d2: &[u16],
     ends: &[u32],
@@ -45,14 +44,14 @@ fn short_arguments(
     sheet: &mut [u8],
     text: &mut [u8],
 ) -> Walked
-    requires { ⌜ Ready (now payload) (now d2) state × (base + length (now msg) ≤ length (now payload)) × (left ≤ 64) × (tables .types ≡ 0) × (length (now msg) ≤ 128) ⌝ }
-    ensures { λ r. ⌜ ArgumentsTold (lent (now (payload .entry)) (now (d2 .entry)) (now (ends .entry)) (now (notes .entry)) tables) (now (msg .entry)) base left state r (now (sheet .entry)) (now (sheet .exit)) (now (text .entry)) (now (text .exit)) ⌝ }
+    requires { ⌜ Ready (now payload) (now d2) state × (base + length (now msg) ≤ length (now payload)) × (place .left ≤ 64) × (tables .types ≡ 0) × (length (now msg) < 128) ⌝ }
+    ensures { λ r. ⌜ ParseTold (lent (now (payload .entry)) (now (d2 .entry)) (now (ends .entry)) (now (notes .entry)) tables) (now (msg .entry)) base (place .left) (place .role) (place .nullable) state r (now (sheet .entry)) (now (sheet .exit)) (now (text .entry)) (now (text .exit)) ⌝ }
 {
     let mut nest = [0u64; 128];
-    arguments_at(
+    parse_at(
         &*msg,
         base,
-        left,
+        place,
         &*payload,
         &*d2,
         &*ends,
@@ -65,11 +64,11 @@ fn short_arguments(
     )
 }
 
-// The same of any: as many wait as types may be entered, in a frame of 16 KB.
-fn long_arguments(
+// The same of any, in an area of 16 KB: as many wait as types may be entered.
+fn long_type(
     msg: &[u8],
     base: u32,
-    left: usize,
+    place: TypePlace,
     payload: &[u8],
     d2: &[u16],
     ends: &[u32],
@@ -79,14 +78,14 @@ fn long_arguments(
     sheet: &mut [u8],
     text: &mut [u8],
 ) -> Walked
-    requires { ⌜ Ready (now payload) (now d2) state × (base + length (now msg) ≤ length (now payload)) × (left ≤ 64) ⌝ }
-    ensures { λ r. ⌜ ArgumentsTold (lent (now (payload .entry)) (now (d2 .entry)) (now (ends .entry)) (now (notes .entry)) tables) (now (msg .entry)) base left state r (now (sheet .entry)) (now (sheet .exit)) (now (text .entry)) (now (text .exit)) ⌝ }
+    requires { ⌜ Ready (now payload) (now d2) state × (base + length (now msg) ≤ length (now payload)) × (place .left ≤ 64) ⌝ }
+    ensures { λ r. ⌜ ParseTold (lent (now (payload .entry)) (now (d2 .entry)) (now (ends .entry)) (now (notes .entry)) tables) (now (msg .entry)) base (place .left) (place .role) (place .nullable) state r (now (sheet .entry)) (now (sheet .exit)) (now (text .entry)) (now (text .exit)) ⌝ }
 {
     let mut nest = [0u64; ALLOWANCE];
-    arguments_at(
+    parse_at(
         &*msg,
         base,
-        left,
+        place,
         &*payload,
         &*d2,
         &*ends,
@@ -99,73 +98,8 @@ fn long_arguments(
     )
 }
 
-// The arguments of a declaration's own type, in the frame that is enough. Two places call `long_arguments`, so that the compiler keeps its frame apart
-// from this one's.
-fn own_arguments(
-    msg: &[u8],
-    base: u32,
-    left: usize,
-    payload: &[u8],
-    d2: &[u16],
-    ends: &[u32],
-    notes: &[u64],
-    tables: Tables,
-    state: State,
-    sheet: &mut [u8],
-    text: &mut [u8],
-) -> Walked
-    requires { ⌜ Ready (now payload) (now d2) state × (base + length (now msg) ≤ length (now payload)) × (left ≤ 64) ⌝ }
-    ensures { λ r. ⌜ ArgumentsTold (lent (now (payload .entry)) (now (d2 .entry)) (now (ends .entry)) (now (notes .entry)) tables) (now (msg .entry)) base left state r (now (sheet .entry)) (now (sheet .exit)) (now (text .entry)) (now (text .exit)) ⌝ }
-{
-    let types = tables.types;
-    if types == 0 {
-        if msg.len() <= 128 {
-            return short_arguments(
-                &*msg,
-                base,
-                left,
-                &*payload,
-                &*d2,
-                &*ends,
-                &*notes,
-                tables,
-                state,
-                sheet,
-                text,
-            );
-        }
-    }
-    if left == MAX_DEPTH - 1 {
-        return long_arguments(
-            &*msg,
-            base,
-            MAX_DEPTH - 1,
-            &*payload,
-            &*d2,
-            &*ends,
-            &*notes,
-            tables,
-            state,
-            sheet,
-            text,
-        );
-    }
-    long_arguments(
-        &*msg,
-        base,
-        left,
-        &*payload,
-        &*d2,
-        &*ends,
-        &*notes,
-        tables,
-        state,
-        sheet,
-        text,
-    )
-}
-
-// A type whose message is cut. Most have no arguments.
+// A type whose message is cut, in the area that is enough for it. Most have no argument, so that nothing waits: they are lent an empty one, which
+// costs nothing to clear.
 fn own_type(
     msg: &[u8],
     base: u32,
@@ -182,7 +116,43 @@ fn own_type(
     requires { ⌜ Ready (now payload) (now d2) state × (base + length (now msg) ≤ length (now payload)) × (place .left ≤ 64) ⌝ }
     ensures { λ r. ⌜ ParseTold (lent (now (payload .entry)) (now (d2 .entry)) (now (ends .entry)) (now (notes .entry)) tables) (now (msg .entry)) base (place .left) (place .role) (place .nullable) state r (now (sheet .entry)) (now (sheet .exit)) (now (text .entry)) (now (text .exit)) ⌝ }
 {
-    let entered = enter_type(
+    let argument = next_body(&*msg, base, TYPE_ARGUMENT, 0);
+    let Piece::Body { start: _, end: _ } = argument else {
+        let mut nest = [0u64; 0];
+        return parse_at(
+            &*msg,
+            base,
+            place,
+            &*payload,
+            &*d2,
+            &*ends,
+            &*notes,
+            tables,
+            state,
+            &mut nest,
+            sheet,
+            text,
+        );
+    };
+    let types = tables.types;
+    if types == 0 {
+        if msg.len() < 128 {
+            return short_type(
+                &*msg,
+                base,
+                place,
+                &*payload,
+                &*d2,
+                &*ends,
+                &*notes,
+                tables,
+                state,
+                sheet,
+                text,
+            );
+        }
+    }
+    long_type(
         &*msg,
         base,
         place,
@@ -194,30 +164,55 @@ fn own_type(
         state,
         sheet,
         text,
-    );
-    let Walked::Done { state: after } = entered else {
-        return entered;
-    };
-    let argument = next_body(&*msg, base, TYPE_ARGUMENT, 0);
-    let Piece::Body { start: _, end: _ } = argument else {
-        return entered;
-    };
-    own_arguments(
-        &*msg,
-        base,
-        less(place.left),
+    )
+}
+
+// What may not be there, as what is done: nothing is written of what isn't.
+fn optional_of(found: Picked, state: State) -> Walked
+    ensures { λ r. ⌜ r ≡ optionalOf state found ⌝ }
+{
+    match found {
+        Picked::Kept { state: after } => Walked::Done { state: after },
+        Picked::Dropped => Walked::Done { state },
+        Picked::Refused { stop } => Walked::Refused { stop },
+    }
+}
+
+// The type at an index, in an area of 16 KB.
+fn long_entry(
+    index: u32,
+    role: u8,
+    payload: &[u8],
+    d2: &[u16],
+    ends: &[u32],
+    notes: &[u64],
+    tables: Tables,
+    state: State,
+    sheet: &mut [u8],
+    text: &mut [u8],
+) -> Walked
+    requires { ⌜ Ready (now payload) (now d2) state ⌝ }
+    ensures { λ r. ⌜ LookedTold (lent (now (payload .entry)) (now (d2 .entry)) (now (ends .entry)) (now (notes .entry)) tables) index role state r (now (sheet .entry)) (now (sheet .exit)) (now (text .entry)) (now (text .exit)) ⌝ }
+{
+    let mut nest = [0u64; ALLOWANCE];
+    let found = resolve_at(
+        index,
+        MAX_DEPTH,
+        role,
         &*payload,
         &*d2,
         &*ends,
         &*notes,
         tables,
-        after,
+        state,
+        &mut nest,
         sheet,
         text,
-    )
+    );
+    optional_of(found, state)
 }
 
-// The type at an index of the type table, or nothing.
+// The type at an index of the type table, or nothing, in the area that is enough for it, as above.
 fn looked_up(
     index: u32,
     role: u8,
@@ -237,16 +232,28 @@ fn looked_up(
     let Piece::Body { start, end } = entry else {
         return Walked::Done { state };
     };
-    let nullable = tables.first_nullable <= index as u64;
-    let place = TypePlace {
-        left: MAX_DEPTH - 1,
-        role,
-        nullable,
+    let argument = next_body(&payload[start..end], start as u32, TYPE_ARGUMENT, 0);
+    let Piece::Body { start: _, end: _ } = argument else {
+        let mut nest = [0u64; 0];
+        let found = resolve_at(
+            index,
+            MAX_DEPTH,
+            role,
+            &*payload,
+            &*d2,
+            &*ends,
+            &*notes,
+            tables,
+            state,
+            &mut nest,
+            sheet,
+            text,
+        );
+        return optional_of(found, state);
     };
-    own_type(
-        &payload[start..end],
-        start as u32,
-        place,
+    long_entry(
+        index,
+        role,
         &*payload,
         &*d2,
         &*ends,

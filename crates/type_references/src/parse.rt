@@ -5,7 +5,7 @@ ghost use Prim.Native.Nat.{_≤_};
 ghost use lib.ListN.{length};
 ghost use Rattle.schema.specs.told.SchemaTold.{lent, Ready};
 ghost use Rattle.schema.specs.told.TypesTold.{ParseTold, ResolveTold};
-ghost use Rattle.type_references.specs.told.ParseTold.{ArgumentsTold, FitsEntry, NestRoom};
+ghost use Rattle.type_references.specs.told.ParseTold.{ArgumentsTold, FitsEntry, NestRoom, ParseRoom};
 use crate::arguments::Argument;
 use crate::arguments::argument_at;
 use crate::enter::TypePlace;
@@ -27,7 +27,7 @@ use wire::Piece;
 
 // The arguments of the type in a message, one after the other, and theirs. `left` is left at them; what waits stands in `nest`, and a look-up is
 // lent what is free of it.
-pub(crate) fn arguments_at(
+fn arguments_at(
     msg: &[u8],
     base: u32,
     left: usize,
@@ -132,8 +132,8 @@ pub(crate) fn arguments_at(
     }
 }
 
-// A type whose message is cut.
-fn parse_at(
+// A type whose message is cut. One with no argument may be lent an empty area.
+pub(crate) fn parse_at(
     msg: &[u8],
     base: u32,
     place: TypePlace,
@@ -147,7 +147,7 @@ fn parse_at(
     sheet: &mut [u8],
     text: &mut [u8],
 ) -> Walked
-    requires { ⌜ NestRoom (now payload) (now d2) (now msg) (now nest) tables base (place .left) state ⌝ }
+    requires { ⌜ ParseRoom (lent (now payload) (now d2) (now ends) (now notes) tables) (now msg) (now nest) base (place .left) state ⌝ }
     ensures { λ r. ⌜ ParseTold (lent (now (payload .entry)) (now (d2 .entry)) (now (ends .entry)) (now (notes .entry)) tables) (now (msg .entry)) base (place .left) (place .role) (place .nullable) state r (now (sheet .entry)) (now (sheet .exit)) (now (text .entry)) (now (text .exit)) ⌝ }
 {
     let entered = enter_type(
@@ -166,6 +166,9 @@ fn parse_at(
     let Walked::Done { state: after } = entered else {
         return entered;
     };
+    if nest.len() == 0 {
+        return entered;
+    }
     arguments_at(
         &*msg,
         base,
@@ -183,7 +186,7 @@ fn parse_at(
 }
 
 // The type at an index of the type table.
-fn resolve_at(
+pub(crate) fn resolve_at(
     index: u32,
     left: usize,
     role: u8,
@@ -197,7 +200,7 @@ fn resolve_at(
     sheet: &mut [u8],
     text: &mut [u8],
 ) -> Picked
-    requires { ⌜ Ready (now payload) (now d2) state × (left ≤ 64) × FitsEntry tables (state .types) (length (now nest)) ⌝ }
+    requires { ⌜ Ready (now payload) (now d2) state × (left ≤ 64) × FitsEntry (lent (now payload) (now d2) (now ends) (now notes) tables) index (state .types) (length (now nest)) ⌝ }
     ensures { λ r. ⌜ ResolveTold (lent (now (payload .entry)) (now (d2 .entry)) (now (ends .entry)) (now (notes .entry)) tables) index left role state r (now (sheet .entry)) (now (sheet .exit)) (now (text .entry)) (now (text .exit)) ⌝ }
 {
     if left == 0 {

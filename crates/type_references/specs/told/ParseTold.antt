@@ -2,16 +2,17 @@
 -- Assumes nothing.
 use mathlib.Core.Path.{_≡_}
 use mathlib.Core.Bool.{Bool}
-use mathlib.Core.List.{List}
+use mathlib.Core.List.{List, []}
 use mathlib.Core.Option.{Option, none, some}
 use Prim.Native.Nat.{ℕ, _+_, _-_, _≤_, _<_}
-use lib.ListN.{length}
+use lib.ListN.{length, getElem?}
 use Rattle.foundation.specs.Choices.{isSome}
 use Rattle.foundation.specs.Results.{Res, ok, _from_}
 use Rattle.fields.specs.Fields.{Type·argument, Type·Argument·type, Type·Argument·type-id}
 use Rattle.wire.specs.Wire.{Message, cut}
 use Rattle.wire.specs.Messages.{message, messages, index}
 use Rattle.wire.specs.told.WireTold.{wireRefused}
+use Rattle.messages.specs.told.Asked.{bodies}
 use Rattle.characters.specs.told.Places.{partFrom}
 use Rattle.sheet.specs.Rows.{Row}
 use Rattle.sheet.specs.told.Put.{PutRows}
@@ -115,10 +116,23 @@ pub data WaitingRoom (tables : Tables) (types bytes room : ℕ) : Type 0 where
   asTypes : types ≤ room → WaitingRoom tables types bytes room
   asBytes : tables .types ≡ 0 → bytes ≤ room → WaitingRoom tables types bytes room
 
+-- A type with no argument, where it is read at all; and the entry at an index.
+abbrev pub Alone : Lent → ℕ → List ℕ → Type 0
+Alone e base msg = (c : Scope) → Scoped e c → (m : Message) → cut (_from_ base msg) ≡ ok m → bodies Type·argument m ≡ []
+
+abbrev pub AloneEntry : Lent → ℕ → Type 0
+AloneEntry e index = (c : Scope) → Scoped e c → (m : Message) → getElem? (c .table .types) index ≡ some m → bodies Type·argument m ≡ []
+
+-- The area for a type: one with room, empty only where no type may be entered; or an empty one, for a type with no argument.
+pub data FitsType (e : Lent) (base : ℕ) (msg : List ℕ) (types room : ℕ) : Type 0 where
+  lentArea : WaitingRoom (e .tables) types (length msg) room → (room ≡ 0 → types ≡ 0) → FitsType e base msg types room
+  noArea : room ≡ 0 → Alone e base msg → FitsType e base msg types room
+
 -- the same of a look-up, which finds nothing where there is nothing
-pub data FitsEntry (tables : Tables) (types room : ℕ) : Type 0 where
-  roomy : types ≤ room → FitsEntry tables types room
-  nowhere : tables .types ≡ 0 → FitsEntry tables types room
+pub data FitsEntry (e : Lent) (index types room : ℕ) : Type 0 where
+  roomy : types ≤ room → FitsEntry e index types room
+  nowhere : e .tables .types ≡ 0 → FitsEntry e index types room
+  noEntryArea : room ≡ 0 → AloneEntry e index → FitsEntry e index types room
 
 -- What a walk of arguments starts from.
 pub record NestRoom (payload d2 msg nest : List ℕ) (tables : Tables) (base left : ℕ) (s : State) : Type 0 where
@@ -126,3 +140,10 @@ pub record NestRoom (payload d2 msg nest : List ℕ) (tables : Tables) (base lef
   pub inside : base + length msg ≤ length payload
   pub deep : left ≤ maxDepth
   pub room : WaitingRoom tables (s .types) (length msg) (length nest)
+
+-- What the reading of a type starts from.
+pub record ParseRoom (e : Lent) (msg nest : List ℕ) (base left : ℕ) (s : State) : Type 0 where
+  pub ready : Ready (e .payload) (e .d2) s
+  pub inside : base + length msg ≤ length (e .payload)
+  pub deep : left ≤ maxDepth
+  pub room : FitsType e base msg (s .types) (length nest)
