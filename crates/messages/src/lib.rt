@@ -31,6 +31,7 @@ pub enum Checked {
 }
 
 impl Checked {
+    // The refusal of a message that is refused; nothing is promised of one that is whole.
     pub fn error(self) -> WireError
         ensures { λ r. ⌜ ((e : WireError) → self ≡ Checked.Refused e → r ≡ e) ⌝ }
     {
@@ -70,8 +71,8 @@ pub fn check(s: &[u8], base: u32) -> Checked
     check_from(&*s, base, 0)
 }
 
-// Cuts the message that a slice holds from a place to another. It is handed on as that part, with its own offset; where this is above 32 bits,
-// as in no payload, the message is cut in its place.
+// Cuts the message from `start` to `end`. It is handed on as a slice of its own, with its own offset. An offset above 32 bits, which no payload
+// has, can't be handed on; then the message is cut where it stands.
 fn check_part(s: &[u8], base: u32, start: usize, end: usize) -> Checked
     requires { ⌜ (start ≤ end) × (end ≤ length (now s)) ⌝ }
     ensures { λ r. ⌜ CheckedTold (cut (partBetween base (now (s .entry)) start end)) r ⌝ }
@@ -147,7 +148,7 @@ fn long_find(s: &[u8], base: u32, number: u32, at: usize) -> Found
     Found::Nothing
 }
 
-// The same; where it is short it is found at once.
+// The same. An occurrence whose tag and varint are short is read without a step for each field before it.
 fn find_from(s: &[u8], base: u32, number: u32, at: usize) -> Found
     ensures { λ r. ⌜ FoundFrom base (now (s .entry)) number at r ⌝ }
 {
@@ -174,7 +175,7 @@ pub struct TwoFound {
     pub second: Found,
 }
 
-// The first occurrences of two fields, by one walk where the fields are short: from the one that stands first on, only the other is walked to.
+// The first occurrences of two fields. Short fields before the first of the two are passed over once for both.
 pub fn find_two(s: &[u8], base: u32, first: u32, second: u32) -> TwoFound
     ensures { λ r. ⌜ FoundTold base (now (s .entry)) first (r .first) × FoundTold base (now (s .entry)) second (r .second) ⌝ }
 {
@@ -339,7 +340,7 @@ fn long_next_body(s: &[u8], base: u32, number: u32, at: usize) -> Piece
     Piece::Nothing
 }
 
-// The next length-delimited occurrence of a field from a place on; those after it are found from its end on.
+// The next length-delimited occurrence of a field from a place on. Asked again from its end on, it gives the one after it.
 pub fn next_body(s: &[u8], base: u32, number: u32, at: usize) -> Piece
     ensures { λ r. ⌜ NextBodyTold base (now (s .entry)) number at r ⌝ }
 {

@@ -26,7 +26,7 @@ fn rest_at(s: &[u8], at: usize) -> &[u8]
     &s[end..]
 }
 
-// Where a reader at `at` stands after a message. One that is refused leaves it where it stood.
+// The place of a reader after it has read a message at `at`. After a refused message it is still at `at`.
 fn after_delimited(read: Delimited, at: usize) -> usize
     ensures { λ r. ⌜ r ≡ afterDelimited at read ⌝ }
 {
@@ -73,6 +73,7 @@ pub enum Split {
 }
 
 impl Split {
+    // The refusal of a payload that is refused; nothing is promised of one with its parts.
     pub fn error(self) -> WireError
         ensures { λ r. ⌜ ((e : WireError) → self ≡ Split.Refused e → r ≡ e) ⌝ }
     {
@@ -87,7 +88,7 @@ impl Split {
     }
 }
 
-// The parts of a payload, by the answer to its name table and what was left after that.
+// The parts of a payload: `table` is what was read of its name table, `rest` the bytes after that.
 fn parts<'a>(table: Delimited, bytes: &'a [u8], rest: &'a [u8]) -> Split
     requires { ⌜ length (now rest) ≤ length (now bytes) ⌝ }
     ensures { λ r. ⌜ r ≡ partsOf table (length (now (bytes .entry)) - length (now (rest .entry))) ⌝ }

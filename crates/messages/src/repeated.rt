@@ -38,6 +38,7 @@ pub enum FirstTwo {
 }
 
 impl FirstTwo {
+    // The refusal where a number is refused; nothing is promised where there is none.
     pub fn error(self) -> WireError
         ensures { λ r. ⌜ ((e : WireError) → self ≡ FirstTwo.Refused e → r ≡ e) ⌝ }
     {
@@ -48,7 +49,7 @@ impl FirstTwo {
     }
 }
 
-// The numbers of a packed run: the slice from a place on.
+// Adds the numbers of a packed run, which is the slice from a place on.
 fn push_packed(s: &[u8], base: u32, at: usize, two: Two) -> FirstTwo
     ensures { λ r. ⌜ pushedTo two (packed (restOf base (now (s .entry)) at)) ≡ twoTold r ⌝ }
 {
@@ -83,7 +84,7 @@ fn push_value(s: &[u8], base: u32, value: WireValue, two: Two) -> FirstTwo
     }
 }
 
-// The first two numbers of a field. An error anywhere in it refuses, also after them.
+// The first two numbers of a field. A number after them that can't be read refuses too.
 pub fn first_two(s: &[u8], base: u32, number: u32) -> FirstTwo
     ensures { λ r. ⌜ ((m : Message) → cut (_from_ base (now (s .entry))) ≡ ok m → firstTwoOf (varints number m) ≡ twoTold r) ⌝ }
 {
@@ -112,7 +113,7 @@ pub fn first_two(s: &[u8], base: u32, number: u32) -> FirstTwo
     FirstTwo::Numbers { two }
 }
 
-// That every number of a field is sound.
+// Tests that every number of a field can be read.
 pub fn check_varints(s: &[u8], base: u32, number: u32) -> Checked
     ensures { λ r. ⌜ ((m : Message) → cut (_from_ base (now (s .entry))) ≡ ok m → CheckedTold (varints number m) r) ⌝ }
 {

@@ -31,6 +31,7 @@ use Rattle.wire.specs.declared.Varint.the-variants as read
 use Rattle.wire.specs.declared.WireValue.{WireValue}
 use Rattle.wire.specs.declared.ValueStep.{ValueStep}
 use Rattle.wire.specs.declared.ValueStep.the-variants as valueStep
+use Rattle.wire.proofs.VarintLaws.{number-down}
 use Rattle.wire.proofs.Readers.{After, after-from, varint-after, bytes-there, bytes-past}
 
 -- what is left begins later in the slice, and in it
@@ -48,12 +49,11 @@ module _ (s : List ℕ) (at width : ℕ) where
 
   pub number-step : (left : ℕ) {b : ℕ} → at + width ≤ length s → 0 < left → left ≤ width → b ≡ getD s (at + (left - 1)) 0
       → number 256 (drop left (take width (drop at s))) * 256 + b ≡ number 256 (drop (left - 1) (take width (drop at s)))
-  number-step zero f h l e = absurd (omega arith)
-  number-step (suc k) {b} f h l e =
+  number-step left {b} f h l e =
       let xs = take width (drop at s) in
-      let fits : k < length xs = rw (length-take, length-drop) (omega arith) in
-      let same : getD xs k 0 ≡ b = getD-take width (drop at s) k 0 l ∙ getD-drop at s k 0 ∙ sym (rw sub-one at e) in
-      rw (sub-one, drop-cons xs k 0 fits, same) (omega arith)
+      let fits : left ≤ length xs = rw (length-take, length-drop) (omega arith) in
+      let same : getD xs (left - 1) 0 ≡ b = getD-take width (drop at s) (left - 1) 0 (omega arith) ∙ getD-drop at s (left - 1) 0 ∙ sym e in
+      number-down 256 xs left h fits (sym same)
 
 pub fixed-start : (width : ℕ) → width ≤ 8 → (0 + 1) * 256 ^ width ≤ 2 ^ 64
 fixed-start width h = let p : 256 ^ width ≤ 256 ^ 8 = pow-le-pow-right (omega arith) h in omega arith

@@ -28,7 +28,7 @@ module _ (s : List ℕ) (at : ℕ) where
   short-one h e l = record { fits = omega arith; small = omega arith; is = λ p base. one-byte base s at h e l }
 
   pub short-two : {b c : ℕ} → at + 1 < length s → b ≡ getD s at 0 → 128 ≤ b → c ≡ getD s (at + 1) 0 → c < 128
-      → ShortTold s at (record { value = b % 128 + c * 128; size = 2 })
+      → ShortTold s at (record { value = c * 128 + b % 128; size = 2 })
   short-two h e l f k = record { fits = omega arith; small = omega arith; is = λ p base. two-bytes base s at h e l f k }
 
 -- the tag and the varint after it

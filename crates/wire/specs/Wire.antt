@@ -23,8 +23,13 @@ groupsFrom s (suc k) a (b ∷ bs) =
     let more = mapGot (λ gs. group k b ∷ gs) (groupsFrom s k (a + 1) bs) in
     if ltb b 128 then got (group k b ∷ []) (_from_ (a + 1) bs) else more
 
+-- A varint, by the guide's two steps. First the continuation bits are dropped, which leaves its groups.
+abbrev pub readGroups : Part → Res (Got (List ℕ))
+readGroups p = groupsFrom (p .at) 10 (p .at) (p .bytes)
+
+-- Then the groups are joined, from the last to the first: the first byte's group is the lowest digit.
 unfoldable pub readVarint : Part → Res (Got ℕ)
-readVarint p = mapGot (number 128) (groupsFrom (p .at) 10 (p .at) (p .bytes))
+readVarint p = mapGot (number 128) (readGroups p)
 
 -- the next n bytes; `place` is told if they run past the message
 unfoldable pub readBytes : ℕ → ℕ → Part → Res (Got Part)

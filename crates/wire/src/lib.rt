@@ -2,14 +2,14 @@
 // `at`. The definitions: specs/Wire.antt; how the answers tell them: specs/told/WireTold.antt.
 ghost use mathlib.Core.Path.{_≡_};
 ghost use mathlib.Core.List.{List};
-ghost use Prim.Native.Nat.{ℕ, _+_, _^_, _≤_, _<_};
+ghost use Prim.Native.Nat.{ℕ, _+_, _-_, _^_, _≤_, _<_};
 ghost use lib.ListN.{length, take, drop};
 ghost use Rattle.foundation.specs.Results.{Res, Part, Got, got, mapGot};
 ghost use Rattle.foundation.specs.Digits.{number};
-ghost use Rattle.wire.specs.Wire.{groupsFrom, readVarint, readFixed, readValue, readField, varint, body};
-ghost use Rattle.wire.specs.told.WireTold.{restOf, valueNumber, pieceOf, varintTold, VarintAt, joinedTo, DelimitedTold, DelimitedAt, ValueTold, FieldTold, FieldAt, ShortTold, ShortField, SkipTold};
+ghost use Rattle.wire.specs.Wire.{group, readVarint, readFixed, readValue, readField, varint, body};
+ghost use Rattle.wire.specs.told.WireTold.{restOf, valueNumber, pieceOf, GroupsTold, varintTold, VarintAt, DelimitedTold, DelimitedAt, ValueTold, FieldTold, FieldAt, ShortTold, ShortField, SkipTold};
 
-// Why a part is refused, with the offset among the decoded bytes that is told.
+// The refusals of a reading. Each tells the offset, among the decoded bytes, of what was being read.
 pub enum WireError {
     VarintCutShort { place: usize },
     OversizedVarint { place: usize },
@@ -29,80 +29,152 @@ fn wide(byte: u8) -> u64
     byte as u64
 }
 
-// A varint's tenth byte, at `at`: only its lowest bit counts. The byte after it, if it goes on, makes the varint oversized.
-fn tenth_at(s: &[u8], base: u32, place: usize, at: usize, value: u64) -> Varint
-    requires { ⌜ (value < 2 ^ 63) × (at ≤ length (now s)) ⌝ }
-    ensures { λ r. ⌜ joinedTo value (2 ^ 63) (groupsFrom place 1 (base + at) (drop at (now (s .entry)))) ≡ varintTold base (now (s .entry)) r ⌝ }
+// What a varint's byte gives, after `earlier` bytes of it: its low 7 bits, the tenth only its lowest. The continuation bit is dropped.
+fn group_of(byte: u8, earlier: usize) -> u8
+    requires { ⌜ earlier < 10 ⌝ }
+    ensures { λ r. ⌜ r ≡ group (9 - earlier) byte ⌝ }
 {
-    if s.len() <= at {
-        return Varint::Refused {
+    if earlier == 9 {
+        return byte % 2;
+    }
+    byte % 128
+}
+
+// What the first step gives: how many groups the varint has, which is how many bytes, or its refusal.
+enum Groups {
+    Read { count: usize },
+    Refused { error: WireError },
+}
+
+impl Groups {
+    // The refusal of a refused varint; nothing is promised of one that has its groups.
+    fn error(self) -> WireError
+        ensures { λ r. ⌜ ((e : WireError) → self ≡ Groups.Refused e → r ≡ e) ⌝ }
+    {
+        match self {
+            Groups::Read { count } => WireError::VarintCutShort { place: count },
+            Groups::Refused { error } => error,
+        }
+    }
+}
+
+// The first step: the continuation bits are dropped. The groups of the varint at a place are written into an area of ten bytes, in the order of
+// its bytes. A byte after the tenth makes the varint oversized.
+fn groups_at(s: &[u8], base: u32, at: usize, groups: &mut [u8]) -> Groups
+    requires { ⌜ (at ≤ length (now s)) × (length (now groups) ≡ 10) ⌝ }
+    ensures { λ r. ⌜ GroupsTold base (now (s .entry)) at (now (groups .exit)) r ⌝ }
+{
+    let place = base as usize + at;
+    let mut count = 0;
+    while count < 10 {
+        let i = at + count;
+        if s.len() <= i {
+            return Groups::Refused {
+                error: WireError::VarintCutShort { place },
+            };
+        }
+        let byte = s[i];
+        groups[count] = group_of(byte, count);
+        count += 1;
+        if byte < 128 {
+            return Groups::Read { count };
+        }
+    }
+    if s.len() <= at + 10 {
+        return Groups::Refused {
             error: WireError::VarintCutShort { place },
         };
     }
-    let byte = wide(s[at]);
-    let next = at + 1;
-    if byte < 128 {
-        let bit = byte % 2;
-        return Varint::Read {
-            value: value + bit * 9223372036854775808,
-            next,
-        };
-    }
-    if s.len() <= next {
-        return Varint::Refused {
-            error: WireError::VarintCutShort { place },
-        };
-    }
-    Varint::Refused {
+    Groups::Refused {
         error: WireError::OversizedVarint { place },
     }
 }
 
-// `value` is what the bytes before `i` give, `scale` what the next group counts, `left` how many bytes are allowed after its byte.
+// The second step: the groups are joined, from the last to the first.
+fn join_groups(groups: &[u8], count: usize) -> u64
+    requires { ⌜ (count ≤ length (now groups)) × (number 128 (take count (now groups)) < 2 ^ 64) ⌝ }
+    ensures { λ r. ⌜ r ≡ number 128 (take count (now (groups .entry))) ⌝ }
+{
+    let mut value: u64 = 0;
+    let mut left = count;
+    while 0 < left {
+        let i = left - 1;
+        value = value * 128 + wide(groups[i]);
+        left -= 1;
+    }
+    value
+}
+
+// A varint of any size, by the encoding guide's two steps.
 fn long_varint_at(s: &[u8], base: u32, at: usize) -> Varint
     requires { ⌜ at ≤ length (now s) ⌝ }
     ensures { λ r. ⌜ readVarint (restOf base (now (s .entry)) at) ≡ varintTold base (now (s .entry)) r ⌝ }
 {
-    let place = base as usize + at;
-    let mut value: u64 = 0;
-    let mut scale: u64 = 1;
-    let mut left: usize = 9;
-    let mut i = at;
-    while 0 < left {
-        if s.len() <= i {
-            return Varint::Refused {
-                error: WireError::VarintCutShort { place },
-            };
-        }
-        let byte = wide(s[i]);
-        let group = byte % 128;
-        value += group * scale;
-        i += 1;
-        if byte < 128 {
-            return Varint::Read { value, next: i };
-        }
-        scale *= 128;
-        left -= 1;
-    }
-    tenth_at(&*s, base, place, i, value)
+    let mut groups = [0u8; 10];
+    let dropped = groups_at(&*s, base, at, &mut groups);
+    let Groups::Read { count } = dropped else {
+        return Varint::Refused {
+            error: dropped.error(),
+        };
+    };
+    let value = join_groups(&groups, count);
+    let next = at + count;
+    Varint::Read { value, next }
 }
 
-// The varint at a place. Most have one byte. Past the slice's end it is refused as cut short.
+// What is read of a varint of one or two bytes.
+pub struct ShortVarint {
+    pub value: u64,
+    // How many bytes it has; 0 if no such varint stands there.
+    pub size: usize,
+}
+
+// The varint at a place, if it has one or two bytes, as most have. These are the two steps for short varints: the continuation bit, which only
+// the first of two bytes has, is dropped; then the groups are joined, the last first.
+pub fn short_varint(s: &[u8], at: usize) -> ShortVarint
+    ensures { λ r. ⌜ ShortTold (now (s .entry)) at r ⌝ }
+{
+    if s.len() <= at {
+        return ShortVarint { value: 0, size: 0 };
+    }
+    let first = wide(s[at]);
+    if first < 128 {
+        return ShortVarint {
+            value: first,
+            size: 1,
+        };
+    }
+    let next = at + 1;
+    if s.len() <= next {
+        return ShortVarint { value: 0, size: 0 };
+    }
+    let last = wide(s[next]);
+    if 128 <= last {
+        return ShortVarint { value: 0, size: 0 };
+    }
+    let group = first % 128;
+    ShortVarint {
+        value: last * 128 + group,
+        size: 2,
+    }
+}
+
+// The varint at a place. Past the slice's end it is refused as cut short.
 pub fn varint_at(s: &[u8], base: u32, at: usize) -> Varint
     ensures { λ r. ⌜ VarintAt base (now (s .entry)) at r ⌝ }
 {
-    if s.len() <= at {
-        return Varint::Refused {
-            error: WireError::VarintCutShort {
-                place: base as usize + s.len(),
-            },
+    let short = short_varint(&*s, at);
+    if short.size != 0 {
+        let next = at + short.size;
+        return Varint::Read {
+            value: short.value,
+            next,
         };
     }
-    let byte = wide(s[at]);
-    if byte < 128 {
-        return Varint::Read {
-            value: byte,
-            next: at + 1,
+    if s.len() <= at {
+        let place = base as usize + s.len();
+        return Varint::Refused {
+            error: WireError::VarintCutShort { place },
         };
     }
     long_varint_at(&*s, base, at)
@@ -197,7 +269,7 @@ pub enum Delimited {
 }
 
 impl Varint {
-    // Why it is refused, of one that is.
+    // The refusal of a refused varint; nothing is promised of one that was read.
     pub fn error(self) -> WireError
         ensures { λ r. ⌜ ((e : WireError) → self ≡ Varint.Refused e → r ≡ e) ⌝ }
     {
@@ -209,6 +281,7 @@ impl Varint {
 }
 
 impl Delimited {
+    // The refusal of a refused body; nothing is promised of one that was read.
     pub fn error(self) -> WireError
         ensures { λ r. ⌜ ((e : WireError) → self ≡ Delimited.Refused e → r ≡ e) ⌝ }
     {
@@ -306,6 +379,7 @@ pub enum FieldStep {
 }
 
 impl ValueStep {
+    // The refusal of a refused value; nothing is promised of one that was read.
     fn error(self) -> WireError
         ensures { λ r. ⌜ ((e : WireError) → self ≡ ValueStep.Refused e → r ≡ e) ⌝ }
     {
@@ -317,6 +391,7 @@ impl ValueStep {
 }
 
 impl FieldStep {
+    // The refusal of a refused field; nothing is promised of one that was read.
     pub fn error(self) -> WireError
         ensures { λ r. ⌜ ((e : WireError) → self ≡ FieldStep.Refused e → r ≡ e) ⌝ }
     {
@@ -356,42 +431,7 @@ fn tagged_at(s: &[u8], base: u32, at: usize, tag: u64, next: usize) -> FieldStep
     }
 }
 
-// What is read of a varint of one or two bytes.
-pub struct ShortVarint {
-    pub value: u64,
-    // Its bytes, none if another form stands there or the slice ends.
-    pub size: usize,
-}
-
-// The varint at a place, if it has one or two bytes: by far the most have.
-pub fn short_varint(s: &[u8], at: usize) -> ShortVarint
-    ensures { λ r. ⌜ ShortTold (now (s .entry)) at r ⌝ }
-{
-    if s.len() <= at {
-        return ShortVarint { value: 0, size: 0 };
-    }
-    let first = wide(s[at]);
-    if first < 128 {
-        return ShortVarint {
-            value: first,
-            size: 1,
-        };
-    }
-    let next = at + 1;
-    if s.len() <= next {
-        return ShortVarint { value: 0, size: 0 };
-    }
-    let second = wide(s[next]);
-    if 128 <= second {
-        return ShortVarint { value: 0, size: 0 };
-    }
-    ShortVarint {
-        value: first % 128 + second * 128,
-        size: 2,
-    }
-}
-
-// The field at a place, whatever bytes its tag has.
+// The field at a place, with a tag of any size.
 fn long_field_at(s: &[u8], base: u32, at: usize) -> FieldStep
     ensures { λ r. ⌜ FieldAt base (now (s .entry)) at r ⌝ }
 {
@@ -469,8 +509,8 @@ pub fn field_at(s: &[u8], base: u32, at: usize) -> FieldStep
     )
 }
 
-// Where the field at a place ends, if its tag and the varint after it have one or two bytes each, and its number is neither `one` nor
-// `other`; else the place itself.
+// Where the field at a place ends, if its tag and the varint after it have one or two bytes each, and its number is neither `one` nor `other`.
+// In all other cases the place itself.
 fn short_end(s: &[u8], one: u32, other: u32, at: usize) -> usize
     ensures { λ r. ⌜ SkipTold (now (s .entry)) one at r × SkipTold (now (s .entry)) other at r ⌝ }
 {
@@ -505,7 +545,8 @@ fn short_end(s: &[u8], one: u32, other: u32, at: usize) -> usize
     start + first.value as usize
 }
 
-// The place after some fields from `at` on, none of which has one of two numbers. It costs less than reading them one by one.
+// A place reached from `at` by passing over whole fields, none of which has the number `one` or `other`: over as many short ones as follow each
+// other. It costs less than reading them one by one.
 pub fn skip_two(s: &[u8], one: u32, other: u32, at: usize) -> usize
     ensures { λ r. ⌜ SkipTold (now (s .entry)) one at r × SkipTold (now (s .entry)) other at r ⌝ }
 {
@@ -519,7 +560,7 @@ pub fn skip_two(s: &[u8], one: u32, other: u32, at: usize) -> usize
     }
 }
 
-// The same of one number.
+// The same for one number.
 pub fn skip_fields(s: &[u8], number: u32, at: usize) -> usize
     ensures { λ r. ⌜ SkipTold (now (s .entry)) number at r ⌝ }
 {

@@ -2,16 +2,17 @@
 -- Assumes nothing.
 use mathlib.Core.Path.{_≡_}
 use mathlib.Core.List.{List, [], _++_}
-use Prim.Native.Nat.{ℕ, _+_, _-_, _*_, _^_, _≤_, _<_}
+use Prim.Native.Nat.{ℕ, _+_, _-_, _^_, _≤_, _<_}
 use lib.ListN.{length, take, drop}
 use Rattle.foundation.specs.Results.{Res, ok, refused, _>>=_, Cause, varintCutShort, pastItsMessage, fieldTooLarge, wireType, oversizedVarint, Part, _from_, Got, got, mapGot}
-use Rattle.foundation.specs.Digits.{number}
-use Rattle.wire.specs.Wire.{Value, varint, fixed, body, Field, field, readVarint, readDelimited, readField, Message, cut}
+use Rattle.wire.specs.Wire.{Value, varint, fixed, body, Field, field, readGroups, readVarint, readDelimited, readField, Message, cut}
 use Rattle.wire.specs.Messages.{values}
 use Rattle.wire.specs.declared.WireError.{WireError}
 use Rattle.wire.specs.declared.WireError.the-variants.{VarintCutShort, OversizedVarint, PastItsMessage, FieldTooLarge, WireType}
 use Rattle.wire.specs.declared.Varint.{Varint}
 use Rattle.wire.specs.declared.Varint.the-variants as read
+use Rattle.wire.specs.declared.Groups.{Groups}
+use Rattle.wire.specs.declared.Groups.the-variants as groups
 use Rattle.wire.specs.declared.ShortVarint.{ShortVarint}
 use Rattle.wire.specs.declared.WireValue.{WireValue}
 use Rattle.wire.specs.declared.WireValue.the-variants as value
@@ -57,9 +58,11 @@ pub record VarintAt (base : ℕ) (s : List ℕ) (at : ℕ) (r : Varint) : Type 0
   pub inside : at ≤ length s → readVarint (restOf base s at) ≡ varintTold base s r
   pub past : length s < at → r ≡ read.Refused (VarintCutShort (base + length s))
 
--- the rest of a varint's groups, joined to what those before it gave, where the next one counts `scale`
-abbrev pub joinedTo : ℕ → ℕ → Res (Got (List ℕ)) → Res (Got ℕ)
-joinedTo value scale = mapGot (λ gs. value + scale * number 128 gs)
+-- The first step's answer at a place: the varint's groups are the first `count` of an area, and it has as many bytes.
+abbrev pub GroupsTold : ℕ → List ℕ → ℕ → List ℕ → Groups → Type 0
+GroupsTold base s at area (groups.Read count) =
+    (readGroups (restOf base s at) ≡ got (take count area) (restOf base s (at + count))) × (count ≤ length area)
+GroupsTold base s at area (groups.Refused error) = readGroups (restOf base s at) ≡ wireRefused error
 
 -- the bytes from start to end
 abbrev pub partBetween : ℕ → List ℕ → ℕ → ℕ → Part
