@@ -1,9 +1,16 @@
 #!/usr/bin/env python3
 """usage: made_inputs.py FOLDER
 
-Writes made inputs, each as the program takes it (docs/MANUAL.md, "The program"), and the line that is right for it by the specification:
-FOLDER/NAME.input and FOLDER/NAME.line. They are empty, at the limits, or hold types as deep as they can be read."""
-import struct, sys
+Writes made inputs, each as the program takes it (docs/MANUAL.md, "The program"), and what is right for it by the specification, the line and the
+numbers that are told of its room: FOLDER/NAME.input, FOLDER/NAME.line, FOLDER/NAME.room. They are empty, at the limits, or hold types as deep as
+they can be read, or texts that fit no area.
+
+usage: made_inputs.py --room LINE       the numbers of the room by a line, of a sheet or of a refusal but for 11 and 12"""
+import os, struct, sys
+
+sys.dont_write_bytecode = True
+sys.path.insert(0, os.path.join(os.path.dirname(os.path.dirname(os.path.realpath(__file__))), 'tools'))
+import sheets
 
 
 def varint(n):
@@ -53,6 +60,27 @@ def head(kind):
     return f'0 0 010{kind}ffffffff0600000000000000000000000000090000 -'
 
 
+def functions(count, rest):
+    """So many functions with the name 0."""
+    return b'\0\0' + field(3, b'\x10\0' + rest) * count
+
+
+def room_line(line):
+    """What must be told of the room where this line is right: number, detail, both lengths, types, records of each kind."""
+    number, detail, sheet, text = sheets.line_answer(line)
+    records = [record['record'] for record in sheets.records(sheet, text)]
+    counts = [records.count(name) for _, (name, _) in sorted(sheets.RECORDS.items())]
+    return ' '.join(map(str, [number, detail, len(sheet), len(text), records.count('type'), *counts]))
+
+
+# A name that no area holds three times; and one of 98,304 bytes as name and signature of each of 3,640 functions, whose texts are more than a
+# thousand million bytes: of these what is told of the room stands here, since they have no line. Each function has a record of 24 bytes and
+# one of 5.
+LONG_TEXTS = {
+    'text of 90,000 bytes': (given(2, 1, functions(3, b''), ['f' * 30000]), [23 + 3 * 29, 90000, 0, 1, 0, 3, 0, 0, 0, 3, 0, 1]),
+    'text of 1,073,479,680 bytes': (given(2, 1, functions(3640, b'\xa2\6\2\x10\0'), ['\uffff' * 32768]),
+                                    [23 + 3640 * 29, 3640 * 3 * 98304, 0, 1, 0, 3640, 0, 0, 0, 3640, 0, 1]),
+}
 MADE = {
     'empty, k 3': (given(3, 1, b'', []), head(3)),
     'empty, k 2': (given(2, 1, b'', []), '5 0 - -'),
@@ -81,13 +109,18 @@ MADE = {
 
 
 def main(args):
+    if len(args) == 2 and args[0] == '--room':
+        return print(room_line(args[1]))
     if len(args) != 1:
         sys.exit(__doc__)
-    for name, (data, line) in MADE.items():
+    whole = {name: (data, line, room_line(line)) for name, (data, line) in MADE.items()}
+    whole |= {name: (data, '11 0 - -', ' '.join(map(str, [0, 0, *told]))) for name, (data, told) in LONG_TEXTS.items()}
+    for name, (data, line, room) in whole.items():
         with open(f'{args[0]}/{name}.input', 'wb') as f:
             f.write(data)
-        with open(f'{args[0]}/{name}.line', 'w', encoding='ascii') as f:
-            f.write(line + '\n')
+        for suffix, text in (('line', line), ('room', room)):
+            with open(f'{args[0]}/{name}.{suffix}', 'w', encoding='ascii') as f:
+                f.write(text + '\n')
 
 
 if __name__ == '__main__':

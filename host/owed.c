@@ -1,5 +1,6 @@
 /* A stand-in for the reader that tests what a caller owes of the memory (include/sheet_reader.h): no pointer is NULL, each is aligned for its
- * type. host/test links the host programs with it. It answers 5. */
+ * type. host/test links the host programs with it. sheet_read answers 5; sheet_room tells a sheet of 23 bytes and no text, so that a program that
+ * goes by it lends what it would lend for a head alone. */
 #include <stdio.h>
 #include <stdlib.h>
 
@@ -9,6 +10,18 @@ static void owed(const char *name, const void *pointer, size_t alignment) {
     if (pointer && (uintptr_t)pointer % alignment == 0) return;
     printf("%s is %s\n", name, pointer ? "not aligned" : "NULL");
     exit(1);
+}
+
+void sheet_room(int32_t k, int32_t major, int32_t minor, int32_t patch, const uint16_t *d1, size_t d1_count, const uint16_t *d2,
+                size_t d2_count, const uint32_t *ends, size_t ends_count, uint64_t answer[SHEET_ROOM_ANSWER]) {
+    (void)k, (void)major, (void)minor, (void)patch, (void)d1_count, (void)d2_count, (void)ends_count;
+    owed("d1", d1, sizeof *d1);
+    owed("d2", d2, sizeof *d2);
+    owed("ends", ends, sizeof *ends);
+    owed("answer", answer, sizeof *answer);
+    for (int i = 0; i < SHEET_ROOM_ANSWER; i++) answer[i] = 0;
+    answer[SHEET_LENGTH] = 23;
+    answer[SHEET_ROOM_HEAD] = answer[SHEET_ROOM_ALIASES] = 1;
 }
 
 void sheet_read(int32_t k, int32_t major, int32_t minor, int32_t patch, const uint16_t *d1, size_t d1_count, const uint16_t *d2,

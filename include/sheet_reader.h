@@ -1,4 +1,5 @@
-/* The sheet reader as a C function: the metadata of one compiled Kotlin class in, a call sheet out. docs/MANUAL.md tells all of it.
+/* The sheet reader as C functions: the metadata of one compiled Kotlin class in, a call sheet out (sheet_read); before that, if wanted, how much
+ * room the sheet takes (sheet_room). docs/MANUAL.md tells all of it.
  *
  * Build the archive with `rt staticlib sheet_calls`, and link target/staticlib/libsheet_calls.a (x86-64 Linux). It needs no other library,
  * allocates nothing, keeps nothing between calls and may be called from several threads at once.
@@ -89,6 +90,46 @@ void sheet_read(int32_t k, int32_t major, int32_t minor, int32_t patch,
                 uint8_t *sheet, size_t sheet_size,
                 uint8_t *text, size_t text_size,
                 uint64_t answer[SHEET_ANSWER]);
+
+/* What sheet_room puts into answer: the five numbers of sheet_read's answer, SHEET_NUMBER to SHEET_TYPES, in the same places, and then how many
+ * records of each kind stand on the sheet. The number of records of a kind stands at SHEET_ROOM_RECORDS + kind. */
+enum {
+    SHEET_ROOM_RECORDS = 4,
+    SHEET_ROOM_HEAD = 5,        /* 1 of every class that is not refused */
+    SHEET_ROOM_CONSTRUCTOR = 6,
+    SHEET_ROOM_FUNCTION = 7,
+    SHEET_ROOM_PROPERTY = 8,
+    SHEET_ROOM_PARAMETER = 9,
+    SHEET_ROOM_TYPE = 10,       /* the same as SHEET_TYPES */
+    SHEET_ROOM_DEFAULT = 11,    /* as many as constructors and functions */
+    SHEET_ROOM_ALIAS = 12,
+    SHEET_ROOM_ALIASES = 13,    /* 1 of every class that is not refused: the record that counts the aliases */
+    SHEET_ROOM_ANSWER = 14      /* how many numbers answer has */
+};
+
+/* Tells how much room the sheet of a class takes, before any area is lent.
+ *
+ *   k .. ends_count          as for sheet_read
+ *   answer                   SHEET_ROOM_ANSWER numbers, always written
+ *
+ * What the caller owes is what it owes sheet_read, of d1, d2, ends and answer.
+ *
+ * Stack: less than 96 KiB for a d1 of at most 1,024 units, less than 640 KiB for any other input; lend a thread 1 MiB.
+ *
+ * What the caller gets: number and detail of the refusal that sheet_read would give, but for 11 and 12, which are never given here; all other
+ * numbers are then 0. If the number is 0, answer[SHEET_LENGTH] and answer[SHEET_TEXT_LENGTH] are the lengths of sheet and text. The text's is
+ * its true length: it may be more than SHEET_TEXT_LIMIT, and more than 1,000,000,000. Then sheet_read, called with the same input,
+ *   - gives 11 if the text is longer than SHEET_TEXT_LIMIT, whatever is lent;
+ *   - else, with areas of just these lengths, gives 0 and the sheet (host/c/fitting_areas.c);
+ *   - with a text area of a byte less, or more, gives 11;
+ *   - with a text area that is long enough and a sheet area of a byte less, or more, gives 12.
+ * A text length of 0 is told where the sheet has no text: then hand over any object's address and a text_size of 0.
+ */
+void sheet_room(int32_t k, int32_t major, int32_t minor, int32_t patch,
+                const uint16_t *d1, size_t d1_count,
+                const uint16_t *d2, size_t d2_count,
+                const uint32_t *ends, size_t ends_count,
+                uint64_t answer[SHEET_ROOM_ANSWER]);
 
 /* The sheet: records one after the other. The first byte of a record is its kind, which fixes its length. Numbers are little-endian.
  * A ref is the offset of a text in the text area, 2 bytes, and its length, 2 bytes; FFFFFFFF hex is no text. Texts are UTF-8, without a 0

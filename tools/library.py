@@ -1,11 +1,15 @@
-"""The reader itself: sheet_read of the library (include/sheet_reader.h), called in this process."""
+"""The reader itself: sheet_read and sheet_room of the library (include/sheet_reader.h), called in this process."""
 import array, collections, ctypes
 
 import library_build
+from sheets import RECORDS, TEXT_LIMIT
 
-SHEET_LONGEST, TEXT_LIMIT = 411647, 65534  # areas of these sizes are always long enough
+SHEET_LONGEST = 411647  # areas of this size and of TEXT_LIMIT are always long enough
 
 Answer = collections.namedtuple('Answer', 'number detail sheet text types')
+# of a class before it is read: lengths of sheet and text, types, and records by kind
+Room = collections.namedtuple('Room', 'number detail sheet text types records')
+FIRST_RECORDS = 5  # the place of the records of kind 1
 
 
 def lent(typecode, numbers):
@@ -16,22 +20,33 @@ def lent(typecode, numbers):
 class Library:
     def __init__(self, path):
         try:
-            self.function = ctypes.CDLL(path).sheet_read
+            library = ctypes.CDLL(path)
+            self.sheet_read, self.sheet_room = library.sheet_read, library.sheet_room
         except (OSError, AttributeError) as why:
             raise library_build.BuildFailed(f'{path} is no library of the reader: {why}') from None
         pointer, size, number = ctypes.c_void_p, ctypes.c_size_t, ctypes.c_int32
-        self.function.restype = None
-        self.function.argtypes = [number] * 4 + [pointer, size] * 5 + [pointer]
+        for function, slices in ((self.sheet_read, 5), (self.sheet_room, 3)):
+            function.restype, function.argtypes = None, [number] * 4 + [pointer, size] * slices + [pointer]
         self.sheet, self.text = ctypes.create_string_buffer(SHEET_LONGEST), ctypes.create_string_buffer(TEXT_LIMIT)
-        self.answer = (ctypes.c_uint64 * 5)()
+
+    def call(self, function, m, areas, count):
+        """Calls a function with a class_input.Metadata and areas, each with its size, and gives the numbers of its answer."""
+        answer, slices = (ctypes.c_uint64 * count)(), [lent('H', m.d1), lent('H', m.d2), lent('I', m.ends)]
+        places = [place for numbers, size in slices for place in (numbers.buffer_info()[0], size)]
+        places += [place for area, size in areas for place in (ctypes.addressof(area), size)]
+        function(m.k, *m.version, *places, ctypes.addressof(answer))
+        return list(answer)
 
     def read(self, m):
         """The answer for a class_input.Metadata."""
-        (d1, d1_count), (d2, d2_count), (ends, ends_count) = lent('H', m.d1), lent('H', m.d2), lent('I', m.ends)
-        self.function(m.k, *m.version, d1.buffer_info()[0], d1_count, d2.buffer_info()[0], d2_count, ends.buffer_info()[0], ends_count,
-                      ctypes.addressof(self.sheet), SHEET_LONGEST, ctypes.addressof(self.text), TEXT_LIMIT, ctypes.addressof(self.answer))
-        number, detail, sheet, text, types = self.answer
+        areas = [(self.sheet, SHEET_LONGEST), (self.text, TEXT_LIMIT)]
+        number, detail, sheet, text, types = self.call(self.sheet_read, m, areas, 5)
         return Answer(number, detail, ctypes.string_at(self.sheet, sheet), ctypes.string_at(self.text, text), types)
+
+    def room(self, m):
+        """The room for a class_input.Metadata."""
+        told = self.call(self.sheet_room, m, [], FIRST_RECORDS + len(RECORDS))
+        return Room(*told[:FIRST_RECORDS], dict(enumerate(told[FIRST_RECORDS:], 1)))
 
 
 def opened(say, command):

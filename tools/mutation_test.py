@@ -4,16 +4,16 @@
 Damaged class files in every form of ./sheet: COUNT copies of the examples and of made classes (annotations nested in one another, elements of
 kotlin.Metadata of wrong kinds, types nested in one another), changed in some places of the file, of bytes alone, or of what the annotation
 holds; then a tenth as many damaged jars.
-A fault is an exception that the tool doesn't expect, JSON that doesn't keep to the schema, a character in the output that doesn't print, or an
-offset of the reader's at which the tool's own walk of the payload finds nothing broken. The
+A fault is an exception that the tool doesn't expect, JSON that doesn't keep to the schema, a character in the output that doesn't print, an
+offset of the reader's at which the tool's own walk of the payload finds nothing broken, or a room that isn't that of the sheet that is read. The
 same seed gives the same run. At the end stands what came of them; the exit status is 1 if there was a fault, with the class in a file that is
 named."""
-import io, json, os, random, sys, tempfile, time, traceback, zipfile
+import collections, io, json, os, random, sys, tempfile, time, traceback, zipfile
 
 sys.dont_write_bytecode = True
 sys.setrecursionlimit(20000)
-import class_input, made_class, output, payloads, runs, schema, sheet_json
-from commands import check, read
+import class_input, made_class, output, payloads, runs, schema, sheet_json, sheets
+from commands import check, read, room
 
 ROOT = os.path.dirname(os.path.dirname(os.path.realpath(__file__)))
 with open(os.path.join(ROOT, 'docs', 'sheet.schema.json'), encoding='utf-8') as f:
@@ -140,10 +140,26 @@ class Checked(read.InJson):
         self.told(sheet_json.not_a_class_json(*words))
 
 
+class CheckedRoom(Checked):
+    """Rooms that are held to the sheets that `reading`, a run, reads."""
+
+    def __init__(self, reading):
+        self.reading = reading
+
+    def read(self, one):
+        self.told(sheet_json.measured_json(one))
+        answer = self.reading.answer(class_input.ClassFile(one.found.data()).metadata())
+        records = collections.Counter(record['record'] for record in sheets.records(answer.sheet, answer.text))
+        kinds = {kind: records[name] for kind, (name, _) in sheets.RECORDS.items()}
+        if answer.number != 11 and one.room != (0, 0, len(answer.sheet), len(answer.text), answer.types, kinds) or one.fits() == (answer.number == 11):
+            raise AssertionError(f'the room {one.room} is not that of what is read')
+
+
 def forms():
     """A run for each form of the tool."""
     shows = [read.form([]), read.form(['--records']), read.form(['--line']), read.form(['--json']), Checked(), check.FindingsInText(check.Tally())]
-    return [runs.Run(show, 'sheet') for show in shows]
+    reading = [runs.Run(show, 'sheet') for show in shows]
+    return [*reading, *(runs.RoomRun(show, 'sheet') for show in (room.RoomInText(), CheckedRoom(reading[0])))]
 
 
 def keep(data, suffix):

@@ -35,8 +35,21 @@ class Read:
         return said
 
 
+class Measured:
+    """A class whose room was told: where it was found, its JVM name, a library.Room."""
+
+    def __init__(self, found, name, room):
+        self.found, self.name, self.room = found, name, room
+
+    def fits(self):
+        """Whether an area can hold its text."""
+        return self.room.text <= sheets.TEXT_LIMIT
+
+
 class Run:
-    """`show` has a method for each thing that may come of a class: read(Read), refused(found, name, Refusal), not_a_class(found, why)."""
+    """`show` has a method for each thing that may come of a class: read(what `result` gives), refused(found, name, Refusal),
+    not_a_class(found, why). What is asked of the library is its sheet; a subclass may ask something else."""
+    DONE = 'read'  # a word for the summary
 
     def __init__(self, show, command):
         self.show, self.command, self.library = show, command, None
@@ -62,7 +75,7 @@ class Run:
             name, metadata = class_file.name(), class_file.metadata()
             answer = self.answer(metadata)
             if answer.number == 0:
-                one = Read(found, class_file, metadata, answer)
+                one = self.result(found, class_file, metadata, answer)
         except classes.FileFailed as why:
             return self.failed(why)
         except class_input.NoMetadata:
@@ -80,7 +93,14 @@ class Run:
     def answer(self, metadata):
         if self.library is None:
             self.library = library.opened(say, self.command)
+        return self.asked(metadata)
+
+    def asked(self, metadata):
         return self.library.read(metadata)
+
+    def result(self, found, class_file, metadata, answer):
+        """What is shown of a class that wasn't refused."""
+        return Read(found, class_file, metadata, answer)
 
     def failed(self, why):
         self.failures += 1
@@ -97,9 +117,20 @@ class Run:
         if self.refusals:
             refused += ' (' + ', '.join(f'{n} by {number}, {sheets.REFUSAL_NAMES[number]}' for number, n in sorted(self.refusals.items())) + ')'
         failed = [f'{self.failures} not readable as files'] if self.failures else []
-        return ', '.join([f'{self.read} read', refused, f'{self.without} without Kotlin metadata', f'{self.damaged} not a class', *failed])
+        return ', '.join([f'{self.read} {self.DONE}', refused, f'{self.without} without Kotlin metadata', f'{self.damaged} not a class', *failed])
 
     def status(self):
         if self.failures:
             return FAILED
         return REFUSED if self.refusals or self.damaged or self.named_without else OK
+
+
+class RoomRun(Run):
+    """A run that asks for the room of classes; what it shows is a Measured."""
+    DONE = 'measured'
+
+    def asked(self, metadata):
+        return self.library.room(metadata)
+
+    def result(self, found, class_file, _, room):
+        return Measured(found, class_file.name(), room)

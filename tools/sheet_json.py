@@ -130,3 +130,11 @@ def checked_json(one, findings):
     return {**where(one.found, one.names.name), 'state': 'checked',
             'findings': [{'declaration': targets.declared(one.head['of'][j.target.declaration]), 'part': j.target.part, **target_json(j, one.head)}
                          for j in findings]}
+
+
+def measured_json(one):
+    """A runs.Measured. Records are counted by kind, also those that a class has none of."""
+    room = one.room
+    return {**where(one.found, one.name), 'state': 'measured', 'format': sheets.FORMAT, 'sheet_bytes': room.sheet, 'text_bytes': room.text,
+            'fits': one.fits(), 'types': room.types,
+            'records': {sheets.RECORDS[kind][0].replace(' ', '_'): number for kind, number in sorted(room.records.items())}}

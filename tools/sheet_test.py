@@ -1,11 +1,11 @@
 #!/usr/bin/env python3
 """./sheet from outside: examples, jars and folders, refusals, JSON, exit statuses, words. The lines of the examples are the Rust's, with
 the count of no type aliases at the end of each sheet, which the Rust doesn't read."""
-import json, os, pty, re, resource, subprocess, sys, tempfile, types, unittest, zipfile
+import collections, json, os, pty, re, resource, subprocess, sys, tempfile, types, unittest, zipfile
 
 sys.dont_write_bytecode = True
 sys.setrecursionlimit(20000)
-import flag_words, made_class, payloads, schema
+import flag_words, made_class, payloads, schema, sheets
 
 ROOT = os.path.dirname(os.path.dirname(os.path.realpath(__file__)))
 SHEET, EXAMPLES = os.path.join(ROOT, 'sheet'), os.path.join(ROOT, 'examples')
@@ -356,7 +356,6 @@ class Refusals(InFolder):
     def test_every_number_has_a_name_as_in_the_header(self):
         with open(os.path.join(ROOT, 'include', 'sheet_reader.h'), encoding='utf-8') as f:
             named = dict(re.findall(r'^    SHEET_(\w+) = (\d+),? +/\*', f.read().split('Refusals')[1].split('};')[0], re.M))
-        import sheets
         with open(os.path.join(ROOT, 'include', 'sheet_reader.h'), encoding='utf-8') as f:
             self.assertIn(f'#define SHEET_FORMAT {sheets.FORMAT}\n', f.read())
         self.assertEqual({int(n): name.lower().replace('_', ' ') for name, n in named.items()}, sheets.REFUSAL_NAMES)
@@ -370,6 +369,93 @@ class Refusals(InFolder):
         self.assertEqual((status, out.count('"arguments"')), (0, 2048))
         self.assertEqual(sheet('read', '--records', path)[0], 0)
         self.assertEqual(sheet('check', path)[0], 0)
+
+
+def room_of(name):
+    """What an example's line, which is the Rust's, says of its room: bytes of sheet and text, and records by kind."""
+    _, _, sheet, text = sheets.line_answer(example(name, '.line').decode())
+    records = collections.Counter(record['record'] for record in sheets.records(sheet, text))
+    return len(sheet), len(text), {kind: records[record] for kind, (record, _) in sheets.RECORDS.items()}
+
+
+class Room(InFolder):
+    def test_examples(self):
+        for name in NAMES:
+            sheet_bytes, text_bytes, records = room_of(name)
+            status, out, said = sheet('room', f'examples/{name}.class')
+            self.assertEqual((status, said), (0, ''))
+            self.assertEqual([int(n) for n in re.findall(r'\d+', out)], [sheet_bytes, text_bytes, *records.values()], name)
+            o, = objects(sheet('room', '--json', f'examples/{name}.class')[1])
+            self.assertEqual(schema.faults(o, SCHEMA, SCHEMA), [])
+            self.assertEqual((o['state'], o['format'], o['sheet_bytes'], o['text_bytes'], o['fits'], o['types'], list(o['records'].values())),
+                             ('measured', sheets.FORMAT, sheet_bytes, text_bytes, True, records[6], list(records.values())), name)
+
+    def test_words(self):
+        self.assertEqual(sheet('room', 'examples/TillKt.class')[1], 'sheet 247 bytes, text 263 bytes; 1 head, 0 constructors, 2 functions, 1 property, '
+                         '3 parameters, 12 types, 2 default descriptors, 0 aliases, 1 count of aliases\n')
+
+    def test_the_manual_shows_what_is_printed(self):
+        with open(os.path.join(ROOT, 'docs', 'MANUAL.md'), encoding='utf-8') as f:
+            shown = re.findall(r'^    \$ (./sheet room .*)\n((?:    .*\n)+)', f.read(), re.M)
+        self.assertTrue(shown)
+        for command, text in shown:
+            self.assertEqual(sheet(*command.split()[1:])[1], re.sub(r'(?m)^    ', '', text), command)
+
+    def test_longest_and_sums(self):
+        rooms = [room_of(name) for name in NAMES]
+        status, out, said = sheet('room', 'examples')
+        lines = out.splitlines()
+        self.assertEqual((status, len(lines)), (0, len(NAMES) + 2))
+        self.assertEqual([line.split(': ')[0] for line in lines[:-2]], [f'examples/{name}.class' for name in NAMES])
+        longest = [max(zip(rooms, NAMES), key=lambda one: one[0][at]) for at in (0, 1)]
+        self.assertEqual(lines[-2], 'longest: ' + ', '.join(
+            f'{area} {room[at]} bytes (examples/{name}.class)' for at, (area, (room, name)) in enumerate(zip(('sheet', 'text'), longest))))
+        sums = [sum(room[0] for room in rooms), sum(room[1] for room in rooms), *(sum(room[2][kind] for room in rooms) for kind in range(1, 10))]
+        self.assertEqual([int(n) for n in re.findall(r'\d+', lines[-1])], [len(NAMES), *sums])
+        self.assertRegex(said, rf'^sheet: {len(NAMES)} measured, 0 refused, ')
+        self.assertEqual(len(objects(sheet('room', '--json', 'examples')[1])), len(NAMES))
+
+    def test_aliases_and_heads_alone(self):
+        aliases = made_class.alias(0, b'\x30\1', b'\x30\1') + made_class.alias(0, None, None)
+        path = self.put('Aliases.class', made_class.class_file(made_class.package(aliases, ['Cents', 'kotlin/Long'])))
+        self.assertEqual(sheet('room', path)[1], 'sheet 67 bytes, text 32 bytes; 1 head, 0 constructors, 0 functions, 0 properties, 0 parameters, 2 types, '
+                         '0 default descriptors, 2 aliases, 1 count of aliases\n')
+        path = self.put('Facade.class', made_class.class_file({'k': 4, 'mv': [1, 1, 15], 'd1': ['made/F__AKt']}))
+        self.assertEqual(sheet('room', path)[1], 'sheet 23 bytes, text 0 bytes; 1 head, 0 constructors, 0 functions, 0 properties, 0 parameters, 0 types, '
+                         '0 default descriptors, 0 aliases, 1 count of aliases\n')
+
+    def test_refusals_are_those_of_read_but_for_the_text(self):
+        for number, _, values in refused():
+            path = self.put('Bad.class', made_class.class_file(values))
+            if number != 11:
+                self.assertEqual(sheet('room', path), sheet('read', path), number)
+                self.assertEqual(sheet('room', '--json', path), sheet('read', '--json', path), number)
+                continue
+            self.assertEqual(sheet('room', path), (0, 'sheet 110 bytes, text 90000 bytes; 1 head, 0 constructors, 3 functions, 0 properties, 0 parameters, '
+                             '0 types, 3 default descriptors, 0 aliases, 1 count of aliases [the text fits no area: more than 65534 bytes]\n', ''))
+            o, = objects(sheet('room', '--json', path)[1])
+            self.assertEqual((o['fits'], o['text_bytes'], schema.faults(o, SCHEMA, SCHEMA)), (False, 90000, []))
+
+    def test_jars_refused_and_damaged_classes(self):
+        values = {number: values for number, _, values in refused()}
+        jar = self.jar('a.jar', {'till/Line.class': example('Line', '.class'), 'x/Bad.class': made_class.class_file(values[7]),
+                                 'x/Cut.class': example('Sale', '.class')[:400], 'x/Long.class': made_class.class_file(values[11])})
+        status, out, said = sheet('room', jar)
+        lines, (sheet_bytes, text_bytes, _) = out.splitlines(), room_of('Line')
+        self.assertEqual((status, len(lines)), (1, 5))
+        self.assertTrue(lines[1].startswith(f'{jar}!/x/Long.class: sheet 110 bytes, text 90000 bytes; '))
+        self.assertEqual(lines[2:4], [f'longest: sheet {sheet_bytes} bytes ({jar}!/till/Line.class), text {text_bytes} bytes ({jar}!/till/Line.class)',
+                                      '1 with a text that fits no area'])
+        self.assertTrue(lines[4].startswith(f'all 2: sheet {sheet_bytes + 110} bytes, text {text_bytes + 90000} bytes; 2 heads, '))
+        self.assertIn('x/Bad.class: refused, 7', said)
+        self.assertIn('2 measured, 1 refused (1 by 7, truncated), 0 without Kotlin metadata, 1 not a class', said)
+
+    def test_nothing_to_measure(self):
+        status, out, said = sheet('room', self.put('Java.class', made_class.class_file(None)))
+        self.assertEqual((status, out), (1, ''))
+        self.assertIn('no annotation kotlin.Metadata', said)
+        self.assertEqual(sheet('room', self.here)[:2], (0, ''))
+        self.assertEqual(sheet('room', self.path('missing.class'))[0], 4)
 
 
 class Paths(InFolder):
@@ -468,9 +554,9 @@ class Statuses(InFolder):
         for words in (['--help'], ['-h'], ['help']):
             status, out, said = sheet(*words)
             self.assertEqual((status, said), (0, ''))
-            for name in ('read', 'check', 'build'):
+            for name in ('read', 'check', 'room', 'build'):
                 self.assertRegex(out, rf'(?m)^  {name} ')
-        for name in ('read', 'check', 'build'):
+        for name in ('read', 'check', 'room', 'build'):
             for words in ([name, '--help'], [name, '-h'], ['help', name]):
                 status, out, said = sheet(*words)
                 self.assertEqual((status, said, out.startswith(f'usage: sheet {name}')), (0, '', True))
@@ -478,6 +564,7 @@ class Statuses(InFolder):
 
     def test_usage(self):
         for words in ([], ['write'], ['--json'], ['read'], ['read', '--all', 'x'], ['read', '--json', '--line', 'x'], ['check', '--line', 'x'],
+                      ['room'], ['room', '--line', 'x'],
                       ['build', 'x'], ['help', 'nothing']):
             status, out, said = sheet(*words)
             self.assertEqual((status, out), (2, ''), words)
@@ -499,7 +586,7 @@ class Statuses(InFolder):
             'sheet: fields, getters and setters by signature: 6, of which 0 not in the class, 0 shared, 0 perhaps of another'])
 
     def test_output_that_cannot_be_written(self):
-        for words in (['read', 'examples'], ['read', '--json', 'examples'], ['check', 'examples'], ['--help']):
+        for words in (['read', 'examples'], ['read', '--json', 'examples'], ['check', 'examples'], ['room', 'examples'], ['--help']):
             with open('/dev/full', 'wb') as full:
                 done = subprocess.run([SHEET, *words], cwd=ROOT, stdout=full, stderr=subprocess.PIPE)
             self.assertEqual(done.returncode, 4, words)

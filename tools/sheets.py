@@ -22,6 +22,12 @@ RECORDS = {
     9: ('aliases', [('aliases', 2)]),
 }
 
+# where a record's name has no s for the plural
+PLURALS = {'property': 'properties', 'alias': 'aliases'}
+
+# no text is longer: a class with a longer one is refused with 11
+TEXT_LIMIT = 65534
+
 ROLES = {1: 'returned or property type', 2: 'receiver', 3: 'parameter', 4: 'vararg element', 5: 'argument',
          6: 'underlying type of an alias', 7: 'expanded type of an alias'}
 

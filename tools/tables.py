@@ -2,7 +2,7 @@
 """usage: tables.py [ROOT]
 
 Whether the tables that are repeated for people and programs are those of the definitions: the records (kinds, lengths, cells in their order),
-the numbers of refusals, the roles of types, the limits. The definitions' text is read in crates/*/specs; held to it are docs/MANUAL.md,
+the numbers of refusals, the roles of types, the limits, and where the records of each kind stand among the room's numbers. The definitions' text is read in crates/*/specs; held to it are docs/MANUAL.md,
 include/sheet_reader.h, the tools (the file that has RECORDS) and the Java classes. Says each difference; the exit status is then 1."""
 import importlib.util, pathlib, re, sys
 
@@ -278,6 +278,23 @@ def names(table, defined):
     return {table[name][0]: number for name, number in defined.items() if table[name][0]}
 
 
+ANSWER = 5  # the numbers of an answer, which the room's numbers begin with
+
+
+def check_room(d, where, text, records):
+    """In the header: after the numbers of an answer the records of each kind, from kind 1 on."""
+    places = {f'ROOM_{name.upper().split()[0]}': ANSWER + kind - 1 for kind, (name, _) in records.items()}
+    d.named(where, 'place', {'ANSWER': ANSWER, 'ROOM_RECORDS': ANSWER - 1, **places, 'ROOM_ANSWER': ANSWER + len(records)}, text)
+
+
+def check_manual_room(d, where, text, records):
+    """The same in MANUAL, in words."""
+    told = {int(r[0]): r[1] for r in table_rows(manual_section(text, 'Areas that fit')) if r[0].isdigit()}
+    kinds = {ANSWER + kind - 1: f'records of kind {kind}, {name}' for kind, (name, _) in records.items()}
+    d.same(where, 'places of the room', list(range(ANSWER + len(records))), sorted(told))
+    d.same(where, "the room's records", kinds, {place: told.get(place) for place in kinds})
+
+
 def check_manual(d, where, text, records, causes, details, roles, limits):
     d.records(where, records, manual_records(text))
     rows = table_rows(manual_section(text, 'Refusals'))
@@ -306,6 +323,7 @@ def check_tool(d, where, module, records, causes, details, roles, limits):
     short = {number: name.replace('_', ' ').lower() for name, number in names(CAUSES, causes).items()}
     d.same(where, 'names of refusals', short, module.REFUSAL_NAMES)
     d.worded(where, 'role', words(ROLES, roles), module.ROLES)
+    d.same(where, 'limit TEXT_LIMIT', limits['textLimit'], module.TEXT_LIMIT)
     for cause, limit in (('d1TooLong', 'unitLimit'), ('d2TooLong', 'stringLimit'), ('tooManyTypes', 'allowance'), ('textTooLong', 'textLimit')):
         if f'{limits[limit]:,}' not in told.get(causes[cause], ''):
             d.say(where, f'refusal {causes[cause]} does not tell the limit {limits[limit]:,}')
@@ -333,6 +351,8 @@ def main(args):
         text = lambda path: (root / path).read_text(encoding='utf-8')
         check_manual(d, 'docs/MANUAL.md', text('docs/MANUAL.md'), records, causes, details, roles, limits)
         check_header(d, 'include/sheet_reader.h', text('include/sheet_reader.h'), records, causes, roles, limits)
+        check_room(d, 'include/sheet_reader.h', text('include/sheet_reader.h'), records)
+        check_manual_room(d, 'docs/MANUAL.md', text('docs/MANUAL.md'), records)
         check_tool(d, *tool(root), records, causes, details, roles, limits)
         check_java(d, 'host/java/sheetreader', root, records, limits)
     except (NotFound, OSError, AttributeError) as why:

@@ -25,6 +25,7 @@ ORDER = [
     ('the answer', 'members: Lists; declarations: Payload; inputs: Inputs Refusals Outcomes; passes: Answered; metadata: Read'),
     ('promises', 'characters: WellFormed; sheet: Reading Refs; schema: Counting; promises: Walk Promises'),
     ('demand 3', 'grammar: Grammar; defaults: Needs Descriptor Demand'),
+    ('the room', 'room: Room Exact'),
     ('the exported functions', 'sheet_calls: Calls'),
 ]
 # what only the program's line and the examples rest on

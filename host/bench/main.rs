@@ -1,4 +1,4 @@
-//! Times the reader's whole sheet beside the original's decode, in one process. See host/README.md.
+//! Times the reader's whole sheet, and what it tells of the room, beside the original's decode, in one process. See host/README.md.
 
 mod timing;
 
@@ -11,8 +11,8 @@ use timing::Timing;
 const USAGE: &str = "bench [--clear] [--reader library|stand-in]
 bench --slow [WORDS]              the slowest inputs that could be made, each by itself, or those with such words
 bench --each                      each real class by itself: those that cost most beside the Rust
-bench --corpus N [--rust]         N times all real classes, for a profiler
-bench --once FILE N [--rust]      N calls on one program input, for a profiler";
+bench --corpus N [--rust|--room]  N times all real classes, for a profiler: reading, the Rust's decode, or what is told of the room
+bench --once FILE N [--rust|--room]   N calls on one program input, for a profiler";
 
 fn main() {
     let words: Vec<String> = std::env::args().skip(1).collect();
@@ -25,14 +25,19 @@ fn main() {
         Some(name) => Reader::named(&name).expect(USAGE),
         None => Reader::DEFAULT,
     };
+    let what = match (has("--rust"), has("--room")) {
+        (true, _) => What::Rust,
+        (_, true) => What::Room,
+        _ => What::Reading,
+    };
     if has("--once") {
         let file = after("--once", 1).expect(USAGE);
         let count = after("--once", 2).and_then(|count| count.parse().ok()).expect(USAGE);
-        return once(&file, count, reader, has("--rust"));
+        return once(&file, count, reader, what);
     }
     if has("--corpus") {
         let count = after("--corpus", 1).and_then(|count| count.parse().ok()).expect(USAGE);
-        return corpus(count, reader, has("--rust"));
+        return corpus(count, reader, what);
     }
     let timing = Timing::new(reader, has("--clear"));
     if has("--each") {
@@ -44,21 +49,31 @@ fn main() {
     all(timing);
 }
 
+/// What a profiler is to see.
+enum What {
+    Reading,
+    Room,
+    Rust,
+}
+
+/// So many times these inputs.
+fn repeat(inputs: &[Input], count: u64, reader: Reader, what: What) {
+    let mut timing = Timing::new(reader, false);
+    match what {
+        What::Rust => timing.originals(inputs, count),
+        What::Reading => (0..count).for_each(|_| inputs.iter().for_each(|input| timing.reader(input, 1))),
+        What::Room => (0..count).for_each(|_| inputs.iter().for_each(|input| timing::room(reader, input))),
+    }
+}
+
 /// The real classes that the reader's limits let through.
 fn classes() -> Vec<Input> {
     corpus::classes().into_iter().filter(|class| class.d1.len() <= limits::UNITS).collect()
 }
 
-fn corpus(count: u64, reader: Reader, rust: bool) {
-    let mut timing = Timing::new(reader, false);
+fn corpus(count: u64, reader: Reader, what: What) {
     let classes = classes();
-    if rust {
-        timing.originals(&classes, count);
-    } else {
-        for _ in 0..count {
-            classes.iter().for_each(|class| timing.reader(class, 1));
-        }
-    }
+    repeat(&classes, count, reader, what);
     println!("{} classes", classes.len());
 }
 
@@ -87,15 +102,10 @@ fn each(mut timing: Timing) {
     }
 }
 
-fn once(file: &str, count: u64, reader: Reader, rust: bool) {
+fn once(file: &str, count: u64, reader: Reader, what: What) {
     let bytes = std::fs::read(file).expect("a program input");
     let input = Input::parse(&bytes).expect("a whole program input");
-    let mut timing = Timing::new(reader, false);
-    if rust {
-        timing.originals(std::slice::from_ref(&input), count);
-    } else {
-        timing.reader(&input, count);
-    }
+    repeat(std::slice::from_ref(&input), count, reader, what);
 }
 
 fn all(mut timing: Timing) {

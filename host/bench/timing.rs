@@ -1,5 +1,6 @@
 //! Medians of repeated rounds.
 
+use harness::answer::ROOM;
 use harness::expected::expected;
 use harness::input::Input;
 use harness::limits::{Areas, AREA};
@@ -15,6 +16,7 @@ pub struct Timing {
     text: Vec<u8>,
     number: u64,
     worst: (f64, String),
+    worst_room: (f64, String),
 }
 
 /// A round takes about this long, and the median is of so many rounds.
@@ -23,7 +25,15 @@ const ROUNDS: usize = 11;
 
 impl Timing {
     pub fn new(reader: Reader, clear: bool) -> Self {
-        Self { reader, clear, sheet: vec![0; AREA], text: vec![0; AREA], number: 0, worst: (0.0, String::new()) }
+        Self {
+            reader,
+            clear,
+            sheet: vec![0; AREA],
+            text: vec![0; AREA],
+            number: 0,
+            worst: (0.0, String::new()),
+            worst_room: (0.0, String::new()),
+        }
     }
 
     /// Lends a sheet area of another length: one that no sheet outgrows lets more inputs be accepted, and accepted ones are walked twice.
@@ -68,15 +78,20 @@ impl Timing {
 
     /// Times one slow input, prints a line, and keeps the slowest.
     pub fn slow(&mut self, words: &str, input: &Input) {
-        let [read] = medians(ROUND, [&mut || self.reader(input, 1)]);
-        println!("{:8.2} ms, answer {:2}, {words}", read * 1e3, self.number);
+        let reader = self.reader;
+        let [read, room] = medians(ROUND, [&mut || self.reader(input, 1), &mut || room(reader, input)]);
+        println!("{:8.2} ms, room {:8.2} ms, answer {:2}, {words}", read * 1e3, room * 1e3, self.number);
         if read > self.worst.0 {
             self.worst = (read, words.to_string());
+        }
+        if room > self.worst_room.0 {
+            self.worst_room = (room, words.to_string());
         }
     }
 
     pub fn tell_worst(&self) {
         println!("slowest: {:.2} ms, {}", self.worst.0 * 1e3, self.worst.1);
+        println!("slowest room: {:.2} ms, {}", self.worst_room.0 * 1e3, self.worst_room.1);
     }
 
     /// Times a set of inputs and prints a line.
@@ -86,14 +101,16 @@ impl Timing {
         }
         let bytes: usize = inputs.iter().map(|input| input.d1.len() + input.d2.len()).sum();
         let prepared = prepared(inputs);
+        let called = self.reader;
         let mut reader = || inputs.iter().for_each(|input| self.reader(input, 1));
+        let mut room = || inputs.iter().for_each(|input| room(called, input));
         let mut decode = || prepared.iter().for_each(|class| drop(black_box(class.decode())));
         let mut sheet = || {
             for class in &prepared {
                 drop(black_box(class.decode().map(|metadata| Sheet::of(&metadata))));
             }
         };
-        let [read, decode, sheet] = medians(ROUND, [&mut reader, &mut decode, &mut sheet]);
+        let [read, room, decode, sheet] = medians(ROUND, [&mut reader, &mut room, &mut decode, &mut sheet]);
         let number = self.number;
         let each = |seconds: f64| seconds * 1e9 / inputs.len() as f64;
         println!(
@@ -107,7 +124,15 @@ impl Timing {
             read / decode,
             each(sheet)
         );
+        println!("  room: {:.0} ns a class, {:.2} of the reader's time", each(room), room / read);
     }
+}
+
+/// One call that tells the room of an input.
+pub fn room(reader: Reader, input: &Input) {
+    let mut answer = [0; ROOM];
+    reader.room(black_box(input), &mut answer);
+    black_box(answer);
 }
 
 fn prepared(inputs: &[Input]) -> Vec<Class> {

@@ -20,7 +20,10 @@ pub fn one(bytes: &[u8], options: &Options) -> bool {
     if let Some(line) = &expected.disagreement {
         println!("the second reading has {line}");
     }
-    let difference = Caller::default().difference(options.reader, &input, areas, &expected.whole);
+    println!("room {:?}", expected.room.to_array());
+    let mut caller = Caller::default();
+    let difference = caller.difference(options.reader, &input, areas, &expected.whole);
+    let difference = difference.or_else(|| caller.difference_in_room(options.reader, &input, &expected.room));
     match &difference {
         Some(words) => println!("{} differs: {words}", options.reader.name()),
         None => println!("{} agrees", options.reader.name()),

@@ -3,7 +3,8 @@
 use harness::input::from_hex;
 use harness::reader::Reader;
 
-pub const USAGE: &str = "compare [--seed N] [--count N] [--mode exhaustive|made|damaged|boundaries|slow|all] [--show N]
+pub const USAGE: &str =
+    "compare [--seed N] [--count N] [--mode exhaustive|made|damaged|boundaries|room|slow|all] [--show N]
 compare --file INPUT | --hex HEX    one program input: the line that is right, and whether the reader's is it
 compare --lines FILE                the line that is right for each input of a file of inputs
 compare --original-lines FILE       the Rust's own line for each, without what sheets have got since
@@ -16,11 +17,12 @@ pub enum Mode {
     Made,
     Damaged,
     Boundaries,
+    Room,
     Slow,
 }
 
 impl Mode {
-    pub const ALL: [Self; 5] = [Self::Exhaustive, Self::Made, Self::Damaged, Self::Boundaries, Self::Slow];
+    pub const ALL: [Self; 6] = [Self::Exhaustive, Self::Made, Self::Damaged, Self::Boundaries, Self::Room, Self::Slow];
 
     pub fn name(self) -> String {
         format!("{self:?}").to_lowercase()

@@ -1,12 +1,12 @@
 //! Runs over numbered inputs, what they count, and the differences that they show.
 
 use crate::options::{Mode, Options};
-use harness::answer::{Whole, NUMBERS};
+use harness::answer::{Answer, NUMBERS};
 use harness::comparison::{Basis, Change};
 use harness::exhaustive::Exhaustive;
-use harness::expected::{around, expected};
+use harness::expected::{around, expected, fitting, Judge};
 use harness::input::{hex, Input};
-use harness::limits::Areas;
+use harness::limits::{Areas, TEXT};
 use harness::random::Random;
 use harness::reader::{Caller, Reader, LARGEST};
 use harness::slow::{slowest, Slow};
@@ -31,19 +31,22 @@ const SMALL: Areas = Areas { sheet: 600, text: 600 };
 const LARGE: Areas = Areas { sheet: LARGEST, text: LARGEST };
 
 impl Source {
-    /// The input with this number of a mode's run, and the areas to read it into.
-    pub fn input(&self, mode: Mode, seed: u64, number: u64) -> Option<(Input, Vec<Areas>)> {
+    /// The input with this number of a mode's run.
+    pub fn input(&self, mode: Mode, seed: u64, number: u64) -> Option<Input> {
         let mut random = Random::of(seed, number);
         Some(match mode {
-            Mode::Exhaustive => (self.exhaustive.input(seed + number)?, vec![SMALL]),
-            Mode::Made => (self.made(&mut random), vec![Areas::PROGRAM]),
-            Mode::Damaged => (self.damaged(&mut random, number), vec![Areas::PROGRAM]),
+            Mode::Exhaustive => self.exhaustive.input(seed + number)?,
+            Mode::Made => self.made(&mut random),
+            Mode::Damaged => self.damaged(&mut random, number),
             Mode::Boundaries => {
-                let input = if random.once_in(4) { self.made(&mut random) } else { shapes::input(&mut random) };
-                let areas = around(&input).into_iter().chain([LARGE, Areas::PROGRAM]).collect();
-                (input, areas)
+                if random.once_in(4) {
+                    self.made(&mut random)
+                } else {
+                    shapes::input(&mut random)
+                }
             }
-            Mode::Slow => (self.slow.get(number as usize)?.input.clone(), vec![Areas::PROGRAM, LARGE]),
+            Mode::Room => self.classes.get(number as usize).cloned().unwrap_or_else(|| self.made(&mut random)),
+            Mode::Slow => self.slow.get(number as usize)?.input.clone(),
         })
     }
 
@@ -69,10 +72,26 @@ impl Source {
     }
 }
 
+/// The areas that a mode reads an input into, and the number that must come of it where the room tells it.
+fn areas(mode: Mode, judge: &Judge) -> Vec<(Areas, Option<u64>)> {
+    let areas = match mode {
+        Mode::Exhaustive => vec![SMALL],
+        Mode::Made | Mode::Damaged => vec![Areas::PROGRAM],
+        Mode::Boundaries => around(judge).into_iter().chain([LARGE, Areas::PROGRAM]).collect(),
+        Mode::Room => return fitting(&judge.room()).into_iter().map(|(areas, number)| (areas, Some(number))).collect(),
+        Mode::Slow => vec![Areas::PROGRAM, LARGE],
+    };
+    areas.into_iter().map(|areas| (areas, None)).collect()
+}
+
 /// What a run saw.
 #[derive(Default)]
 pub struct Seen {
     pub calls: u64,
+    rooms: u64,
+    /// Rooms with a text that no area holds, and rooms of a sheet without text.
+    too_long: u64,
+    without_text: u64,
     numbers: [u64; NUMBERS],
     /// How many calls each basis settled, in the order of `Basis::ALL`.
     settled: [u64; Basis::ALL.len()],
@@ -94,40 +113,54 @@ impl Run {
         Self { reader, caller: Caller::default(), seen: Seen::default(), show }
     }
 
-    /// Reads one input into areas of these lengths, and holds the answer to what it must be.
-    pub fn check(&mut self, input: &Input, areas: Areas) -> Whole {
-        let expected = expected(input, areas);
+    /// Asks for the room of an input, reads it into the mode's areas, and holds each answer to what it must be.
+    pub fn check(&mut self, mode: Mode, input: &Input) {
+        let judge = Judge::of(input);
+        let Answer { number, text, .. } = judge.room().answer;
+        self.seen.rooms += 1;
+        self.seen.too_long += u64::from(text > TEXT);
+        self.seen.without_text += u64::from(number == 0 && text == 0);
+        if self.caller.difference_in_room(self.reader, input, &judge.room()).is_some() {
+            self.differs(input, None);
+        }
+        for (areas, number) in areas(mode, &judge) {
+            self.read(input, &judge, areas, number);
+        }
+    }
+
+    fn read(&mut self, input: &Input, judge: &Judge, areas: Areas, number: Option<u64>) {
+        let expected = judge.expected(areas);
         self.seen.calls += 1;
         self.seen.numbers[expected.whole.answer.number as usize] += 1;
         self.seen.settled[expected.basis as usize] += 1;
         for change in expected.changes {
             self.seen.changed[change as usize] += 1;
         }
-        if expected.disagreement.is_some() {
+        if expected.disagreement.is_some() || number.is_some_and(|number| number != expected.whole.answer.number) {
             self.seen.disagreements += 1;
             if self.seen.disagreements as usize <= self.show {
                 self.tell_disagreement(input, areas);
             }
         }
-        let difference = self.caller.difference(self.reader, input, areas, &expected.whole);
-        if difference.is_some() {
-            self.seen.differences += 1;
-            if self.seen.differences as usize <= self.show {
-                self.tell_difference(input, areas);
-            }
+        if self.caller.difference(self.reader, input, areas, &expected.whole).is_some() {
+            self.differs(input, Some(areas));
         }
-        expected.whole
     }
 
-    fn tell_difference(&mut self, input: &Input, areas: Areas) {
+    /// Counts a difference, in the answer with these areas or else in the room, and tells the first ones.
+    fn differs(&mut self, input: &Input, areas: Option<Areas>) {
+        self.seen.differences += 1;
+        if self.seen.differences as usize > self.show {
+            return;
+        }
         let (reader, caller) = (self.reader, &mut self.caller);
-        let mut difference = |input: &Input| {
-            let wanted = expected(input, areas).whole;
-            caller.difference(reader, input, areas, &wanted)
+        let mut difference = |input: &Input| match areas {
+            Some(areas) => caller.difference(reader, input, areas, &expected(input, areas).whole),
+            None => caller.difference_in_room(reader, input, &Judge::of(input).room()),
         };
         let small = shrink::shrink(input, &mut |input| difference(input).is_some());
         println!("difference: {}", difference(&small).unwrap_or_default());
-        tell(&small, areas);
+        tell(&small, areas.unwrap_or(LARGE));
     }
 
     fn tell_disagreement(&self, input: &Input, areas: Areas) {
@@ -175,13 +208,11 @@ fn one_mode(source: &Source, mode: Mode, count: u64, options: &Options) -> bool 
     let mut run = Run::new(options.reader, options.show);
     let mut inputs = 0;
     for number in 0..count {
-        let Some((input, areas)) = source.input(mode, options.seed, number) else {
+        let Some(input) = source.input(mode, options.seed, number) else {
             break;
         };
         inputs += 1;
-        for areas in areas {
-            run.check(&input, areas);
-        }
+        run.check(mode, &input);
     }
     let seen = &run.seen;
     let refused: Vec<String> =
@@ -198,6 +229,10 @@ fn one_mode(source: &Source, mode: Mode, count: u64, options: &Options) -> bool 
     println!("  held to {}", settled.collect::<Vec<_>>().join(", "));
     let changed = Change::ALL.iter().zip(seen.changed).map(|(change, count)| format!("{} {count}", change.words()));
     println!("  of those held to the Rust: {}", changed.collect::<Vec<_>>().join(", "));
+    println!(
+        "  rooms told: {}, of which {} of a text that fits no area and {} without text",
+        seen.rooms, seen.too_long, seen.without_text
+    );
     println!("  differences {}, second reading against the Rust {}", seen.differences, seen.disagreements);
     seen.differences == 0 && seen.disagreements == 0
 }

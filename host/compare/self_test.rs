@@ -27,10 +27,7 @@ fn found_after(source: &Source, mode: Mode, mistake: Mistake, options: &Options)
     let mut run = Run::new(Reader::StandIn(mistake), 0);
     let count = if mode == Mode::Boundaries { options.count / 20 } else { options.count };
     for number in 0..count {
-        let (input, areas) = source.input(mode, options.seed, number)?;
-        for areas in areas {
-            run.check(&input, areas);
-        }
+        run.check(mode, &source.input(mode, options.seed, number)?);
         if run.seen.differences > 0 {
             return Some(number + 1);
         }

@@ -37,7 +37,8 @@ pub unsafe extern "C" fn LLVMFuzzerTestOneInput(data: *const u8, size: usize) ->
 fn check(input: &Input, areas: Areas) -> Option<(usize, usize)> {
     let expected = expected(input, areas);
     let difference = CALLER.with_borrow_mut(|caller| caller.difference(Reader::DEFAULT, input, areas, &expected.whole));
-    let difference = difference.or(expected.disagreement);
+    let in_room = || CALLER.with_borrow_mut(|caller| caller.difference_in_room(Reader::DEFAULT, input, &expected.room));
+    let difference = difference.or_else(in_room).or(expected.disagreement);
     if let Some(words) = difference {
         eprintln!("areas {} {}: {words}; it must be {}", areas.sheet, areas.text, expected.whole.line());
         std::process::abort();

@@ -1,4 +1,4 @@
-//! Answers, and the line that the program prints of one.
+//! Answers, what is told of the room before reading, and the line that the program prints of an answer.
 
 use crate::input::hex;
 
@@ -28,6 +28,62 @@ impl Answer {
     pub fn to_array(self) -> [u64; 5] {
         [self.number, self.detail, self.sheet, self.text, self.types]
     }
+}
+
+/// Kinds of records on a sheet.
+pub const KINDS: usize = 9;
+
+/// How many bytes a record of each kind has, from kind 1 on.
+const LENGTHS: [usize; KINDS] = [20, 19, 24, 40, 6, 9, 5, 13, 3];
+
+/// How many numbers are told of the room: the five of an answer, and the records of each kind.
+pub const ROOM: usize = 5 + KINDS;
+
+/// Words for these numbers.
+pub const ROOM_WORDS: [&str; ROOM] = [
+    "number",
+    "detail",
+    "sheet length",
+    "text length",
+    "types",
+    "heads",
+    "constructors",
+    "functions",
+    "properties",
+    "parameters",
+    "type records",
+    "default descriptors",
+    "aliases",
+    "counts of aliases",
+];
+
+/// What is told of an input before it is read: its answer if the areas were long enough for anything, with the text at its true length, and
+/// how many records of each kind the sheet has. Refusals 11 and 12 aren't among its numbers.
+#[derive(Debug, Clone, Copy, PartialEq, Eq, Default)]
+pub struct Room {
+    pub answer: Answer,
+    pub records: [u64; KINDS],
+}
+
+impl Room {
+    pub fn to_array(self) -> [u64; ROOM] {
+        let mut array = [0; ROOM];
+        array[..5].copy_from_slice(&self.answer.to_array());
+        array[5..].copy_from_slice(&self.records);
+        array
+    }
+}
+
+/// How many records of each kind stand on a sheet, by its bytes alone; none if they aren't whole records.
+pub fn records_on(sheet: &[u8]) -> Option<[u64; KINDS]> {
+    let mut records = [0; KINDS];
+    let mut at = 0;
+    while at < sheet.len() {
+        let kind = usize::from(sheet[at]).checked_sub(1)?;
+        at += LENGTHS.get(kind)?;
+        records[kind] += 1;
+    }
+    (at == sheet.len()).then_some(records)
 }
 
 /// An answer with the bytes of sheet and text, which are empty on a refusal.

@@ -1,6 +1,6 @@
-//! The one call of the reader, by the static library or by a stand-in, and how its answer is held to another.
+//! The calls of the reader, by the static library or by a stand-in, and how their answers are held to others.
 
-use crate::answer::{Answer, Whole};
+use crate::answer::{Answer, Room, Whole, ROOM, ROOM_WORDS};
 use crate::areas::Guarded;
 use crate::input::Input;
 use crate::limits::Areas;
@@ -25,6 +25,20 @@ extern "C" {
         text: *mut u8,
         text_length: usize,
         answer: *mut [u64; 5],
+    );
+
+    fn sheet_room(
+        k: i32,
+        major: i32,
+        minor: i32,
+        patch: i32,
+        d1: *const u16,
+        d1_count: usize,
+        d2: *const u16,
+        d2_count: usize,
+        ends: *const u32,
+        ends_count: usize,
+        answer: *mut [u64; ROOM],
     );
 }
 
@@ -61,10 +75,15 @@ impl Reader {
     pub fn call(self, input: &Input, sheet: &mut [u8], text: &mut [u8], answer: &mut [u64; 5]) {
         match self {
             Self::StandIn(mistake) => second::stand_in(mistake, input, sheet, text, answer),
-            Self::Library => {
-                let lent = Lent { k: input.k, mv: input.mv, d1: &input.d1, d2: &input.d2, ends: &input.ends };
-                lent.call(sheet, text, answer);
-            }
+            Self::Library => Lent::of(input).call(sheet, text, answer),
+        }
+    }
+
+    /// One call that tells the room.
+    pub fn room(self, input: &Input, answer: &mut [u64; ROOM]) {
+        match self {
+            Self::StandIn(mistake) => second::stand_in_room(mistake, input, answer),
+            Self::Library => Lent::of(input).room(answer),
         }
     }
 }
@@ -78,7 +97,16 @@ pub struct Lent<'a> {
     pub ends: &'a [u32],
 }
 
-impl Lent<'_> {
+impl<'a> Lent<'a> {
+    /// An input where its vectors stand.
+    fn of(input: &'a Input) -> Self {
+        Self { k: input.k, mv: input.mv, d1: &input.d1, d2: &input.d2, ends: &input.ends }
+    }
+
+    fn is(&self, input: &Input) -> bool {
+        self.d1 == input.d1 && self.d2 == input.d2 && self.ends == input.ends
+    }
+
     #[cfg(feature = "library")]
     pub fn call(&self, sheet: &mut [u8], text: &mut [u8], answer: &mut [u64; 5]) {
         let [major, minor, patch] = self.mv;
@@ -103,21 +131,70 @@ impl Lent<'_> {
         }
     }
 
+    #[cfg(feature = "library")]
+    pub fn room(&self, answer: &mut [u64; ROOM]) {
+        let [major, minor, patch] = self.mv;
+        unsafe {
+            sheet_room(
+                self.k,
+                major,
+                minor,
+                patch,
+                self.d1.as_ptr(),
+                self.d1.len(),
+                self.d2.as_ptr(),
+                self.d2.len(),
+                self.ends.as_ptr(),
+                self.ends.len(),
+                answer,
+            );
+        }
+    }
+
     #[cfg(not(feature = "library"))]
     pub fn call(&self, _: &mut [u8], _: &mut [u8], _: &mut [u64; 5]) {
         panic!("built without the static library");
+    }
+
+    #[cfg(not(feature = "library"))]
+    pub fn room(&self, _: &mut [u64; ROOM]) {
+        panic!("built without the static library");
+    }
+}
+
+/// Pages for an input: each of its slices ends, or begins, where a page that can't be touched is.
+struct InputPages {
+    d1: Guarded,
+    d2: Guarded,
+    ends: Guarded,
+}
+
+impl Default for InputPages {
+    fn default() -> Self {
+        Self { d1: Guarded::new(1 << 20), d2: Guarded::new(1 << 20), ends: Guarded::new(1 << 20) }
+    }
+}
+
+impl InputPages {
+    fn lend(&mut self, input: &Input, at_end: bool) -> Lent<'_> {
+        let d1 = self.d1.slice::<u16>(input.d1.len(), at_end);
+        d1.copy_from_slice(&input.d1);
+        let d2 = self.d2.slice::<u16>(input.d2.len(), at_end);
+        d2.copy_from_slice(&input.d2);
+        let ends = self.ends.slice::<u32>(input.ends.len(), at_end);
+        ends.copy_from_slice(&input.ends);
+        Lent { k: input.k, mv: input.mv, d1, d2, ends }
     }
 }
 
 /// The memory that one reader is called with: every slice is bounded by pages that can't be touched.
 pub struct Caller {
-    d1: Guarded,
-    d2: Guarded,
-    ends: Guarded,
+    input: InputPages,
     sheet: Guarded,
     text: Guarded,
     answer: Guarded,
     calls: u64,
+    rooms: u64,
     untouched: [Vec<u8>; 2],
 }
 
@@ -130,13 +207,12 @@ const PATTERNS: [u8; 2] = [0xa5, 0x5a];
 impl Default for Caller {
     fn default() -> Self {
         Self {
-            d1: Guarded::new(1 << 20),
-            d2: Guarded::new(1 << 20),
-            ends: Guarded::new(1 << 20),
+            input: InputPages::default(),
             sheet: Guarded::new(LARGEST),
             text: Guarded::new(LARGEST),
-            answer: Guarded::new(64),
+            answer: Guarded::new(ROOM * 8),
             calls: 0,
+            rooms: 0,
             untouched: PATTERNS.map(|pattern| vec![pattern; LARGEST]),
         }
     }
@@ -155,21 +231,35 @@ impl Caller {
         let answer = &mut self.answer.slice::<[u64; 5]>(1, at_end)[0];
         *answer = [0x5a5a_5a5a; 5];
         if reader == Reader::Library {
-            let d1 = self.d1.slice::<u16>(input.d1.len(), at_end);
-            d1.copy_from_slice(&input.d1);
-            let d2 = self.d2.slice::<u16>(input.d2.len(), at_end);
-            d2.copy_from_slice(&input.d2);
-            let ends = self.ends.slice::<u32>(input.ends.len(), at_end);
-            ends.copy_from_slice(&input.ends);
-            let lent = Lent { k: input.k, mv: input.mv, d1, d2, ends };
+            let lent = self.input.lend(input, at_end);
             lent.call(sheet, text, answer);
-            if d1 != input.d1 || d2 != input.d2 || ends != input.ends {
+            if !lent.is(input) {
                 return Some("the input was changed".to_string());
             }
         } else {
             reader.call(input, sheet, text, answer);
         }
         compare(*answer, sheet, text, untouched, expected)
+    }
+
+    /// Asks for the room, and tells how it differs from what it must be.
+    pub fn difference_in_room(&mut self, reader: Reader, input: &Input, expected: &Room) -> Option<String> {
+        self.rooms += 1;
+        let at_end = self.rooms % 2 == 0;
+        let answer = &mut self.answer.slice::<[u64; ROOM]>(1, at_end)[0];
+        *answer = [0x5a5a_5a5a; ROOM];
+        if reader == Reader::Library {
+            let lent = self.input.lend(input, at_end);
+            lent.room(answer);
+            if !lent.is(input) {
+                return Some("the input was changed by the room".to_string());
+            }
+        } else {
+            reader.room(input, answer);
+        }
+        let wanted = expected.to_array();
+        let place = (0..ROOM).find(|place| answer[*place] != wanted[*place])?;
+        Some(format!("the room's {}: {answer:?} and not {wanted:?}", ROOM_WORDS[place]))
     }
 }
 

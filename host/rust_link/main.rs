@@ -6,7 +6,7 @@
 use std::io::{self, Read, Write};
 
 mod reader {
-    //! The static library's one function. A slice goes as a pointer and a count of its elements; a Rust slice's own pointer is never null and
+    //! The static library's function that reads. A slice goes as a pointer and a count of its elements; a Rust slice's own pointer is never null and
     //! always aligned, and `&mut` keeps the areas apart, so that nothing is left for a caller to mind.
 
     extern "C" {

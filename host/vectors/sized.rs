@@ -3,7 +3,7 @@
 use crate::cases::Case;
 use crate::{answer, cases, examples, numbered, settled};
 use harness::answer::{Answer, Whole, NUMBERS};
-use harness::expected::around;
+use harness::expected::{around, Judge};
 use harness::input::hex;
 use harness::limits::{Areas, TEXT};
 use std::path::Path;
@@ -77,7 +77,7 @@ fn pairs() -> Vec<Case> {
             continue;
         }
         seen[number as usize] += 1;
-        let mut areas = around(&input);
+        let mut areas = around(&Judge::of(&input));
         if number != 0 {
             areas.push(Areas { sheet: 32, text: 16 });
         }
@@ -85,7 +85,7 @@ fn pairs() -> Vec<Case> {
     }
     // The longest text, in an area of just its length.
     let longest = examples::text_of(TEXT as usize);
-    let enough = around(&longest)[0];
+    let enough = around(&Judge::of(&longest))[0];
     pairs.push((longest, enough));
     pairs
 }

@@ -14,7 +14,7 @@ use lib.Seq.{sets}
 use lib.Signed.{ltZ}
 use Rattle.foundation.specs.Choices.{if_then_else_}
 use Rattle.foundation.specs.Digits.{little}
-use Rattle.foundation.specs.Results.{Res, Cause, d1TooLong, d2TooLong, stringEnds, newerVersion, sheetTooLong}
+use Rattle.foundation.specs.Results.{Res, refused, Cause, d1TooLong, d2TooLong, stringEnds, newerVersion, sheetTooLong}
 use Rattle.foundation.proofs.ChoiceLaws.{if-ind, and-left, and-right}
 use Rattle.foundation.specs.Texts.{Text}
 use Rattle.encoding.specs.Encoding.{unitLimit}
@@ -37,7 +37,7 @@ use Rattle.declarations.specs.Payload.{declarationRows}
 use Rattle.declarations.proofs.BodyLaws.{no-name}
 use Rattle.inputs.specs.Refusals.{numberOf, detailOf}
 use Rattle.inputs.specs.Inputs.{Input, kindOf, carriesDeclarations, stringLimit, supportedMajor, major, laterFault, faultOf, input}
-use Rattle.inputs.specs.told.OutcomesTold.{faultCause, faultTold, told, RefusedAs}
+use Rattle.inputs.specs.told.OutcomesTold.{faultCause, faultTold, told}
 use Rattle.inputs.specs.Outcomes as definition
 use Rattle.inputs.specs.declared.Fault.{Fault}
 use Rattle.inputs.specs.declared.Inspected.{Inspected}
@@ -46,13 +46,19 @@ use Rattle.inputs.specs.declared.outcome.Outcome.{Outcome}
 use Rattle.passes.specs.Answered as answers
 use Rattle.passes.specs.Answered.{headAlone, nothingRead, sheetWritten, answered}
 use Rattle.passes.specs.told.AreaTold.{InLimits, start}
+use Rattle.passes.specs.told.TaskTold.{noLists, RoomTold, TaskToldBy, TaskTold}
 use Rattle.passes.specs.told.PassTold.{PassedTold, readingOf, readingBy}
+use Rattle.passes.specs.declared.Task.{Task}
+use Rattle.passes.specs.declared.Task.the-variants as task
+use Rattle.passes.specs.declared.Asked.{Asked}
+use Rattle.passes.specs.declared.Reply.{Reply}
 use Rattle.passes.specs.declared.Passed.{Passed}
 use Rattle.passes.specs.declared.Passed.the-variants as passed
 use Rattle.metadata.specs.Read.{reading, read}
 use Rattle.metadata.specs.told.ReadTold.{toldBy}
 use Rattle.metadata.specs.declared.Answer.{Answer}
 use Rattle.inputs.proofs.OutcomeLaws.{refused-as}
+use Rattle.passes.proofs.TaskLaws.{reply-room}
 
 kind-bounds : (k : ℤ) → (1 ≤ kindOf k) × (kindOf k ≤ 5)
 kind-bounds (pos m) =
@@ -101,33 +107,51 @@ fault-kept i e =
       fit = else-none (endsFit 0 (i .ends) (length (i .d2))) stringEnds version (b .1);
     }
 
-module _ (S T : List ℕ) (k : ℤ) (mv : List ℤ) (d1 d2 ends : List ℕ) where
-  pub read-fault : (f : Inspected) {fault : Fault} {r : Outcome} → faultOf (input k mv d1 d2 ends) ≡ faultTold f → f ≡ inspected.Faulty fault
-      → RefusedAs (faultCause fault) 0 r → read S T (input k mv d1 d2 ends) ≡ told r S T
-  unfolding read reading
-  read-fault f e g h = rw (e ∙ ap faultTold g) (h S T)
+pub read-by : (S T : List ℕ) (i : Input) → read S T i ≡ answered S T (kindOf (i .k)) (reading i)
+unfolding read
+read-by S T i = refl
 
-  module _ (f : Inspected) (e : faultOf (input k mv d1 d2 ends) ≡ faultTold f) (g : f ≡ inspected.Sound) where
+module _ (k : ℤ) (mv : List ℤ) (d1 d2 ends : List ℕ) (f : Inspected) (e : faultOf (input k mv d1 d2 ends) ≡ faultTold f) where
+  pub reading-fault : {fault : Fault} → f ≡ inspected.Faulty fault → reading (input k mv d1 d2 ends) ≡ refused (faultCause fault) 0
+  unfolding reading
+  reading-fault g = rw (e ∙ ap faultTold g)
+
+  module _ (g : f ≡ inspected.Sound) where
     no-fault-is : faultOf (input k mv d1 d2 ends) ≡ none
     no-fault-is = e ∙ ap faultTold g
 
     pub kept-is : InLimits d1 d2 ends
     kept-is = fault-kept (input k mv d1 d2 ends) no-fault-is
 
-    pub read-kind-is : {kind : ℕ} → kind ≡ kindOf k → {r : Outcome} (S′ T′ : List ℕ) → answered S T kind (readingBy kind d1 d2 ends) ≡ told r S′ T′
-        → read S T (input k mv d1 d2 ends) ≡ told r S′ T′
-    unfolding read reading
-    read-kind-is {kind} q {r} S′ T′ h = rw no-fault-is (subst (λ (n : ℕ). answered S T n (readingBy n d1 d2 ends) ≡ told r S′ T′) q h)
+    by-kind : readingBy (kindOf k) d1 d2 ends ≡ reading (input k mv d1 d2 ends)
+    unfolding reading
+    by-kind = rw no-fault-is
+
+    pub task-kind : {kind : ℕ} → kind ≡ kindOf k → (t : Task) (r : Reply) (S S′ T T′ : List ℕ)
+        → TaskToldBy t kind (readingBy kind d1 d2 ends) r S S′ T T′ → TaskToldBy t (kindOf k) (reading (input k mv d1 d2 ends)) r S S′ T T′
+    task-kind q t r S S′ T T′ h =
+        subst (λ (x : Res (Declarations × ℕ)). TaskToldBy t (kindOf k) x r S S′ T T′) by-kind
+        (subst (λ (n : ℕ). TaskToldBy t n (readingBy n d1 d2 ends) r S S′ T T′) q h)
 
 -- By the kind.
-module _ (S S′ T T′ : List ℕ) (kind : ℕ) (d1 d2 ends : List ℕ) {r : Outcome} where
-  pub kind-alone : (n : ℕ) → carriesDeclarations n ≡ false → kind ≡ n → answered S T kind nothingRead ≡ told r S′ T′
-      → answered S T kind (readingBy kind d1 d2 ends) ≡ told r S′ T′
-  kind-alone n c e h = rw (ap carriesDeclarations e ∙ c) h
+module _ (asked : Asked) (d1 d2 ends : List ℕ) (r : Reply) (S S′ T T′ : List ℕ) where
+  pub kind-alone : (n : ℕ) → carriesDeclarations n ≡ false → asked .kind ≡ n → TaskTold asked nothingRead r S S′ T T′
+      → TaskTold asked (readingBy (asked .kind) d1 d2 ends) r S S′ T T′
+  kind-alone n c e h =
+      let nothing : readingBy (asked .kind) d1 d2 ends ≡ nothingRead = rw (ap carriesDeclarations e ∙ c) in
+      subst (λ (x : Res (Declarations × ℕ)). TaskTold asked x r S S′ T T′) (sym nothing) h
 
-  pub kind-carries : 1 ≤ kind → kind ≤ 5 → (kind ≡ 3 → ⊥) → (kind ≡ 4 → ⊥) → answered S T kind (readingOf kind d1 d2 ends) ≡ told r S′ T′
-      → answered S T kind (readingBy kind d1 d2 ends) ≡ told r S′ T′
-  kind-carries a b f g h = rw (carries kind a b f g) h
+  pub kind-carries : 1 ≤ asked .kind → asked .kind ≤ 5 → (asked .kind ≡ 3 → ⊥) → (asked .kind ≡ 4 → ⊥)
+      → TaskTold asked (readingOf (asked .kind) d1 d2 ends) r S S′ T T′ → TaskTold asked (readingBy (asked .kind) d1 d2 ends) r S S′ T T′
+  kind-carries a b f g h =
+      let body : readingBy (asked .kind) d1 d2 ends ≡ readingOf (asked .kind) d1 d2 ends = rw (carries (asked .kind) a b f g) in
+      subst (λ (x : Res (Declarations × ℕ)). TaskTold asked x r S S′ T T′) (sym body) h
+
+-- Where a room is asked for, it is told whatever areas are lent.
+pub room-anywhere : (asked : Asked) (x : Res (Declarations × ℕ)) (r : Reply) (A A′ B B′ S T : List ℕ) → asked .task ≡ task.Room
+    → TaskTold asked x r A A′ B B′ → TaskTold asked x r S S T T
+room-anywhere asked x r A A′ B B′ S T e h =
+    reply-room asked x S T r e ((subst (λ (t : Task). TaskToldBy t (asked .kind) x r A A′ B B′) e h) .0)
 
 -- The head alone, with the count of no aliases.
 abbrev alone : ℕ → List Row
@@ -179,6 +203,24 @@ module _ (kind : ℕ) (S T : List ℕ) where
       alone-put : PutHead 1 (headCells kind none 6) allowance start s₁ S S₁ T T₁ → PutRows (alone kind) (s₂ .types) start (past 2 s₂) S S₄ T T₁
       alone-put p = alone-rows kind (head-put kind none 6 0 0 0 (row 9 (num 2 0 ∷ []) ∷ []) p (aliases-put 0 [] q (no-rows (past 2 s₂) S₂ T₁) z) c)
 
+-- the room of the head alone
+pub alone-room : (kind : ℕ) (r : Reply) → r .outcome ≡ record { number = 0; detail = 0; sheet = 23; text = 0; types = 0 } → r .sections ≡ noLists
+    → RoomTold kind nothingRead r
+unfolding texts bodyText
+alone-room kind r e f =
+    let none : length (texts (alone kind)) ≡ 0 = ap length (alone-text kind) in
+    record {
+      outcome = e ∙ rw (alone-length kind, none);
+      headText = rw f;
+      constructorsText = rw f;
+      functionsText = rw f;
+      propertiesText = rw f;
+      constructorCount = rw f;
+      functionCount = rw f;
+      propertyCount = rw f;
+      aliasCount = rw f;
+    }
+
 -- where the head ends
 pub alone-ends : (kind : ℕ) (n : Name) (payload d2 : List ℕ) → length payload ≤ 32768 → length d2 ≤ 32768 → {s s₁ : State} {S S₁ T T₁ : List ℕ} → s ≡ start
     → PutHead 1 (headCells kind (nameText payload d2 n) 6) (s .types) s s₁ S S₁ T T₁ → s₁ .sheet ≤ 2 ^ 60
@@ -189,13 +231,13 @@ alone-ends kind n payload d2 a b {s} e p =
 pub start-room : (payload d2 : List ℕ) → length payload ≤ 32768 → length d2 ≤ 32768 → {s : State} → s ≡ start → written.RecordRoom (2 ^ 61) payload d2 s
 start-room payload d2 a b e = subst (written.RecordRoom (2 ^ 61) payload d2) (sym e) (record { payload = a; d2 = b; places = omega arith })
 
--- An answer from a frame.
-module _ (kind : ℕ) (x : Res (Declarations × ℕ)) (room : Type 0) (y : Passed) (S S′ T T′ : List ℕ) (t : PassedTold kind x room y S S′ T T′) where
-  pub pass-answered : {r : Outcome} → y ≡ passed.Answered r → answered S T kind x ≡ told r S′ T′
-  pass-answered e = subst (λ (z : Passed). PassedTold kind x room z S S′ T T′) e t
+-- A reply from a frame.
+module _ (asked : Asked) (x : Res (Declarations × ℕ)) (room : Type 0) (y : Passed) (S S′ T T′ : List ℕ) (t : PassedTold asked x room y S S′ T T′) where
+  pub pass-answered : {r : Reply} → y ≡ passed.Answered r → TaskTold asked x r S S′ T T′
+  pass-answered e = subst (λ (z : Passed). PassedTold asked x room z S S′ T T′) e t
 
   pass-lacks : y ≡ passed.NoRoom → (room → ⊥) × (S′ ≡ S) × (T′ ≡ T)
-  pass-lacks e = subst (λ (z : Passed). PassedTold kind x room z S S′ T T′) e t
+  pass-lacks e = subst (λ (z : Passed). PassedTold asked x room z S S′ T T′) e t
 
   pub pass-never : {A : Type 0} → room → y ≡ passed.NoRoom → A
   pass-never h e = absurd (pass-lacks e .0 h)

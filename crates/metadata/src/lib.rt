@@ -1,14 +1,16 @@
 // The reader of Kotlin class metadata: from the parts of an annotation to a sheet of records and its text, in two lent areas. `read` is
-// the public entry; its contract says number, detail, both lengths, the type count and every byte of both areas, for any input.
+// the public entry; its contract says number, detail, both lengths, the type count and every byte of both areas, for any input. `measure` tells
+// what they would take, in the same frames.
 ghost use mathlib.Core.Path.{_≡_};
 ghost use Prim.Native.Nat.{_≤_};
 ghost use lib.ListN.{length};
-ghost use Rattle.inputs.specs.Inputs.{input};
+ghost use Rattle.inputs.specs.Inputs.{input, kindOf};
 ghost use Rattle.inputs.specs.told.OutcomesTold.{told};
 ghost use Rattle.passes.specs.Answered.{nothingRead, answered};
 ghost use Rattle.passes.specs.told.AreaTold.{InLimits};
+ghost use Rattle.passes.specs.told.TaskTold.{RoomTold, TaskTold};
 ghost use Rattle.passes.specs.told.PassTold.{readingOf, readingBy};
-ghost use Rattle.metadata.specs.Read.{read};
+ghost use Rattle.metadata.specs.Read.{reading, read};
 ghost use Rattle.metadata.specs.told.ReadTold.{toldBy};
 use declaration_rows::put_aliases;
 use declaration_rows::put_count;
@@ -22,9 +24,13 @@ use inputs::outcome::Outcome;
 use inputs::outcome::fault_refusal;
 use inputs::outcome::refused;
 use names::name::absent;
+use passes::Asked;
 use passes::Passed;
+use passes::Reply;
+use passes::Task;
 use passes::decode_in;
 use passes::start;
+use passes::without_lists;
 use sheet::State;
 
 // Number and detail of a refusal (0 and 0: accepted), both lengths, the types entered, and the version as it came.
@@ -75,24 +81,41 @@ fn head_alone(kind: u8, sheet: &mut [u8], text: &mut [u8]) -> Outcome
     }
 }
 
+// Metadata kinds 3 and 4, for any task: 23 bytes of sheet, and no text.
+fn alone(asked: Asked, sheet: &mut [u8], text: &mut [u8]) -> Reply
+    ensures { λ r. ⌜ TaskTold asked nothingRead r (now (sheet .entry)) (now (sheet .exit)) (now (text .entry)) (now (text .exit)) ⌝ }
+{
+    let task = asked.task;
+    match task {
+        Task::Read => without_lists(head_alone(asked.kind, sheet, text)),
+        Task::Room => without_lists(Outcome {
+            number: 0,
+            detail: 0,
+            sheet: 23,
+            text: 0,
+            types: 0,
+        }),
+    }
+}
+
 // A d1 of 256 units at most, as most classes have: a frame of 6 KB.
-fn read_small(
-    kind: u8,
+fn in_small(
+    asked: Asked,
     d1: &[u16],
     d2: &[u16],
     ends: &[u32],
     sheet: &mut [u8],
     text: &mut [u8],
-) -> Outcome
+) -> Reply
     requires { ⌜ InLimits (now d1) (now d2) (now ends) × (length (now d1) ≤ 256) ⌝ }
-    ensures { λ r. ⌜ answered (now (sheet .entry)) (now (text .entry)) kind (readingOf kind (now (d1 .entry)) (now (d2 .entry)) (now (ends .entry))) ≡ told r (now (sheet .exit)) (now (text .exit)) ⌝ }
+    ensures { λ r. ⌜ TaskTold asked (readingOf (asked .kind) (now (d1 .entry)) (now (d2 .entry)) (now (ends .entry))) r (now (sheet .entry)) (now (sheet .exit)) (now (text .entry)) (now (text .exit)) ⌝ }
 {
     let mut bytes = [0u8; 256];
     let mut notes = [0u64; 560];
     let mut scratch_sheet = [0u8; 512];
     let mut scratch_text = [0u8; 1024];
     let passed = decode_in(
-        kind,
+        asked,
         &*d1,
         &*d2,
         &*ends,
@@ -103,30 +126,30 @@ fn read_small(
         sheet,
         text,
     );
-    let Passed::Answered { outcome } = passed else {
-        return refused(0, 0);
+    let Passed::Answered { reply } = passed else {
+        return without_lists(refused(0, 0));
     };
-    outcome
+    reply
 }
 
 // A d1 of 1,024 units at most: a frame of 26 KB.
-fn read_medium(
-    kind: u8,
+fn in_medium(
+    asked: Asked,
     d1: &[u16],
     d2: &[u16],
     ends: &[u32],
     sheet: &mut [u8],
     text: &mut [u8],
-) -> Outcome
+) -> Reply
     requires { ⌜ InLimits (now d1) (now d2) (now ends) × (length (now d1) ≤ 1024) ⌝ }
-    ensures { λ r. ⌜ answered (now (sheet .entry)) (now (text .entry)) kind (readingOf kind (now (d1 .entry)) (now (d2 .entry)) (now (ends .entry))) ≡ told r (now (sheet .exit)) (now (text .exit)) ⌝ }
+    ensures { λ r. ⌜ TaskTold asked (readingOf (asked .kind) (now (d1 .entry)) (now (d2 .entry)) (now (ends .entry))) r (now (sheet .entry)) (now (sheet .exit)) (now (text .entry)) (now (text .exit)) ⌝ }
 {
     let mut bytes = [0u8; 1024];
     let mut notes = [0u64; 2096];
     let mut scratch_sheet = [0u8; 2048];
     let mut scratch_text = [0u8; 6144];
     let passed = decode_in(
-        kind,
+        asked,
         &*d1,
         &*d2,
         &*ends,
@@ -137,30 +160,30 @@ fn read_medium(
         sheet,
         text,
     );
-    let Passed::Answered { outcome } = passed else {
-        return refused(0, 0);
+    let Passed::Answered { reply } = passed else {
+        return without_lists(refused(0, 0));
     };
-    outcome
+    reply
 }
 
 // A d1 of 8,192 units at most: a frame of 181 KB.
-fn read_big(
-    kind: u8,
+fn in_big(
+    asked: Asked,
     d1: &[u16],
     d2: &[u16],
     ends: &[u32],
     sheet: &mut [u8],
     text: &mut [u8],
-) -> Outcome
+) -> Reply
     requires { ⌜ InLimits (now d1) (now d2) (now ends) × (length (now d1) ≤ 8192) ⌝ }
-    ensures { λ r. ⌜ answered (now (sheet .entry)) (now (text .entry)) kind (readingOf kind (now (d1 .entry)) (now (d2 .entry)) (now (ends .entry))) ≡ told r (now (sheet .exit)) (now (text .exit)) ⌝ }
+    ensures { λ r. ⌜ TaskTold asked (readingOf (asked .kind) (now (d1 .entry)) (now (d2 .entry)) (now (ends .entry))) r (now (sheet .entry)) (now (sheet .exit)) (now (text .entry)) (now (text .exit)) ⌝ }
 {
     let mut bytes = [0u8; 8192];
     let mut notes = [0u64; 14368];
     let mut scratch_sheet = [0u8; 12288];
     let mut scratch_text = [0u8; 45056];
     let passed = decode_in(
-        kind,
+        asked,
         &*d1,
         &*d2,
         &*ends,
@@ -171,30 +194,30 @@ fn read_big(
         sheet,
         text,
     );
-    let Passed::Answered { outcome } = passed else {
-        return refused(0, 0);
+    let Passed::Answered { reply } = passed else {
+        return without_lists(refused(0, 0));
     };
-    outcome
+    reply
 }
 
 // Any d1: a frame of 557 KB.
-fn read_large(
-    kind: u8,
+fn in_large(
+    asked: Asked,
     d1: &[u16],
     d2: &[u16],
     ends: &[u32],
     sheet: &mut [u8],
     text: &mut [u8],
-) -> Outcome
+) -> Reply
     requires { ⌜ InLimits (now d1) (now d2) (now ends) ⌝ }
-    ensures { λ r. ⌜ answered (now (sheet .entry)) (now (text .entry)) kind (readingOf kind (now (d1 .entry)) (now (d2 .entry)) (now (ends .entry))) ≡ told r (now (sheet .exit)) (now (text .exit)) ⌝ }
+    ensures { λ r. ⌜ TaskTold asked (readingOf (asked .kind) (now (d1 .entry)) (now (d2 .entry)) (now (ends .entry))) r (now (sheet .entry)) (now (sheet .exit)) (now (text .entry)) (now (text .exit)) ⌝ }
 {
     let mut bytes = [0u8; 32768];
     let mut notes = [0u64; 51232];
     let mut scratch_sheet = [0u8; 49152];
     let mut scratch_text = [0u8; 65536];
     let passed = decode_in(
-        kind,
+        asked,
         &*d1,
         &*d2,
         &*ends,
@@ -205,79 +228,85 @@ fn read_large(
         sheet,
         text,
     );
-    let Passed::Answered { outcome } = passed else {
-        return refused(0, 0);
+    let Passed::Answered { reply } = passed else {
+        return without_lists(refused(0, 0));
     };
-    outcome
+    reply
 }
 
 // A longer d1, in the frame that is enough.
-fn read_longer(
-    kind: u8,
+fn in_longer(
+    asked: Asked,
     d1: &[u16],
     d2: &[u16],
     ends: &[u32],
     sheet: &mut [u8],
     text: &mut [u8],
-) -> Outcome
+) -> Reply
     requires { ⌜ InLimits (now d1) (now d2) (now ends) ⌝ }
-    ensures { λ r. ⌜ answered (now (sheet .entry)) (now (text .entry)) kind (readingOf kind (now (d1 .entry)) (now (d2 .entry)) (now (ends .entry))) ≡ told r (now (sheet .exit)) (now (text .exit)) ⌝ }
+    ensures { λ r. ⌜ TaskTold asked (readingOf (asked .kind) (now (d1 .entry)) (now (d2 .entry)) (now (ends .entry))) r (now (sheet .entry)) (now (sheet .exit)) (now (text .entry)) (now (text .exit)) ⌝ }
 {
     if d1.len() <= 8192 {
-        return read_big(kind, &*d1, &*d2, &*ends, sheet, text);
+        return in_big(asked, &*d1, &*d2, &*ends, sheet, text);
     }
-    read_large(kind, &*d1, &*d2, &*ends, sheet, text)
+    in_large(asked, &*d1, &*d2, &*ends, sheet, text)
 }
 
-// A kind that carries declarations. `read_longer` is called from two places, so that the compiler keeps its frames apart from this one's: a
-// frame of many pages costs a small class more than its reading.
+// A kind that carries declarations. `in_longer` is called from two places, with areas of their own, so that the compiler keeps its frames apart
+// from this one's: a frame of many pages costs a small class more than its reading. (Two calls that differ in `asked` alone are made one.)
 // It requires what `fault_of` has found of the input: refusals 1 to 4 are the entries' own.
-fn read_any(
-    kind: u8,
+fn in_frame(
+    asked: Asked,
     d1: &[u16],
     d2: &[u16],
     ends: &[u32],
     sheet: &mut [u8],
     text: &mut [u8],
-) -> Outcome
+) -> Reply
     requires { ⌜ InLimits (now d1) (now d2) (now ends) ⌝ }
-    ensures { λ r. ⌜ answered (now (sheet .entry)) (now (text .entry)) kind (readingOf kind (now (d1 .entry)) (now (d2 .entry)) (now (ends .entry))) ≡ told r (now (sheet .exit)) (now (text .exit)) ⌝ }
+    ensures { λ r. ⌜ TaskTold asked (readingOf (asked .kind) (now (d1 .entry)) (now (d2 .entry)) (now (ends .entry))) r (now (sheet .entry)) (now (sheet .exit)) (now (text .entry)) (now (text .exit)) ⌝ }
 {
     if d1.len() <= 256 {
-        return read_small(kind, &*d1, &*d2, &*ends, sheet, text);
+        return in_small(asked, &*d1, &*d2, &*ends, sheet, text);
     }
     if d1.len() <= 1024 {
-        return read_medium(kind, &*d1, &*d2, &*ends, sheet, text);
+        return in_medium(asked, &*d1, &*d2, &*ends, sheet, text);
     }
-    if kind == 1 {
-        return read_longer(1, &*d1, &*d2, &*ends, sheet, text);
+    let task = asked.task;
+    match task {
+        Task::Read => in_longer(asked, &*d1, &*d2, &*ends, sheet, text),
+        Task::Room => {
+            let mut no_sheet = [0u8; 0];
+            let mut no_text = [0u8; 0];
+            in_longer(asked, &*d1, &*d2, &*ends, &mut no_sheet, &mut no_text)
+        }
     }
-    read_longer(kind, &*d1, &*d2, &*ends, sheet, text)
 }
 
 // What the host has kept to, of a metadata kind.
-fn read_kind(
-    kind: u8,
+fn of_kind(
+    asked: Asked,
     d1: &[u16],
     d2: &[u16],
     ends: &[u32],
     sheet: &mut [u8],
     text: &mut [u8],
-) -> Outcome
-    requires { ⌜ InLimits (now d1) (now d2) (now ends) × (1 ≤ kind) × (kind ≤ 5) ⌝ }
-    ensures { λ r. ⌜ answered (now (sheet .entry)) (now (text .entry)) kind (readingBy kind (now (d1 .entry)) (now (d2 .entry)) (now (ends .entry))) ≡ told r (now (sheet .exit)) (now (text .exit)) ⌝ }
+) -> Reply
+    requires { ⌜ InLimits (now d1) (now d2) (now ends) × (1 ≤ asked .kind) × (asked .kind ≤ 5) ⌝ }
+    ensures { λ r. ⌜ TaskTold asked (readingBy (asked .kind) (now (d1 .entry)) (now (d2 .entry)) (now (ends .entry))) r (now (sheet .entry)) (now (sheet .exit)) (now (text .entry)) (now (text .exit)) ⌝ }
 {
-    if kind == 3 {
-        return head_alone(kind, sheet, text);
+    if asked.kind == 3 {
+        return alone(asked, sheet, text);
     }
-    if kind == 4 {
-        return head_alone(kind, sheet, text);
+    if asked.kind == 4 {
+        return alone(asked, sheet, text);
     }
-    read_any(kind, &*d1, &*d2, &*ends, sheet, text)
+    in_frame(asked, &*d1, &*d2, &*ends, sheet, text)
 }
 
-// The answer without the version.
-fn outcome_of(
+// The reply for a task, whatever the input.
+fn reply_to(
+    task: Task,
     k: i32,
     version: [i32; 3],
     d1: &[u16],
@@ -285,13 +314,19 @@ fn outcome_of(
     ends: &[u32],
     sheet: &mut [u8],
     text: &mut [u8],
-) -> Outcome
-    ensures { λ r. ⌜ read (now (sheet .entry)) (now (text .entry)) (input k version (now (d1 .entry)) (now (d2 .entry)) (now (ends .entry))) ≡ told r (now (sheet .exit)) (now (text .exit)) ⌝ }
+) -> Reply
+    ensures { λ r. ⌜ TaskTold (record { task = task; kind = kindOf k }) (reading (input k version (now (d1 .entry)) (now (d2 .entry)) (now (ends .entry)))) r (now (sheet .entry)) (now (sheet .exit)) (now (text .entry)) (now (text .exit)) ⌝ }
 {
     let inspected = fault_of(&*d1, &*d2, &*ends, version);
     match inspected {
-        Inspected::Faulty { fault } => fault_refusal(fault),
-        Inspected::Sound => read_kind(kind_of(k), &*d1, &*d2, &*ends, sheet, text),
+        Inspected::Faulty { fault } => without_lists(fault_refusal(fault)),
+        Inspected::Sound => {
+            let asked = Asked {
+                task,
+                kind: kind_of(k),
+            };
+            of_kind(asked, &*d1, &*d2, &*ends, sheet, text)
+        }
     }
 }
 
@@ -321,8 +356,25 @@ pub fn read(
 ) -> Answer
     ensures { λ r. ⌜ (read (now (sheet .entry)) (now (text .entry)) (input k version (now (d1 .entry)) (now (d2 .entry)) (now (ends .entry))) ≡ toldBy r (now (sheet .exit)) (now (text .exit))) × (r .version ≡ version) ⌝ }
 {
-    answer_of(
-        outcome_of(k, version, &*d1, &*d2, &*ends, sheet, text),
+    let reply = reply_to(Task::Read, k, version, &*d1, &*d2, &*ends, sheet, text);
+    answer_of(reply.outcome, version)
+}
+
+// The room that sheet and text take, with how far each list reaches and how many it has; or the refusal short of 11 and 12. Nothing is lent to
+// write into.
+pub fn measure(k: i32, version: [i32; 3], d1: &[u16], d2: &[u16], ends: &[u32]) -> Reply
+    ensures { λ r. ⌜ RoomTold (kindOf k) (reading (input k version (now (d1 .entry)) (now (d2 .entry)) (now (ends .entry)))) r ⌝ }
+{
+    let mut sheet = [0u8; 0];
+    let mut text = [0u8; 0];
+    reply_to(
+        Task::Room,
+        k,
         version,
+        &*d1,
+        &*d2,
+        &*ends,
+        &mut sheet,
+        &mut text,
     )
 }

@@ -103,13 +103,13 @@ module _ (kind : ℕ) (bytes d2 ends notes : List ℕ) (x : Measured) (SS TT : L
   abbrev bytesRead : Res (Declarations × ℕ)
   bytesRead = payload kind (strings d2 ends) bytes
 
-  size-is : end .sheet ≡ length (sheetFrom 0 rows)
+  pub size-is : end .sheet ≡ length (sheetFrom 0 rows)
   size-is = put-sheet (m .written .put) ∙ zero-add (length (sheetFrom 0 rows))
 
-  length-is : end .text ≡ length (texts rows)
+  pub length-is : end .text ≡ length (texts rows)
   length-is = put-text (m .written .put) ∙ zero-add (length (texts rows))
 
-  left-is : end .types ≡ m .left
+  pub left-is : end .types ≡ m .left
   left-is = put-types (m .written .put)
 
   pub types-left : end .types ≤ 2048

@@ -20,7 +20,7 @@ use Rattle.encoding.proofs.OutcomeLaws.{limited-within, limited-arm, told-insid
 use Rattle.encoding.proofs.EncodingLaws.{decoded-length}
 use Rattle.wire.specs.declared.WireError.{WireError}
 use Rattle.declaration_rows.specs.Declarations.{Declarations}
-use Rattle.schema.specs.told.SchemaTold.{stopCause, stopPlace, stopRefused}
+use Rattle.schema.specs.told.SchemaTold.{stopRefused}
 use Rattle.schema.specs.declared.Tables.{Tables}
 use Rattle.schema.specs.declared.Stop.{Stop}
 use Rattle.schema.specs.declared.Stop.the-variants as stop
@@ -33,22 +33,20 @@ use Rattle.declarations.specs.declared.body.Body.the-variants as body
 use Rattle.declarations.specs.declared.payload.Opened.{Opened}
 use Rattle.declarations.specs.declared.payload.Opened.the-variants as opened
 use Rattle.declarations.proofs.payload.Opened as opened-type
-use Rattle.inputs.specs.told.OutcomesTold.{told, RefusedAs}
+use Rattle.inputs.specs.told.OutcomesTold.{RefusedAs}
 use Rattle.inputs.specs.declared.outcome.Outcome.{Outcome}
-use Rattle.passes.specs.Answered.{answered}
 use Rattle.passes.specs.told.AreaTold.{strings, InLimits, start, MeasuredAt}
+use Rattle.passes.specs.told.TaskTold.{TaskTold}
 use Rattle.passes.specs.told.PassTold.{FirstTold, PassedTold, FrameRoom, readingOf}
+use Rattle.passes.specs.declared.Asked.{Asked}
+use Rattle.passes.specs.declared.Reply.{Reply}
 use Rattle.passes.specs.declared.Measured.{Measured}
 use Rattle.passes.specs.declared.FirstPass.{FirstPass}
 use Rattle.passes.specs.declared.FirstPass.the-variants as first
 use Rattle.passes.proofs.FirstPass as first-type
+use Rattle.passes.proofs.TaskLaws.{reply-refused}
 use Rattle.passes.specs.declared.Passed.{Passed}
 use Rattle.passes.specs.declared.Passed.the-variants as passed
-
--- An answer, whatever room it needs.
-pub pass-stops : (kind : ℕ) (x : Res (Declarations × ℕ)) (stop : Stop) (S T : List ℕ) {r : Outcome} → x ≡ stopRefused stop → RefusedAs (stopCause stop) (stopPlace stop) r
-    → answered S T kind x ≡ told r S T
-pass-stops kind x stop S T e h = ap (answered S T kind) e ∙ h S T
 
 -- What neither gives what was asked for nor is refused had no room.
 pub opened-left : (r : Opened) → OneOf (1 ∷ 2 ∷ []) (tagOf opened-type.the-type r) → OneOf (0 ∷ 2 ∷ []) (tagOf opened-type.the-type r) → r ≡ opened.NoRoom
@@ -62,7 +60,7 @@ first-left (first.Refused stop) k l = absurd (miss (0 ∷ 2 ∷ []) 1 tt l)
 first-left first.NoRoom k l = refl
 
 -- What d1 is decoded to.
-module _ (kind : ℕ) (d1 d2 ends before after : List ℕ) (answer : Decoded) (k : InLimits d1 d2 ends) (t : DecodeTold (encoding.limited d1) before after answer) where
+module _ (asked : Asked) (d1 d2 ends before after : List ℕ) (answer : Decoded) (k : InLimits d1 d2 ends) (t : DecodeTold (encoding.limited d1) before after answer) where
   arm-is : (arm : Decoded) {x : Res (List ℕ)} → answer ≡ arm → encoding.tells arm after ≡ some x → decoded d1 ≡ x
   arm-is arm e f = sym (limited-within d1 (k .bytes-short)) ∙ limited-arm d1 before after answer t arm e f
 
@@ -80,10 +78,10 @@ module _ (kind : ℕ) (d1 d2 ends before after : List ℕ) (answer : Decoded) (k
     bytes-kept = record { bytes-short = omega (arith, bytes-few, k .bytes-short); d2-short = k .d2-short; fit = k .fit }
 
     pub bytes-read : (notes : List ℕ) (y : Passed) (S S′ T T′ : List ℕ)
-        → PassedTold kind (payload kind (strings d2 ends) (take n after)) (LentRoom (take n after) notes) y S S′ T T′
-        → PassedTold kind (readingOf kind d1 d2 ends) (FrameRoom d1 after notes) y S S′ T T′
+        → PassedTold asked (payload (asked .kind) (strings d2 ends) (take n after)) (LentRoom (take n after) notes) y S S′ T T′
+        → PassedTold asked (readingOf (asked .kind) d1 d2 ends) (FrameRoom d1 after notes) y S S′ T T′
     bytes-read notes (passed.Answered r) S S′ T T′ h =
-        ap (λ (x : Res (List ℕ)). answered S T kind (Results._>>=_ x (payload kind (strings d2 ends)))) bytes-are ∙ h
+        subst (λ (x : Res (List ℕ)). TaskTold asked (Results._>>=_ x (payload (asked .kind) (strings d2 ends))) r S S′ T T′) (sym bytes-are) h
     bytes-read notes passed.NoRoom S S′ T T′ (h, p, q) = (
       (λ room.
           let few = bytes-few in
@@ -93,13 +91,14 @@ module _ (kind : ℕ) (d1 d2 ends before after : List ℕ) (answer : Decoded) (k
       q,
     )
 
-  pub decode-refused : (c : Cause) (arm : Decoded) → answer ≡ arm → encoding.tells arm after ≡ some (refused c 0) → (S T : List ℕ) {r : Outcome} → RefusedAs c 0 r
-      → answered S T kind (readingOf kind d1 d2 ends) ≡ told r S T
-  decode-refused c arm e f S T h =
-      ap (λ (x : Res (List ℕ)). answered S T kind (Results._>>=_ x (payload kind (strings d2 ends)))) (arm-is arm e f) ∙ h S T
+  pub decode-refused : (c : Cause) (arm : Decoded) → answer ≡ arm → encoding.tells arm after ≡ some (refused c 0) → (S T : List ℕ) (r : Reply) {o : Outcome} → RefusedAs c 0 o
+      → r .outcome ≡ o → TaskTold asked (readingOf (asked .kind) d1 d2 ends) r S S T T
+  decode-refused c arm e f S T r h g =
+      subst (λ (x : Res (List ℕ)). TaskTold asked (Results._>>=_ x (payload (asked .kind) (strings d2 ends))) r S S T T) (sym (arm-is arm e f))
+      (reply-refused asked (refused c 0) c 0 S T r refl h g)
 
   pub decode-no-room : answer ≡ bytesOf.NoRoom → length after ≡ length before → (notes S T : List ℕ)
-      → PassedTold kind (readingOf kind d1 d2 ends) (FrameRoom d1 after notes) passed.NoRoom S S T T
+      → PassedTold asked (readingOf (asked .kind) d1 d2 ends) (FrameRoom d1 after notes) passed.NoRoom S S T T
   decode-no-room e l notes S T =
       ((λ room. told-room d1 before after answer t (omega (arith, room .bytes-long)) e), refl, refl)
 

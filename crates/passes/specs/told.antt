@@ -1,2 +1,3 @@
 pub mod AreaTold
+pub mod TaskTold
 pub mod PassTold

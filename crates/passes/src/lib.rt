@@ -1,14 +1,19 @@
-// The two passes. d1 is decoded. The first pass walks the body into scratch areas, clipped, and finds refusals 7 to 10 and both lengths; only
-// then are 11 and 12 tested and the lent areas written (areas.rt). What the functions tell: specs/told/PassTold.antt.
+// The two passes. d1 is decoded. The first pass walks the body into scratch areas, clipped, and finds refusals 7 to 10 and both lengths. What comes
+// after it goes by the task: 11, 12 and the lent areas written (areas.rt), or the room that they would take. What the functions tell:
+// specs/told/PassTold.antt and specs/told/TaskTold.antt.
 ghost use mathlib.Core.Path.{_≡_};
+ghost use Prim.Native.Nat.{_-_, _≤_};
+ghost use Rattle.schema.specs.Reading.{allowance};
 ghost use Rattle.declarations.specs.Payload.{payload};
 ghost use Rattle.declarations.specs.told.PayloadTold.{LentAt, LentRoom};
 ghost use Rattle.declarations.specs.told.BodyTold.{BodyTold};
 ghost use Rattle.passes.specs.told.AreaTold as definition;
-ghost use Rattle.passes.specs.told.AreaTold.{strings, InLimits};
+ghost use Rattle.passes.specs.told.AreaTold.{strings, InLimits, lastOf};
+ghost use Rattle.passes.specs.told.TaskTold.{noLists};
 ghost use Rattle.passes.specs.told.PassTold.{FirstTold, PassedTold, FrameRoom, readingOf};
 use areas::write_in;
 use declarations::body::Body;
+use declarations::body::Section;
 use declarations::body::Sections;
 use declarations::body::body_in;
 use declarations::payload::Opened;
@@ -39,9 +44,27 @@ enum FirstPass {
     NoRoom,
 }
 
-// An answer, or no room in the frame for the decoded bytes or their notes.
+// What is to be done with an input: its sheet and text written, or the room that they take told. It goes by value through the frames; `read_in`
+// alone looks at it, and `head_alone` of metadata, which needs no frame.
+pub enum Task {
+    Read,
+    Room,
+}
+
+pub struct Asked {
+    pub task: Task,
+    pub kind: u8,
+}
+
+// Number, detail, both lengths and the types; and, where a room is told, how far both areas reach after each list and how many it has.
+pub struct Reply {
+    pub outcome: Outcome,
+    pub sections: Sections,
+}
+
+// A reply, or no room in the frame for the decoded bytes or their notes.
 pub enum Passed {
-    Answered { outcome: Outcome },
+    Answered { reply: Reply },
     NoRoom,
 }
 
@@ -53,6 +76,48 @@ pub fn start() -> State
         sheet: 0,
         text: 0,
         types: ALLOWANCE,
+    }
+}
+
+// A reply that tells of no list.
+pub fn without_lists(outcome: Outcome) -> Reply
+    ensures { λ r. ⌜ (r .outcome ≡ outcome) × (r .sections ≡ noLists) ⌝ }
+{
+    let begin = start();
+    let none = Section {
+        state: begin,
+        count: 0,
+    };
+    Reply {
+        outcome,
+        sections: Sections {
+            head: begin,
+            constructors: none,
+            functions: none,
+            properties: none,
+            aliases: none,
+        },
+    }
+}
+
+// What was measured, told: both lengths at their true size, also where no area would hold them.
+fn told_room(measured: Measured) -> Reply
+    requires { ⌜ lastOf measured .types ≤ allowance ⌝ }
+    ensures { λ r. ⌜ (r .outcome ≡ record { number = 0; detail = 0; sheet = lastOf measured .sheet; text = lastOf measured .text; types = allowance - lastOf measured .types }) × (r .sections ≡ measured .sections) ⌝ }
+{
+    let sections = measured.sections;
+    let aliases = sections.aliases;
+    let end = aliases.state;
+    let entered = ALLOWANCE - end.types;
+    Reply {
+        outcome: Outcome {
+            number: 0,
+            detail: 0,
+            sheet: end.sheet,
+            text: end.text,
+            types: entered,
+        },
+        sections,
     }
 }
 
@@ -131,9 +196,9 @@ fn measure(
     }
 }
 
-// The decoded bytes of a kind that carries declarations.
+// The decoded bytes of a kind that carries declarations: the first pass, then what the task asks for.
 fn read_in(
-    kind: u8,
+    asked: Asked,
     bytes: &[u8],
     d2: &[u16],
     ends: &[u32],
@@ -144,10 +209,10 @@ fn read_in(
     text: &mut [u8],
 ) -> Passed
     requires { ⌜ InLimits (now bytes) (now d2) (now ends) ⌝ }
-    ensures { λ r. ⌜ PassedTold kind (payload kind (strings (now (d2 .entry)) (now (ends .entry))) (now (bytes .entry))) (LentRoom (now (bytes .entry)) (now (notes .exit))) r (now (sheet .entry)) (now (sheet .exit)) (now (text .entry)) (now (text .exit)) ⌝ }
+    ensures { λ r. ⌜ PassedTold asked (payload (asked .kind) (strings (now (d2 .entry)) (now (ends .entry))) (now (bytes .entry))) (LentRoom (now (bytes .entry)) (now (notes .exit))) r (now (sheet .entry)) (now (sheet .exit)) (now (text .entry)) (now (text .exit)) ⌝ }
 {
     let first = measure(
-        kind,
+        asked.kind,
         &*bytes,
         &*d2,
         &*ends,
@@ -160,29 +225,35 @@ fn read_in(
             return Passed::NoRoom;
         };
         return Passed::Answered {
-            outcome: stop_refusal(stop),
+            reply: without_lists(stop_refusal(stop)),
         };
     };
-    Passed::Answered {
-        outcome: write_in(
-            kind,
-            measured,
-            &*bytes,
-            &*d2,
-            &*ends,
-            notes,
-            scratch_sheet,
-            scratch_text,
-            sheet,
-            text,
-        ),
+    let task = asked.task;
+    match task {
+        Task::Read => Passed::Answered {
+            reply: without_lists(write_in(
+                asked.kind,
+                measured,
+                &*bytes,
+                &*d2,
+                &*ends,
+                notes,
+                scratch_sheet,
+                scratch_text,
+                sheet,
+                text,
+            )),
+        },
+        Task::Room => Passed::Answered {
+            reply: told_room(measured),
+        },
     }
 }
 
 // d1 of a kind that carries declarations, within its limit.
 // Callers show `InLimits`: metadata from the answer of `fault_of`, which has found no fault.
 pub fn decode_in(
-    kind: u8,
+    asked: Asked,
     d1: &[u16],
     d2: &[u16],
     ends: &[u32],
@@ -194,12 +265,12 @@ pub fn decode_in(
     text: &mut [u8],
 ) -> Passed
     requires { ⌜ InLimits (now d1) (now d2) (now ends) ⌝ }
-    ensures { λ r. ⌜ PassedTold kind (readingOf kind (now (d1 .entry)) (now (d2 .entry)) (now (ends .entry))) (FrameRoom (now (d1 .entry)) (now (bytes .exit)) (now (notes .exit))) r (now (sheet .entry)) (now (sheet .exit)) (now (text .entry)) (now (text .exit)) ⌝ }
+    ensures { λ r. ⌜ PassedTold asked (readingOf (asked .kind) (now (d1 .entry)) (now (d2 .entry)) (now (ends .entry))) (FrameRoom (now (d1 .entry)) (now (bytes .exit)) (now (notes .exit))) r (now (sheet .entry)) (now (sheet .exit)) (now (text .entry)) (now (text .exit)) ⌝ }
 {
     let decoded = decode(&*d1, bytes);
     match decoded {
         Decoded::Bytes { length } => read_in(
-            kind,
+            asked,
             &bytes[..length],
             &*d2,
             &*ends,
@@ -210,13 +281,13 @@ pub fn decode_in(
             text,
         ),
         Decoded::TooLong => Passed::Answered {
-            outcome: refused(1, 0),
+            reply: without_lists(refused(1, 0)),
         },
         Decoded::Empty => Passed::Answered {
-            outcome: refused(5, 0),
+            reply: without_lists(refused(5, 0)),
         },
         Decoded::NotAByte { unit } => Passed::Answered {
-            outcome: refused(6, unit as u64),
+            reply: without_lists(refused(6, unit as u64)),
         },
         Decoded::NoRoom => Passed::NoRoom,
     }

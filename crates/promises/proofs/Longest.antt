@@ -37,13 +37,13 @@ sheet-short i d left e =
     rw (sheet-length 0 rows, declarations-length (kindOf (i .k)) d) (omega arith)
 
 -- what is read is answered by its rows
-read-written : (sheet text : List ℕ) (i : Input) (d : Declarations) (left : ℕ) → reading i ≡ ok (d, left)
+pub read-written : (sheet text : List ℕ) (i : Input) (d : Declarations) (left : ℕ) → reading i ≡ ok (d, left)
     → read sheet text i ≡ written sheet text (declarationRows (kindOf (i .k)) d) (allowance - left)
 unfolding read
 read-written sheet text i d left e = ap (answered sheet text (kindOf (i .k))) e
 
 -- rows that fit are written
-written-fits : (sheet text : List ℕ) (rows : List Row) (n : ℕ) → length (sheetFrom 0 rows) ≤ length sheet → length (texts rows) ≤ min (length text) textLimit
+pub written-fits : (sheet text : List ℕ) (rows : List Row) (n : ℕ) → length (sheetFrom 0 rows) ≤ length sheet → length (texts rows) ≤ min (length text) textLimit
     → written sheet text rows n ≡ accepted sheet text (sheetFrom 0 rows) (texts rows) n
 unfolding written sheetWritten
 written-fits sheet text rows n h g =
@@ -64,7 +64,7 @@ long-text sheet text rows n =
     if-ind P (ltb (min (length text) textLimit) (length (texts rows))) (λ t z. ltb-true (min (length text) textLimit) (length (texts rows)) t) λ t.
     if-ind P (ltb (length sheet) (length (sheetFrom 0 rows))) (λ t z. absurd (omega arith)) λ t z. absurd (omega arith)
 
-text-refused : (sheet text : List ℕ) (rows : List Row) (n : ℕ) → min (length text) textLimit < length (texts rows) → written sheet text rows n .number ≡ 11
+pub text-refused : (sheet text : List ℕ) (rows : List Row) (n : ℕ) → min (length text) textLimit < length (texts rows) → written sheet text rows n .number ≡ 11
 unfolding written numberOf
 text-refused sheet text rows n h = rw (lt-ltb (min (length text) textLimit) (length (texts rows)) h)
 

@@ -11,6 +11,7 @@ use lib.Dec.{leb}
 use lib.IntN.{ℤ, pos, negsuc}
 use lib.ListN.{length}
 use Rattle.foundation.specs.Choices.{concat, All}
+use Rattle.foundation.specs.Results.{ok}
 use Rattle.foundation.proofs.ChoiceLaws.{if-ind, and-right, all-weaken}
 use Rattle.foundation.proofs.ResultLaws.{gives-ok}
 use Rattle.characters.specs.WellFormed.{WellFormed, Units}
@@ -29,10 +30,10 @@ use Rattle.inputs.specs.Inputs.{Input, kindOf}
 use Rattle.inputs.specs.Outcomes.{Answer}
 use Rattle.descriptors.specs.Defaults.{constructorParts, functionParts, defaultRow, closedConstructor, closedFunction}
 use Rattle.declarations.specs.Payload.{declarationRows}
-use Rattle.metadata.specs.Read.{read}
+use Rattle.metadata.specs.Read.{reading, read}
 use Rattle.promises.specs.Walk.{walk, sheetOf}
 use Rattle.promises.specs.Promises.{sheetBytes, textBytes, Promised}
-use Rattle.promises.proofs.Accepted.{accepted-reads, sheet-bytes, text-bytes}
+use Rattle.promises.proofs.Accepted.{Accepted, accepted-reads, sheet-bytes, text-bytes}
 use Rattle.promises.proofs.WalkLaws.{sheet-walked}
 use Rattle.promises.proofs.Tabled.{Good, rows-good}
 use Rattle.promises.proofs.Sound.{reading-fine, reading-enters}
@@ -53,7 +54,7 @@ closed-function-count : (f : Function) → countKind 6 (closedFunction f) ≡ fu
 unfolding closedFunction
 closed-function-count f = count-append 6 (functionRows f) (defaultRow (functionParts f) ∷ []) ∙ rw (function-count f) (omega arith)
 
-declarations-count : (kind : ℕ) (d : Declarations) → countKind 6 (declarationRows kind d) ≡ declarationsSize d
+pub declarations-count : (kind : ℕ) (d : Declarations) → countKind 6 (declarationRows kind d) ≡ declarationsSize d
 unfolding declarationRows
 declarations-count kind d =
     let cs = concat (map closedConstructor (d .constructors)) in
@@ -76,6 +77,18 @@ walk-back : (sheet text : List ℕ) (rows : List Row) (kind : ℕ) (d : Declarat
 unfolding walk
 walk-back sheet text rows kind d e r f = rw (e, r, sheet-walked kind d f)
 
+-- the rows of what was read are records of the table, their texts well-formed
+read-good : (i : Input) → Units (i .d2) → (d : Declarations) (left : ℕ) → reading i ≡ ok (d, left) → All Good (declarationRows (kindOf (i .k)) d)
+read-good i u d left e = rows-good (kindOf (i .k)) d (kind-small (i .k)) (gives-ok (λ r. FineDeclarations (r .0)) e (reading-fine i u))
+
+-- The sheet of an accepted answer reads back as the rows of what was read.
+pub read-back : (sheet text : List ℕ) (i : Input) → Units (i .d2) → (a : Accepted sheet text i)
+    → rowsOf (sheetBytes (read sheet text i)) (textBytes (read sheet text i)) ≡ some (declarationRows (kindOf (i .k)) (a .declarations))
+read-back sheet text i u a =
+    let rows = declarationRows (kindOf (i .k)) (a .declarations) in
+    let tabled : All InTable rows = all-weaken Good InTable (λ r g. g .0) rows (read-good i u (a .declarations) (a .left) (a .reads)) in
+    rw (sheet-bytes (a .fitting), text-bytes (a .fitting)) (sheet-back rows tabled (a .fitting .textShort))
+
 pub promised : (sheet text : List ℕ) (i : Input) → Units (i .d2) → read sheet text i .number ≡ 0 → Promised i (read sheet text i)
 promised sheet text i u z =
     let a = accepted-reads sheet text i z in
@@ -83,13 +96,12 @@ promised sheet text i u z =
     let rows = declarationRows (kindOf (i .k)) d in
     let fine : FineDeclarations d = gives-ok (λ r. FineDeclarations (r .0)) (a .reads) (reading-fine i u) in
     let entered : declarationsSize d + a .left ≡ allowance = gives-ok (λ r. declarationsSize (r .0) + r .1 ≡ allowance) (a .reads) (reading-enters i) in
-    let good = rows-good (kindOf (i .k)) d (kind-small (i .k)) fine in
+    let good = read-good i u d (a .left) (a .reads) in
     let tabled : All InTable rows = all-weaken Good InTable (λ r g. g .0) rows good in
     let formed : All (RowHas WellFormed) rows = all-weaken Good (RowHas WellFormed) (λ r g. g .1) rows good in
     let s : sheetBytes (read sheet text i) ≡ sheetFrom 0 rows = sheet-bytes (a .fitting) in
     let t : textBytes (read sheet text i) ≡ texts rows = text-bytes (a .fitting) in
-    let back : rowsOf (sheetBytes (read sheet text i)) (textBytes (read sheet text i)) ≡ some rows =
-    rw (s, t) (sheet-back rows tabled (a .fitting .textShort)) in
+    let back : rowsOf (sheetBytes (read sheet text i)) (textBytes (read sheet text i)) ≡ some rows = read-back sheet text i u a in
     let types : read sheet text i .types ≡ allowance - a .left = ap (λ (b : Answer). b .types) (a .fitting .answer) in
     let size : read sheet text i .textLength ≡ length (texts rows) = ap (λ (b : Answer). b .textLength) (a .fitting .answer) in
     record {

@@ -1,5 +1,6 @@
 //! Mistakes that can be planted in the stand-in, to see that a comparison finds them.
 
+use crate::answer::ROOM;
 use std::cell::Cell;
 
 macro_rules! mistakes {
@@ -82,6 +83,48 @@ mistakes! {
     PlaceInMessage: "a place is counted from its message's first byte",
     PlaceInRun: "a place in a packed run is counted from the run's first byte",
     PlaceWithMarker: "a place counts the marker",
+    RoomNumber: "the room's refusal has the next number",
+    RoomDetail: "the room's detail is one off",
+    RoomSheet: "the room's sheet is one byte longer",
+    RoomText: "the room's text is one byte longer",
+    RoomTypes: "the room has a type more",
+    RoomHeads: "the room has a head more",
+    RoomConstructors: "the room has a constructor more",
+    RoomFunctions: "the room has a function more",
+    RoomProperties: "the room has a property more",
+    RoomParameters: "the room has a parameter more",
+    RoomTypeRecords: "the room has a record of a type more",
+    RoomDefaults: "the room has a default descriptor more",
+    RoomAliases: "the room has an alias more",
+    RoomAliasCounts: "the room has a count of aliases more",
+    RoomLeft: "a refused room has a head",
+    RoomTextCut: "the room's text is cut to what no area holds",
+    RoomTextRefused: "the room refuses a text that no area holds",
+}
+
+/// The mistakes that make one number of the room wrong, in the order of the numbers.
+const IN_ROOM: [Mistake; ROOM] = [
+    Mistake::RoomNumber,
+    Mistake::RoomDetail,
+    Mistake::RoomSheet,
+    Mistake::RoomText,
+    Mistake::RoomTypes,
+    Mistake::RoomHeads,
+    Mistake::RoomConstructors,
+    Mistake::RoomFunctions,
+    Mistake::RoomProperties,
+    Mistake::RoomParameters,
+    Mistake::RoomTypeRecords,
+    Mistake::RoomDefaults,
+    Mistake::RoomAliases,
+    Mistake::RoomAliasCounts,
+];
+
+impl Mistake {
+    /// The number of the room that this mistake makes wrong, if it is one of those.
+    pub fn place_in_room(self) -> Option<usize> {
+        IN_ROOM.iter().position(|mistake| *mistake == self)
+    }
 }
 
 thread_local! {

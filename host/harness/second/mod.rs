@@ -15,7 +15,7 @@ mod wire;
 
 pub use mistakes::Mistake;
 
-use crate::answer::{Answer, Whole};
+use crate::answer::{Answer, Room, Whole, KINDS, ROOM};
 use crate::input::Input;
 use crate::limits::{self, Areas};
 use mistakes::planted;
@@ -27,6 +27,8 @@ pub struct Reading {
     pub whole: Whole,
     /// All texts together; the text of `whole` holds them only up to the limit.
     pub text_total: u64,
+    /// Records of each kind on the sheet, from kind 1 on.
+    pub records: [u64; KINDS],
     /// Bytes that the original's copies of name records take, about.
     pub record_bytes: u64,
     /// What the ranges of the name records sum to.
@@ -37,7 +39,14 @@ pub struct Reading {
 
 /// The reading apart from the areas.
 pub fn read(input: &Input) -> Reading {
-    let mut reading = Reading { whole: Whole::default(), text_total: 0, record_bytes: 0, ranges: 0, aliases: false };
+    let mut reading = Reading {
+        whole: Whole::default(),
+        text_total: 0,
+        records: [0; KINDS],
+        record_bytes: 0,
+        ranges: 0,
+        aliases: false,
+    };
     if let Some(number) = limits::before_reading(input) {
         reading.whole = Whole::refused(number, 0);
         return reading;
@@ -81,6 +90,7 @@ fn payload(bytes: &[u8], input: &Input, kind: u8, reading: &mut Reading) -> Resu
 impl Reading {
     fn accept(&mut self, out: sheet::Writer, types: u64) {
         self.text_total = out.text_total;
+        self.records = out.records;
         let types = if planted(Mistake::TypesOneMore) && types > 3 { types + 1 } else { types };
         self.whole = Whole {
             answer: Answer { number: 0, detail: 0, sheet: out.bytes.len() as u64, text: out.text_total, types },
@@ -89,21 +99,26 @@ impl Reading {
         };
     }
 
+    /// What is told of the room: the lengths are the true ones, also of a text that fits no area.
+    pub fn room(&self) -> Room {
+        Room { answer: self.whole.answer, records: self.records }
+    }
+
     /// The answer with these areas.
-    pub fn into_areas(self, areas: Areas) -> Whole {
+    pub fn in_areas(&self, areas: Areas) -> Whole {
         let Answer { number, sheet, text, .. } = self.whole.answer;
         if number != 0 {
-            return self.whole;
+            return self.whole.clone();
         }
         if planted(Mistake::SheetBeforeText) && sheet > areas.sheet as u64 {
             return Whole::refused(12, 0);
         }
         if planted(Mistake::TextLimit) && text == limits::TEXT + 1 && areas.text as u64 >= text {
-            return self.whole;
+            return self.whole.clone();
         }
         match limits::after_reading(sheet, text, areas) {
             Some(number) => Whole::refused(number, 0),
-            None => self.whole,
+            None => self.whole.clone(),
         }
     }
 }
@@ -130,7 +145,7 @@ pub fn decode(units: &[u16]) -> Result<Vec<u8>, Whole> {
 pub fn stand_in(mistake: Mistake, input: &Input, sheet: &mut [u8], text: &mut [u8], answer: &mut [u64; 5]) {
     mistakes::plant(mistake);
     let areas = Areas { sheet: sheet.len(), text: text.len() };
-    let whole = read(input).into_areas(areas);
+    let whole = read(input).in_areas(areas);
     sheet[..whole.sheet.len()].copy_from_slice(&whole.sheet);
     text[..whole.text.len()].copy_from_slice(&whole.text);
     *answer = whole.answer.to_array();
@@ -148,6 +163,29 @@ pub fn stand_in(mistake: Mistake, input: &Input, sheet: &mut [u8], text: &mut [u
     }
     if planted(Mistake::PastTruncated) && whole.answer.number == 13 {
         answer[0] = 7;
+    }
+    mistakes::plant(Mistake::None);
+}
+
+/// The stand-in for the call that tells the room.
+pub fn stand_in_room(mistake: Mistake, input: &Input, answer: &mut [u64; ROOM]) {
+    mistakes::plant(mistake);
+    *answer = read(input).room().to_array();
+    let refused = answer[0] != 0;
+    // Number and detail are one off where it is refused, the others where it isn't.
+    if let Some(place) = mistake.place_in_room().filter(|place| (*place < 2) == refused) {
+        answer[place] += 1;
+    }
+    if planted(Mistake::RoomLeft) && refused {
+        answer[5] = 1;
+    }
+    let too_long = answer[3] > limits::TEXT;
+    if planted(Mistake::RoomTextCut) && too_long {
+        answer[3] = limits::TEXT + 1;
+    }
+    if planted(Mistake::RoomTextRefused) && too_long {
+        *answer = [0; ROOM];
+        answer[0] = 11;
     }
     mistakes::plant(Mistake::None);
 }

@@ -5,6 +5,7 @@ use super::members::{Alias, Class, Constructor, Function, Parameter, Property, S
 use super::mistakes::{planted, Mistake};
 use super::names::Names;
 use super::types::Type;
+use crate::answer::KINDS;
 use crate::limits::TEXT;
 
 /// Sheet and text so far. Text past the limit is counted and not kept: such a sheet is refused.
@@ -13,11 +14,14 @@ pub struct Writer {
     pub bytes: Vec<u8>,
     pub text: Vec<u8>,
     pub text_total: u64,
+    /// Records of each kind, from kind 1 on.
+    pub records: [u64; KINDS],
 }
 
 impl Writer {
     pub fn head_alone(&mut self, kind: u8) {
-        self.bytes.extend([1, kind]);
+        self.record(1);
+        self.number(u64::from(kind), 1);
         self.text(None);
         self.number(6, 8);
         self.number(0, 6);
@@ -27,7 +31,8 @@ impl Writer {
     }
 
     pub fn class(&mut self, class: &Class, names: &Names<'_>) {
-        self.bytes.extend([1, class.kind]);
+        self.record(1);
+        self.number(u64::from(class.kind), 1);
         self.text(class.name.and_then(|index| names.qualified(index)));
         self.number(class.flags, 8);
         self.number(class.constructors.len() as u64, 2);
@@ -46,17 +51,17 @@ impl Writer {
     }
 
     fn constructor(&mut self, constructor: &Constructor, names: &Names<'_>) {
-        self.bytes.push(2);
+        self.record(2);
         self.number(constructor.flags, 8);
         self.signature(constructor.signature, names);
         self.number(constructor.parameters.len() as u64, 2);
         self.parameters(&constructor.parameters, names);
-        self.bytes.push(7);
+        self.record(7);
         self.text(descriptors::of_constructor(constructor, names));
     }
 
     fn function(&mut self, function: &Function, names: &Names<'_>) {
-        self.bytes.push(3);
+        self.record(3);
         self.text(names.string(function.name));
         self.number(function.flags, 8);
         self.signature(function.signature, names);
@@ -70,12 +75,12 @@ impl Writer {
             self.declared(2, &function.receiver, names);
             self.declared(1, &function.returned, names);
         }
-        self.bytes.push(7);
+        self.record(7);
         self.text(descriptors::of_function(function, names));
     }
 
     fn property(&mut self, property: &Property, names: &Names<'_>) {
-        self.bytes.push(4);
+        self.record(4);
         self.text(names.string(property.name));
         self.number(property.flags, 8);
         for bit in [property.has_receiver, property.getter_default, property.setter_default] {
@@ -108,7 +113,7 @@ impl Writer {
 
     /// It stands also where there are no aliases.
     fn alias_count(&mut self, count: usize) {
-        self.bytes.push(9);
+        self.record(9);
         self.number(count as u64, 2);
     }
 
@@ -118,7 +123,7 @@ impl Writer {
         }
         self.alias_count(aliases.len());
         for alias in aliases {
-            self.bytes.push(8);
+            self.record(8);
             self.text(names.string(alias.name));
             let flags = if planted(Mistake::AliasFlagsCut) { u64::from(alias.flags as u32) } else { alias.flags };
             self.number(flags, 8);
@@ -129,7 +134,7 @@ impl Writer {
 
     fn parameters(&mut self, parameters: &[Parameter], names: &Names<'_>) {
         for parameter in parameters {
-            self.bytes.push(5);
+            self.record(5);
             self.text(names.string(parameter.name));
             self.number(u64::from(parameter.default), 1);
             self.declared(3, &parameter.ty, names);
@@ -144,7 +149,7 @@ impl Writer {
     }
 
     fn ty(&mut self, role: u64, ty: &Type, names: &Names<'_>) {
-        self.bytes.push(6);
+        self.record(6);
         self.number(role, 1);
         self.number(u64::from(ty.nullable), 1);
         self.text(ty.name.and_then(|index| names.qualified(index)));
@@ -174,6 +179,12 @@ impl Writer {
         if self.text_total <= TEXT {
             self.text.extend(text.bytes());
         }
+    }
+
+    /// Begins a record.
+    fn record(&mut self, kind: u8) {
+        self.bytes.push(kind);
+        self.records[usize::from(kind) - 1] += 1;
     }
 
     fn number(&mut self, number: u64, width: usize) {

@@ -11,11 +11,12 @@ use Rattle.lookup.specs.told.Strings.{codesFrom}
 use Rattle.declaration_rows.specs.Declarations.{Declarations}
 use Rattle.schema.specs.told.SchemaTold.{stopRefused}
 use Rattle.inputs.specs.Inputs.{carriesDeclarations}
-use Rattle.inputs.specs.told.OutcomesTold.{told}
 use Rattle.declarations.specs.Payload.{payload}
 use Rattle.declarations.specs.told.PayloadTold.{LentRoom}
-use Rattle.passes.specs.Answered.{nothingRead, answered}
+use Rattle.passes.specs.Answered.{nothingRead}
 use Rattle.passes.specs.told.AreaTold.{strings, MeasuredAt}
+use Rattle.passes.specs.told.TaskTold.{TaskTold}
+use Rattle.passes.specs.declared.Asked.{Asked}
 use Rattle.passes.specs.declared.FirstPass.{FirstPass}
 use Rattle.passes.specs.declared.FirstPass.the-variants as first
 use Rattle.passes.specs.declared.Passed.{Passed}
@@ -26,10 +27,10 @@ FirstTold kind bytes d2 ends notes (first.Done measured) S T = MeasuredAt kind b
 FirstTold kind bytes d2 ends notes (first.Refused stop) S T = payload kind (strings d2 ends) bytes ≡ stopRefused stop
 FirstTold kind bytes d2 ends notes first.NoRoom S T = LentRoom bytes notes → ⊥
 
--- An answer to some reading, or no room, with both areas as they were.
-abbrev pub PassedTold : ℕ → Res (Declarations × ℕ) → Type 0 → Passed → (S S′ T T′ : List ℕ) → Type 0
-PassedTold kind reading room (passed.Answered r) S S′ T T′ = answered S T kind reading ≡ told r S′ T′
-PassedTold kind reading room passed.NoRoom S S′ T T′ = (room → ⊥) × (S′ ≡ S) × (T′ ≡ T)
+-- The reply to some reading, or no room, with both areas as they were.
+abbrev pub PassedTold : Asked → Res (Declarations × ℕ) → Type 0 → Passed → (S S′ T T′ : List ℕ) → Type 0
+PassedTold asked reading room (passed.Answered r) S S′ T T′ = TaskTold asked reading r S S′ T T′
+PassedTold asked reading room passed.NoRoom S S′ T T′ = (room → ⊥) × (S′ ≡ S) × (T′ ≡ T)
 
 -- Room for the decoded bytes and for the notes.
 pub record FrameRoom (d1 bytes notes : List ℕ) : Type 0 where

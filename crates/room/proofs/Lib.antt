@@ -1,0 +1,3 @@
+pub mod CountLaws
+pub mod RoomLaws
+pub mod Exact
