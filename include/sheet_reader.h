@@ -16,7 +16,7 @@ extern "C" {
 
 /* The number of the sheets' format: 2 for the sheets as they are told below (1 was without type aliases). It goes up whenever sheets change, so that a program that keeps
  * sheets can tell by it which of them to make anew. */
-#define SHEET_FORMAT 2
+#define SHEET_FORMAT 3
 
 /* What sheet_read puts into answer. */
 enum {

@@ -19,13 +19,24 @@ pub enum Basis {
     Ranges,
     /// The second reading: the original would take too much memory for its copies of records and its texts.
     Memory,
+    /// The second reading: a record that decides its indices has operation 2. The original puts "kotlin.collections." in front there, where
+    /// jvm_metadata.proto has DESC_TO_CLASS_ID. On a d2 string no step is taken, so a record that doesn't decide is compared.
+    DescriptorOperation,
     /// The second reading: the payload has type aliases, which the original doesn't read. What stands before them on an accepted sheet must
     /// still be the original's.
     Aliases,
 }
 
 impl Basis {
-    pub const ALL: [Self; 6] = [Self::Original, Self::Limits, Self::Types, Self::Ranges, Self::Memory, Self::Aliases];
+    pub const ALL: [Self; 7] = [
+        Self::Original,
+        Self::Limits,
+        Self::Types,
+        Self::Ranges,
+        Self::Memory,
+        Self::DescriptorOperation,
+        Self::Aliases,
+    ];
 
     pub fn words(self) -> &'static str {
         match self {
@@ -34,6 +45,7 @@ impl Basis {
             Self::Types => "the second reading for 10",
             Self::Ranges => "the second reading for ranges",
             Self::Memory => "the second reading for memory",
+            Self::DescriptorOperation => "the second reading for operation 2",
             Self::Aliases => "the second reading for type aliases",
         }
     }
@@ -76,6 +88,7 @@ pub fn basis(reading: &Reading) -> Basis {
         10 => Basis::Types,
         _ if reading.ranges > RANGES => Basis::Ranges,
         _ if reading.record_bytes + 4 * reading.text_total > MEMORY => Basis::Memory,
+        _ if reading.descriptor_operation => Basis::DescriptorOperation,
         _ if reading.aliases => Basis::Aliases,
         _ => Basis::Original,
     }

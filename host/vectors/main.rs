@@ -42,11 +42,11 @@ fn main() {
     println!("classes: the Rust's own lines are those that stand beside them");
 }
 
-/// The answer of an input that a replay may hold: the original's, a limit's, the 2,049th type, or one with type aliases.
+/// The answer of an input that a replay may hold: the original's, a limit's, the 2,049th type, one with type aliases or with operation 2.
 fn answer(input: &Input, areas: Areas) -> Option<Whole> {
     let expected = checked(input, areas);
     let settled = match expected.basis {
-        Basis::Original | Basis::Limits | Basis::Types | Basis::Aliases => true,
+        Basis::Original | Basis::Limits | Basis::Types | Basis::DescriptorOperation | Basis::Aliases => true,
         Basis::Ranges | Basis::Memory => false,
     };
     settled.then_some(expected.whole)

@@ -32,7 +32,7 @@ use Rattle.names.specs.told.Stream as stream
 use Rattle.names.specs.told.Stream.{changeOf, changed, sizedBytes, sourceBytes, nameBytes}
 use Rattle.names.specs.declared.name.Name.{Name}
 use Rattle.names.specs.declared.name.Change.{Change}
-use Rattle.names.proofs.NameLaws.{source-units, name-parts, front-none}
+use Rattle.names.proofs.NameLaws.{source-units, name-parts}
 use Rattle.names.proofs.PresentLaws.{name-most}
 use Rattle.names.proofs.FittedLaws.{fitted-ind, zeros-first}
 use Rattle.names.proofs.ScalarLaws.{Strings, qualified-characters, d2-characters, substituted-keeps}
@@ -60,7 +60,7 @@ use Rattle.descriptors.specs.declared.erased.TypePart.{TypePart}
 use Rattle.descriptors.specs.declared.erased.TypePart.the-variants as typePart
 
 -- A name's bytes, with slashes for dots.
-pub name-short : (payload d2 : List ℕ) (name : Name) → length payload ≤ 32768 → length d2 ≤ 32768 → length (nameBytes payload d2 name true) ≤ 131091
+pub name-short : (payload d2 : List ℕ) (name : Name) → length payload ≤ 32768 → length d2 ≤ 32768 → length (nameBytes payload d2 name true) ≤ 131072
 name-short payload d2 name f g = name-most payload d2 name 32768 f g (omega arith) true
 
 name-slashed : (payload d2 : List ℕ) (name : Name) (n : Text) → nameText payload d2 name ≡ some n → nameBytes payload d2 name true ≡ utf8 (slashed n)
@@ -86,14 +86,13 @@ sized-first size c t =
     let P : Text → Type 0 = λ u. getD (utf8 u) 0 0 ≡ 0x6b → c ≡ 0x6b in
     if-ind P (isMeasured size) (λ m. fitted-ind P size c t (first-of c (fitted (size - width c) t)) λ e. absurd (zeros-first size e)) λ m. first-of c t
 
-pub not-listed : (payload d2 : List ℕ) (name : Name) → name .source ≡ 3 → (name .operation ≡ 2 → ⊥) → {h : Change} → h ≡ changeOf name true
+pub not-listed : (payload d2 : List ℕ) (name : Name) → name .source ≡ 3 → {h : Change} → h ≡ changeOf name true
     → {code : ℕ} {rest : Text} → fromUtf16 (partFrom (name .start) (name .end) d2) ≡ code ∷ rest → {c : ℕ} → c ≡ changed h code → (c ≡ 0x6b → ⊥)
     → Means (nameBytes payload d2 name true) Other
 unfolding utf8
-not-listed payload d2 name s o {h} e {code} {rest} f {c} q g =
+not-listed payload d2 name s {h} e {code} {rest} f {c} q g =
     let bytes : nameBytes payload d2 name true ≡ sizedBytes (name .size) h (code ∷ rest) =
     name-parts payload d2 name true e (omega arith) (omega arith)
-    ∙ ap (λ (t : Text). utf8 t ++ sourceBytes (name .size) h (sourceText payload d2 name)) (front-none (name .operation) true o)
     ∙ ap (sourceBytes (name .size) h) (source-units payload d2 name s ∙ ap some f) in
     let other : getD (nameBytes payload d2 name true) 0 0 ≡ 0x6b → ⊥ =
     λ k. g (q ∙ sized-first (name .size) (changed h code) (map (changed h) rest) (ap (λ (l : List ℕ). getD l 0 0) (sym bytes) ∙ k)) in

@@ -60,10 +60,6 @@ fn may_be_listed(payload: &[u8], d2: &[u16], name: Name) -> bool
     if source != 3 {
         return true;
     }
-    let operation = name.operation;
-    if operation == 2 {
-        return true;
-    }
     let character = utf16_at(d2, name.start, name.end);
     let Character::Read { code, next: _ } = character else {
         return true;

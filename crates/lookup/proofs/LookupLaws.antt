@@ -15,9 +15,9 @@ use Rattle.characters.specs.Characters.{utf8, fromUtf16}
 use Rattle.characters.specs.told.Places.{partFrom}
 use Rattle.foundation.proofs.ChoiceLaws.{drop-take}
 use Rattle.names.specs.Records as definition
-use Rattle.names.specs.Records.{decides, operated}
+use Rattle.names.specs.Records.{decides}
 use Rattle.names.specs.Names.{Names, recordAt, stringsFrom, d2String, string, qualifiedName}
-use Rattle.names.specs.told.Name.{sourceText, sized, nameText, absentName}
+use Rattle.names.specs.told.Name.{sourceText, sized, turned, nameText, absentName}
 use Rattle.names.specs.told.Index.{startOf, endOf, IndexOf}
 use Rattle.lookup.specs.told.Lookups.{foundIn, FoundBelow, FindTold, lookedUp, NotesOf, WordsAt, DecidedIs, DecidedTold}
 use Rattle.record_names.specs.told.Named.{NamedIs, ClassIs, NoteTold}
@@ -49,7 +49,7 @@ module _ (payload units ends : List ℕ) (index : ℕ) {r : Extent} (e : getElem
   pub d2-named : {start end : ℕ} → r ≡ extent.Part start end → (size : ℕ) → SizeOf units ends index size
       → d2String (stringsFrom 0 ends units) index
       ≡ ok (nameText payload units (record { source = 3; start = start; end = end; from = 0; to = 0; operation = 0; qualified = false; size = size }))
-  unfolding d2String nameText sourceText operated
+  unfolding d2String nameText sourceText turned
   d2-named {start} {end} g size z =
       let t = fromUtf16 (partFrom start end units) in
       let h : (size ≡ 0 → ⊥) → size ≡ length (utf8 t) = λ n. z n (partFrom start end units) (e ∙ ap (extentOf units) g) in

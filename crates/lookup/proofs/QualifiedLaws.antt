@@ -18,9 +18,9 @@ use Rattle.characters.specs.Characters.{utf8, fromUtf16, isHigh, isLow, lone, p
 use Rattle.characters.specs.told.Places.{partFrom}
 use Rattle.characters.proofs.SeamLaws.{units-seam}
 use Rattle.characters.proofs.UnitLaws.{units-ended, units-cons}
-use Rattle.names.specs.Records.{dotted, operated}
+use Rattle.names.specs.Records.{dotted}
 use Rattle.names.specs.Names.{Names, string, qualifiedName, unwrapped, stringsFrom, d2String}
-use Rattle.names.specs.told.Name.{sourceText, sized, nameText, absentName}
+use Rattle.names.specs.told.Name.{sourceText, sized, turned, nameText, absentName}
 use Rattle.record_names.specs.told.Steps.{extentOf}
 use Rattle.lookup.specs.told.Qualified.{ClippedTold, WrappedTold, unitsName}
 use Rattle.record_names.specs.told.ClassNames.{classText}
@@ -159,7 +159,7 @@ module _ (payload units ends : List ℕ) (index : ℕ) {r : Extent} (e : getElem
     class-units : (a b size : ℕ) → unwrapped (fromUtf16 (partFrom start end units)) ≡ fromUtf16 (partFrom a b units)
         → ((size ≡ 0 → ⊥) → size ≡ length (utf8 (fromUtf16 (partFrom a b units))))
         → (d2String (stringsFrom 0 ends units) index >>= λ t. ok (classText t)) ≡ ok (nameText payload units (unitsName a b size))
-    unfolding d2String nameText sourceText operated
+    unfolding d2String nameText sourceText turned
     class-units a b size f z =
         rw (e, g, c .same start)
         (ap (λ (t : Text). ok (some (dotted t)))

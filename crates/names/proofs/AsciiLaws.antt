@@ -17,7 +17,7 @@ use Rattle.characters.specs.Characters.{utf8Of, utf8, fromUtf8, fromUtf16}
 use Rattle.characters.specs.told.Plain.{instead, withDots, slashedCharacter, isAscii, shown}
 use Rattle.characters.proofs.AsciiLaws.{all-below, units-alone}
 use Rattle.characters.proofs.SeamLaws.{from-ascii}
-use Rattle.names.specs.told.Stream.{changed, changedBytes, PutText}
+use Rattle.names.specs.told.Stream.{changed, changedBytes, NoneReplaced, PutText}
 use Rattle.names.specs.declared.name.Change.{Change}
 
 -- Changed, if none is replaced.
@@ -38,10 +38,10 @@ shown-below dots slashes c h = slashed slashes (dotted dots)
     slashed true k = instead-below 0x2e 0x2f (withDots dots c) (omega arith) k
     slashed false k = k
 
-module _ (h : Change) (e : h .from ≡ h .to) where
+module _ (h : Change) (e : NoneReplaced h) where
   changed-one : (c : ℕ) → c < 128 → utf8Of (changed h c) ≡ shown (h .dots) (h .slashes) c ∷ []
   unfolding changed utf8Of
-  changed-one c k = rw (same-instead (h .from) (h .to) c e, lt-ltb (shown (h .dots) (h .slashes) c) 0x80 (shown-below (h .dots) (h .slashes) c k))
+  changed-one c k = rw (same-instead (h .from) (h .to) c (e .same), e .dollars, lt-ltb (shown (h .dots) (h .slashes) c) 0x80 (shown-below (h .dots) (h .slashes) c k))
 
   changed-all : (t : Text) → All (λ c. c < 128) t → changedBytes h t ≡ map (shown (h .dots) (h .slashes)) t
   unfolding utf8

@@ -13,12 +13,13 @@ use Rattle.foundation.specs.Choices.{if_then_else_, ifSome, All, IfSome}
 use Rattle.foundation.specs.Texts.{Text, ascii}
 use Rattle.foundation.proofs.ChoiceLaws.{if-ind, all-weaken}
 use Rattle.foundation.proofs.ResultLaws.{Gives}
-use Rattle.characters.specs.Characters.{isScalar, width, utf8Of, utf8}
+use Rattle.characters.specs.Characters.{isScalar, width, utf8}
 use Rattle.characters.proofs.LengthLaws.{AtMost, InBytes, width-most, bytes-cons, bytes-append, bytes-most, fromUtf8-length}
 use Rattle.foundation.proofs.EveryLaws.{every-all, all-at, some-map, some-weaken}
-use Rattle.names.specs.Records.{Record, predefinedStrings, predefinedText, baseText, substituted, replaceOf, dotted, operated, textOf}
+use Rattle.names.specs.Records.{Record, predefinedStrings, predefinedText, baseText, substituted, replaceOf, dotted, dollarsDotted, operated, textOf}
 use Rattle.names.specs.Names.{Names, string, unwrapped, qualifiedName}
-use Rattle.names.proofs.StepLaws.{PartOf, unwrapped-part, base-ind, text-keeps, qualified-keeps}
+use Rattle.names.specs.told.Name.{turned, dropped}
+use Rattle.names.proofs.StepLaws.{PartOf, unwrapped-part, dropped-part, operated-is, base-ind, text-keeps, qualified-keeps}
 
 -- A part is no longer than its text, in bytes too; a text keeps its length when a character is replaced, and gains no bytes if
 -- that is done by one that takes a single byte.
@@ -37,12 +38,15 @@ substituted-bytes from to (c ∷ t) h =
     let w : width d ≤ width c = if-ind (λ x. width x ≤ width c) (eqb c from) (λ e. omega (arith, width-most c)) λ e. le-refl (width c) in
     omega (arith, bytes-cons d (substituted from to t), bytes-cons c t, substituted-bytes from to t h)
 
+pub dollars-bytes : (t : Text) → length (utf8 (dollarsDotted t)) ≤ length (utf8 t)
+unfolding width
+dollars-bytes t = substituted-bytes 0x24 0x2e t refl
+
 pub dotted-bytes : (t : Text) → length (utf8 (dotted t)) ≤ length (utf8 t)
 unfolding width
 dotted-bytes t = omega (arith, substituted-bytes 0x2f 0x2e (substituted 0x24 0x2e t) refl, substituted-bytes 0x24 0x2e t refl)
 
--- A record's text takes at most four bytes for each byte of its base, and 19 for what an operation puts in front. Without a string of
--- its own its base is one of the predefined names, of 42 characters at most.
+-- A record's text takes at most four bytes for each byte of its base. Without a string of its own its base is one of the predefined names, of 42 characters at most.
 abbrev pub baseLength : Record → ℕ
 baseLength r = ifSome (r .string) 42 λ p. length (p .bytes)
 
@@ -61,27 +65,31 @@ replace-length : (n from to : ℕ) (t : Text) → AtMost n t → IfSome (AtMost 
 unfolding replaceOf
 replace-length n from to t h = if-ind (IfSome (AtMost n)) (isScalar from && isScalar to) (λ e. rw length-map h) λ e. tt
 
-pub operated-bytes : (op : ℕ) (t : Text) → length (utf8 (operated op t)) ≤ length (utf8 t) + 19
-unfolding operated utf8 utf8Of
-operated-bytes op t =
-    let n = length (utf8 t) + 19 in
-    if-ind (InBytes n) (eqb op 1) (λ e. omega (arith, dotted-bytes t)) λ e.
-    if-ind (InBytes n) (eqb op 2) (λ e. omega (arith, bytes-append (ascii "kotlin.collections.") t)) λ e. omega arith
+-- an operation adds no bytes
+pub turned-bytes : (op : ℕ) (t : Text) → length (utf8 (turned op t)) ≤ length (utf8 t)
+unfolding turned
+turned-bytes op t =
+    let n = length (utf8 t) in
+    if-ind (InBytes n) (eqb op 1) (λ e. dotted-bytes t) λ e. if-ind (InBytes n) (eqb op 2) (λ e. dollars-bytes t) λ e. le-refl n
 
-pub text-bytes : (r : Record) → IfSome (InBytes (4 * baseLength r + 19)) (textOf r)
+operated-bytes : (op : ℕ) (t : Text) → length (utf8 (operated op t)) ≤ length (utf8 t)
+operated-bytes op t =
+    omega (arith, ap (λ (u : Text). length (utf8 u)) (operated-is op t), turned-bytes op (dropped op t), part-bytes t (dropped op t) (dropped-part op t))
+
+pub text-bytes : (r : Record) → IfSome (InBytes (4 * baseLength r)) (textOf r)
 text-bytes r =
-    text-keeps (AtMost (baseLength r)) (InBytes (4 * baseLength r + 19)) r (base-length r) (λ t u e h. omega (arith, part-length t u e))
+    text-keeps (AtMost (baseLength r)) (InBytes (4 * baseLength r)) r (base-length r) (λ t u e h. omega (arith, part-length t u e))
     (replace-length (baseLength r)) λ op t h. omega (arith, operated-bytes op t, bytes-most t)
 
 -- A name takes no more than the strings of d2 and the texts of records may take; nor does its qualified form.
 abbrev pub Fitting : ℕ → Record → Type 0
-Fitting k r = 4 * baseLength r + 19 ≤ k
+Fitting k r = 4 * baseLength r ≤ k
 
 module _ (k : ℕ) (n : Names) (strings : (i : ℕ) → Gives (IfSome (InBytes k)) (n .d2 i)) (records : All (Fitting k) (n .records)) where
   texts-bytes : All (λ r. IfSome (InBytes k) (textOf r)) (n .records)
   texts-bytes =
       all-weaken (Fitting k) (λ r. IfSome (InBytes k) (textOf r))
-      (λ r h. some-weaken (InBytes (4 * baseLength r + 19)) (InBytes k) (textOf r) (text-bytes r) λ t p. omega arith) (n .records) records
+      (λ r h. some-weaken (InBytes (4 * baseLength r)) (InBytes k) (textOf r) (text-bytes r) λ t p. omega arith) (n .records) records
 
   pub qualified-bytes : (i : ℕ) → Gives (IfSome (InBytes k)) (qualifiedName n i)
   qualified-bytes =

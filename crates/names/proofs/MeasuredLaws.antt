@@ -12,7 +12,7 @@ use Rattle.foundation.specs.Texts.{Text}
 use Rattle.characters.specs.Characters.{fromUtf8, utf8}
 use Rattle.characters.specs.told.Plain.{isAscii, shown}
 use Rattle.names.specs.told.Name.{sourceText, fitted, isMeasured}
-use Rattle.names.specs.told.Stream.{changed, changedBytes, sourceBytes, PutText}
+use Rattle.names.specs.told.Stream.{changed, changedBytes, sourceBytes, NoneReplaced, PutText}
 use Rattle.names.specs.declared.name.Name.{Name}
 use Rattle.names.specs.declared.name.Change.{Change}
 use Rattle.names.proofs.AsciiLaws.{bytes-bytes}
@@ -21,7 +21,7 @@ use Rattle.names.proofs.NameLaws.{source-fitted, source-there}
 use Rattle.names.proofs.WidthLaws.{put-past}
 
 -- Copied at once: characters below 128, of which none is replaced.
-pub measured-copied : (h : Change) → h .from ≡ h .to → (s : List ℕ) → isAscii s ≡ true → (size at : ℕ) → length s ≡ size → (A : List ℕ) {B : List ℕ}
+pub measured-copied : (h : Change) → NoneReplaced h → (s : List ℕ) → isAscii s ≡ true → (size at : ℕ) → length s ≡ size → (A : List ℕ) {B : List ℕ}
     → B ≡ sets A at (map (shown (h .dots) (h .slashes)) s) → B ≡ sets A at (utf8 (fitted size (map (changed h) (fromUtf8 s))))
 measured-copied h e s a size at l A w =
     let b = bytes-bytes h e s a in

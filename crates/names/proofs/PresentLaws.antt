@@ -15,11 +15,11 @@ use Rattle.foundation.proofs.ChoiceLaws.{if-ind}
 use Rattle.characters.specs.Characters.{width, fromUtf8, fromUtf16, utf8}
 use Rattle.characters.specs.told.Places.{partFrom}
 use Rattle.characters.proofs.LengthLaws.{AtMost, InBytes, bytes-most, fromUtf8-length, fromUtf16-length}
-use Rattle.names.specs.Records.{substituted, operated}
-use Rattle.names.specs.told.Name.{predefinedList, sourceText, isMeasured, sized, steppedBy, nameText}
+use Rattle.names.specs.Records.{substituted}
+use Rattle.names.specs.told.Name.{predefinedList, sourceText, isMeasured, sized, turned, steppedBy, nameText}
 use Rattle.names.specs.told.Stream.{slashedText, nameBytes}
 use Rattle.names.specs.declared.name.Name.{Name}
-use Rattle.names.proofs.LengthLaws.{substituted-bytes, dotted-bytes, operated-bytes}
+use Rattle.names.proofs.LengthLaws.{substituted-bytes, dotted-bytes, turned-bytes}
 use Rattle.names.proofs.FittedLaws.{fitted-bytes}
 use Rattle.names.proofs.NameLaws.{source-none, source-there}
 use Rattle.names.proofs.AsciiLaws.{not-plain as never}
@@ -60,7 +60,7 @@ measured-most size e = go (leb 1 size) refl (leb size 131072) refl
     go true p false q = let z : false ≡ true = sym (ap (λ (b : Bool). leb 1 size && b) q ∙ ap (λ (a : Bool). a && false) p) ∙ e in never z
     go false p false q = let z : false ≡ true = sym (ap (λ (a : Bool). a && leb size 131072) p) ∙ e in never z
 
--- A name of sources that are no longer than k takes at most four bytes for each, and 19 for what an operation puts in front.
+-- A name of sources that are no longer than k takes at most four bytes for each.
 module _ (payload d2 : List ℕ) (n : Name) (k : ℕ) (f : length payload ≤ k) (g : length d2 ≤ k) (h : 32768 ≤ k) where
   units-most : IfSome (AtMost k) (if eqb (n .source) 3 then some (fromUtf16 (partFrom (n .start) (n .end) d2)) else none)
   units-most =
@@ -80,24 +80,24 @@ module _ (payload d2 : List ℕ) (n : Name) (k : ℕ) (f : length payload ≤ k)
   sized-most t l =
       if-ind (InBytes (4 * k)) (isMeasured (n .size)) (λ e. omega (arith, fitted-bytes (n .size) t, measured-most (n .size) e)) λ e. l
 
-  stepped-most : (t : Text) → AtMost k t → InBytes (4 * k + 19) (steppedBy n t)
+  stepped-most : (t : Text) → AtMost k t → InBytes (4 * k) (steppedBy n t)
   stepped-most t l =
       let r = substituted (n .from) (n .to) t in
       let s = sized (n .size) r in
-      let it = operated (n .operation) s in
+      let it = turned (n .operation) s in
       let b : InBytes (4 * k) r = omega (arith, length-map t (λ (c : ℕ). if eqb c (n .from) then n .to else c), bytes-most r) in
-      let m : InBytes (4 * k + 19) it = omega (arith, sized-most r b, operated-bytes (n .operation) s) in
-      if-ind (InBytes (4 * k + 19)) (n .qualified) (λ e. omega (arith, dotted-bytes it)) λ e. m
+      let m : InBytes (4 * k) it = omega (arith, sized-most r b, turned-bytes (n .operation) s) in
+      if-ind (InBytes (4 * k)) (n .qualified) (λ e. omega (arith, dotted-bytes it)) λ e. m
 
-  printed-most : (slashes : Bool) (t : Text) → InBytes (4 * k + 19) t → InBytes (4 * k + 19) (slashedText slashes t)
+  printed-most : (slashes : Bool) (t : Text) → InBytes (4 * k) t → InBytes (4 * k) (slashedText slashes t)
   unfolding width
   printed-most slashes t l =
-      if-ind (InBytes (4 * k + 19)) slashes (λ e. omega (arith, substituted-bytes 0x2e 0x2f t refl)) λ e. l
+      if-ind (InBytes (4 * k)) slashes (λ e. omega (arith, substituted-bytes 0x2e 0x2f t refl)) λ e. l
 
-  pub name-most : (slashes : Bool) → length (nameBytes payload d2 n slashes) ≤ 4 * k + 19
+  pub name-most : (slashes : Bool) → length (nameBytes payload d2 n slashes) ≤ 4 * k
   unfolding nameBytes nameText
   name-most slashes = go (sourceText payload d2 n) source-most
     where
-      go : (o : Option Text) → IfSome (AtMost k) o → length (ifSome (mapOption (steppedBy n) o) [] λ t. utf8 (slashedText slashes t)) ≤ 4 * k + 19
+      go : (o : Option Text) → IfSome (AtMost k) o → length (ifSome (mapOption (steppedBy n) o) [] λ t. utf8 (slashedText slashes t)) ≤ 4 * k
       go none l = omega arith
       go (some t) l = printed-most slashes (steppedBy n t) (stepped-most t l)

@@ -10,7 +10,7 @@ use lib.Dec.{T, eqb}
 use lib.ListN.{getElem?}
 use Rattle.foundation.specs.Choices.{if_then_else_, All, IfSome}
 use Rattle.foundation.specs.Texts.{Text, ascii}
-use Rattle.foundation.proofs.ChoiceLaws.{if-ind, all-append, all-map}
+use Rattle.foundation.proofs.ChoiceLaws.{if-ind, all-map}
 use Rattle.foundation.proofs.ResultLaws.{Gives}
 use Rattle.characters.specs.Characters.{isScalar}
 use Rattle.characters.proofs.ScalarLaws.{fromUtf8-characters, fromUtf16-characters}
@@ -18,9 +18,9 @@ use Rattle.characters.specs.WellFormed.{Units}
 use Rattle.characters.specs.told.CharactersTold.{Characters}
 use Rattle.characters.proofs.TestLaws.{scalar-below}
 use Rattle.foundation.proofs.EveryLaws.{each, every, every-all, all-any, all-at, all-split, all-take, all-drop, some-map}
-use Rattle.names.specs.Records.{Record, predefinedStrings, predefinedText, substituted, replaceOf, dotted, operated, textOf}
+use Rattle.names.specs.Records.{Record, predefinedStrings, predefinedText, substituted, replaceOf, dotted, dollarsDotted, withoutEnds, operated, textOf}
 use Rattle.names.specs.Names.{Names, string, unwrapped, qualifiedName, stringsFrom, d2String}
-use Rattle.names.proofs.StepLaws.{PartOf, unwrapped-part, base-ind, text-keeps, string-keeps, qualified-keeps, d2-keeps}
+use Rattle.names.proofs.StepLaws.{PartOf, unwrapped-part, ends-part, base-ind, text-keeps, string-keeps, qualified-keeps, d2-keeps}
 
 -- Substring, replacement and operation keep characters.
 module _ (P : ℕ → Type 0) where
@@ -39,6 +39,9 @@ part-characters = part-keeps λ c. T (isScalar c)
 pub dotted-characters : (t : Text) → Characters t → Characters (dotted t)
 dotted-characters t = dotted-keeps (λ c. T (isScalar c)) t (scalar-below 0x2e (omega arith))
 
+dollars-characters : (t : Text) → Characters t → Characters (dollarsDotted t)
+dollars-characters t = substituted-keeps (λ c. T (isScalar c)) 0x24 0x2e t (scalar-below 0x2e (omega arith))
+
 pub replace-characters : (from to : ℕ) (t : Text) → Characters t → IfSome Characters (replaceOf from to t)
 unfolding replaceOf
 replace-characters from to t p =
@@ -50,11 +53,10 @@ ascii-characters : (s : String) → T (every isScalar (ascii s)) → Characters 
 ascii-characters s = every-all isScalar (ascii s)
 
 pub operated-characters : (op : ℕ) (t : Text) → Characters t → Characters (operated op t)
-unfolding operated isScalar
+unfolding operated
 operated-characters op t p =
     if-ind Characters (eqb op 1) (λ e. dotted-characters t p) λ e.
-    let front : String = "kotlin.collections." in
-    if-ind Characters (eqb op 2) (λ e. all-append (λ c. T (isScalar c)) (ascii front) t (ascii-characters front tt) p) λ e. p
+    if-ind Characters (eqb op 2) (λ e. dollars-characters (withoutEnds t) (part-characters t (withoutEnds t) (ends-part t) p)) λ e. p
 
 pub predefined-characters : (i : ℕ) → IfSome Characters (predefinedText i)
 unfolding predefinedText isScalar

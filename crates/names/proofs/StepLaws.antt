@@ -1,9 +1,11 @@
 -- What the steps from bytes to a name's text do, for any law of texts.
 -- Assumes nothing.
 use mathlib.Core.Path.{_≡_, refl, ap, sym, _∙_}
+use mathlib.Core.Bool.{Bool, true, false}
 use mathlib.Core.List.{List, [], _∷_, _++_, append-nil}
 use mathlib.Core.Option.{Option, none, some}
 use Prim.Native.Nat.{ℕ, _-_}
+use native.Mathlib.Omega.{arith}
 use borrow.Author.Tests.{eqb-true}
 use lib.Dec.{eqb, ltb}
 use lib.ListN.{take, drop, getElem?}
@@ -16,7 +18,8 @@ use Rattle.characters.specs.Characters.{fromUtf8, fromUtf16}
 use Rattle.characters.specs.Splits.{splitAt, substringOf}
 use Rattle.characters.proofs.StepLaws.{Joins, split-joins}
 use Rattle.foundation.proofs.EveryLaws.{all-at, some-map, some-then, some-weaken}
-use Rattle.names.specs.Records.{Record, predefinedText, baseText, replaceOf, dotted, operated, stepped, textOf, decides}
+use Rattle.names.specs.Records.{Record, predefinedText, baseText, replaceOf, dotted, dollarsDotted, allButLast, withoutEnds, operated, stepped, textOf, decides}
+use Rattle.names.specs.told.Name.{turned, dropped}
 use Rattle.names.specs.Names.{Names, recordAt, string, withoutLast, unwrapped, qualifiedName, stringsFrom, d2String}
 
 -- A text that stands in another.
@@ -55,6 +58,39 @@ unwrapped-part (c ∷ t) = if-ind (PartOf (c ∷ t)) (eqb c 0x4c) (λ e. go (wit
     go : (o : Option Text) → IfSome (Ends 0x3b t) o → PartOf (c ∷ t) (ifSome o (c ∷ t) λ u. u)
     go none q = same
     go (some u) q = record { before = c ∷ []; after = 0x3b ∷ []; whole = ap (λ (v : Text). c ∷ v) q }
+
+-- A text of two characters or more, by its last character.
+pub ends-with : (b : ℕ) (t : Text) → (z : ℕ) × (allButLast (b ∷ t) ++ (z ∷ []) ≡ b ∷ t)
+unfolding allButLast
+ends-with b [] = (b, refl)
+ends-with b (c ∷ t) =
+    let e = ends-with c t in
+    (e .0, ap (λ (u : Text). b ∷ u) (e .1))
+
+pub ends-part : (t : Text) → PartOf t (withoutEnds t)
+unfolding withoutEnds
+ends-part [] = record { before = []; after = []; whole = refl }
+ends-part (a ∷ []) = record { before = []; after = []; whole = refl }
+ends-part (a ∷ b ∷ t) =
+    let e = ends-with b t in
+    record { before = a ∷ []; after = e .0 ∷ []; whole = ap (λ (u : Text). a ∷ u) (e .1) }
+
+pub dropped-part : (op : ℕ) (t : Text) → PartOf t (dropped op t)
+dropped-part op t = if-ind (PartOf t) (eqb op 2) (λ e. ends-part t) λ e. record { before = []; after = []; whole = append-nil t }
+
+-- An operation drops and then turns.
+pub operated-is : (op : ℕ) (t : Text) → operated op t ≡ turned op (dropped op t)
+unfolding operated turned
+operated-is op t = go (eqb op 1) refl (eqb op 2) refl
+  where
+    go : (a : Bool) → eqb op 1 ≡ a → (b : Bool) → eqb op 2 ≡ b
+        → (if a then dotted t else if b then dollarsDotted (withoutEnds t) else t)
+        ≡ (let u = if b then withoutEnds t else t in
+        if a then dotted u else if b then dollarsDotted u else u)
+    go true e true f = absurd (omega (arith, eqb-true op 1 e, eqb-true op 2 f))
+    go true e false f = refl
+    go false e true f = refl
+    go false e false f = refl
 
 -- A record's text, by its base and the three steps.
 pub base-ind : (P : Text → Type 0) (r : Record) → ((i : ℕ) → r .string ≡ none → IfSome P (predefinedText i))

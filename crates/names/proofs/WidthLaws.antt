@@ -18,7 +18,7 @@ use Rattle.characters.proofs.AsciiLaws.{all-below}
 use Rattle.characters.proofs.SeamLaws.{from-ascii}
 use Rattle.characters.proofs.LengthLaws.{bytes-cons}
 use Rattle.characters.proofs.SizeLaws.{width-one}
-use Rattle.names.specs.told.Stream.{changed, changedBytes, KeepsWidth, PutText}
+use Rattle.names.specs.told.Stream.{withDollars, changed, changedBytes, KeepsWidth, PutText}
 use Rattle.names.specs.declared.name.Change.{Change}
 
 instead-width : (a b c : ℕ) → width a ≡ width b → width (instead a b c) ≡ width c
@@ -30,6 +30,11 @@ unfolding width
 dots-width true c = instead-width 0x2f 0x2e (instead 0x24 0x2e c) refl ∙ instead-width 0x24 0x2e c refl
 dots-width false c = refl
 
+pub dollars-width : (t : Bool) (c : ℕ) → width (withDollars t c) ≡ width c
+unfolding width
+dollars-width true c = instead-width 0x24 0x2e c refl
+dollars-width false c = refl
+
 pub slashes-width : (t : Bool) (c : ℕ) → width (slashedCharacter t c) ≡ width c
 unfolding width
 slashes-width true c = instead-width 0x2e 0x2f c refl
@@ -39,8 +44,9 @@ pub keeps : (h : Change) {a b : ℕ} → a ≡ width (h .from) → b ≡ width (
 unfolding changed
 keeps h {a} {b} p q e c =
     let d = instead (h .from) (h .to) c in
-    slashes-width (h .slashes) (withDots (h .dots) d)
-    ∙ dots-width (h .dots) d
+    slashes-width (h .slashes) (withDots (h .dots) (withDollars (h .dollars) d))
+    ∙ dots-width (h .dots) (withDollars (h .dollars) d)
+    ∙ dollars-width (h .dollars) d
     ∙ instead-width (h .from) (h .to) c (sym p ∙ eqb-true a b e ∙ q)
 
 module _ (h : Change) (k : KeepsWidth h) where

@@ -1,7 +1,7 @@
 -- A record of the name table: jvm_metadata.proto's StringTableTypes.Record, and the text that it builds.
 -- Assumes nothing.
 use mathlib.Core.Bool.{Bool, _&&_, _||_}
-use mathlib.Core.List.{List, [], _∷_, _++_, map}
+use mathlib.Core.List.{List, [], _∷_, map}
 use mathlib.Core.Option.{Option, none, some}
 use Prim.Native.Nat.{ℕ, zero, suc, _+_, _-_, _%_, _^_}
 use Prim.Native.String.{String}
@@ -82,17 +82,33 @@ replaceOf from to t = if isScalar from && isScalar to then some (substituted fro
 abbrev pub dotted : Text → Text
 dotted t = substituted 0x2f 0x2e (substituted 0x24 0x2e t)
 
+-- $ alone
+abbrev pub dollarsDotted : Text → Text
+dollarsDotted = substituted 0x24 0x2e
+
+unfoldable pub allButLast : Text → Text
+allButLast [] = []
+allButLast (a ∷ []) = []
+allButLast (a ∷ b ∷ t) = a ∷ allButLast (b ∷ t)
+
+-- a text of two characters or more without its first and its last; a shorter one as it is
+unfoldable pub withoutEnds : Text → Text
+withoutEnds [] = []
+withoutEnds (a ∷ []) = a ∷ []
+withoutEnds (a ∷ b ∷ t) = allButLast (b ∷ t)
+
 abbrev pub INTERNAL-TO-CLASS-ID : ℕ
 INTERNAL-TO-CLASS-ID = 1
 
 abbrev pub DESC-TO-CLASS-ID : ℕ
 DESC-TO-CLASS-ID = 2
 
--- Departures: operation 1 turns / into a dot too, not only $; operation 2 puts "kotlin.collections." in front, where
--- jvm_metadata.proto has DESC_TO_CLASS_ID.
+-- jvm_metadata.proto, Record.Operation: INTERNAL_TO_CLASS_ID is replaceAll('$', '.'), DESC_TO_CLASS_ID is
+-- substring(1, length - 1).replaceAll('$', '.'), so that Ljava/util/Map$Entry; becomes java/util/Map.Entry. Departure: operation 1 turns / into
+-- a dot too.
 unfoldable pub operated : ℕ → Text → Text
 operated op t =
-    if eqb op INTERNAL-TO-CLASS-ID then dotted t else if eqb op DESC-TO-CLASS-ID then ascii "kotlin.collections." ++ t else t
+    if eqb op INTERNAL-TO-CLASS-ID then dotted t else if eqb op DESC-TO-CLASS-ID then dollarsDotted (withoutEnds t) else t
 
 abbrev pub stepped : (ℕ → ℕ → Text → Option Text) → Option (ℕ × ℕ) → Text → Option Text
 stepped f none t = some t

@@ -7,7 +7,7 @@ ghost use Rattle.characters.specs.told.Places.{partFrom};
 ghost use Rattle.characters.specs.told.Plain.{instead, withDots, slashedCharacter};
 ghost use Rattle.names.specs.told.Name.{nameText, absentName};
 ghost use Rattle.names.specs.Records.{predefinedText};
-ghost use Rattle.names.specs.told.Stream.{listedText, baseOf, changeOf, changed};
+ghost use Rattle.names.specs.told.Stream.{listedText, baseOf, changeOf, withDollars, changed};
 
 pub struct Name {
     // What the characters are a part of: 0 nothing, the name is absent; 1 the payload; 2 the predefined list; 3 d2.
@@ -17,7 +17,7 @@ pub struct Name {
     // Every character `from` becomes `to`. Both 0: none is replaced.
     pub from: u32,
     pub to: u32,
-    // A record's operation: 1, 2, or 0 for any other.
+    // What a record's operation does to the characters: 1 turns $ and / into dots, 2 turns $ alone. 0: nothing.
     pub operation: u8,
     // A class name: / and $ become dots.
     pub qualified: bool,
@@ -188,6 +188,8 @@ pub fn base_part<'a>(
 pub struct Change {
     pub from: u32,
     pub to: u32,
+    // $ becomes a dot
+    pub dollars: bool,
     // / and $ become dots
     pub dots: bool,
     // dots become slashes
@@ -200,6 +202,7 @@ pub fn change_of(name: Name, slashes: bool) -> Change
     Change {
         from: name.from,
         to: name.to,
+        dollars: name.operation == 2,
         dots: name.operation == 1 || name.qualified,
         slashes,
     }
@@ -209,6 +212,15 @@ pub fn instead(from: u32, to: u32, c: u32) -> u32
     ensures { λ r. ⌜ r ≡ instead from to c ⌝ }
 {
     if c == from { to } else { c }
+}
+
+fn with_dollars(dollars: bool, c: u32) -> u32
+    ensures { λ r. ⌜ r ≡ withDollars dollars c ⌝ }
+{
+    if dollars {
+        return instead(0x24, 0x2e, c);
+    }
+    c
 }
 
 fn with_dots(dots: bool, c: u32) -> u32
@@ -233,5 +245,6 @@ pub fn character_of(change: Change, code: u32) -> u32
     ensures { λ r. ⌜ r ≡ changed change code ⌝ }
 {
     let c = instead(change.from, change.to, code);
-    with_slashes(change.slashes, with_dots(change.dots, c))
+    let d = with_dollars(change.dollars, c);
+    with_slashes(change.slashes, with_dots(change.dots, d))
 }

@@ -17,7 +17,7 @@ ghost use lib.Seq.{sets};
 ghost use Rattle.characters.specs.Characters.{fromUtf8, fromUtf16, utf8};
 ghost use Rattle.characters.specs.told.Places.{partFrom};
 ghost use Rattle.names.specs.told.Name.{predefinedList, sourceText, fitted, isMeasured};
-ghost use Rattle.names.specs.told.Stream.{changed, changedBytes, KeepsWidth, fittedOf, sourceBytes, nameBytes, PutText, PlainPart, prefixOf, slashedText};
+ghost use Rattle.names.specs.told.Stream.{changed, changedBytes, KeepsWidth, fittedOf, sourceBytes, nameBytes, PutText, NoneReplaced, PlainPart};
 
 // The text of some bytes, each character changed, one by one. Answers the place after it.
 fn put_utf8(s: &[u8], change: Change, area: &mut [u8], at: usize) -> usize
@@ -98,13 +98,23 @@ fn past_units(units: &[u16], start: usize, end: usize, change: Change, at: usize
     put_utf16(&*units, start, end, change, &mut none, at)
 }
 
+// Is no character replaced, but / and $ by dots and dots by slashes?
+fn replaces_none(change: Change) -> bool
+    ensures { λ r. ⌜ (r ≡ true → NoneReplaced change) ⌝ }
+{
+    if change.dollars {
+        return false;
+    }
+    change.from == change.to
+}
+
 // The text of some bytes, each character changed: at once where it is made of characters below 128, none is replaced, and there is room
 // for all of it; where there is room for none, as in measuring, it is only measured.
 fn put_bytes(s: &[u8], change: Change, area: &mut [u8], at: usize) -> usize
     requires { ⌜ at + length (changedBytes change (fromUtf8 (now s))) < 2 ^ 64 ⌝ }
     ensures { λ r. ⌜ PutText (changedBytes change (fromUtf8 (now (s .entry)))) at r (now (area .entry)) (now (area .exit)) ⌝ }
 {
-    if change.from == change.to {
+    if replaces_none(change) {
         if ascii::ascii_bytes(&*s) {
             let next = at + s.len();
             if area.len() <= at {
@@ -147,7 +157,7 @@ fn put_units(
     requires { ⌜ at + length (changedBytes change (fromUtf16 (partFrom start end (now units)))) < 2 ^ 64 ⌝ }
     ensures { λ r. ⌜ PutText (changedBytes change (fromUtf16 (partFrom start end (now (units .entry))))) at r (now (area .entry)) (now (area .exit)) ⌝ }
 {
-    if change.from == change.to {
+    if replaces_none(change) {
         if plain_units(&*units, start, end) {
             let next = at + (end - start);
             if area.len() <= at {
@@ -169,22 +179,6 @@ fn put_units(
         return put_first_units(&*units, start, end, change, area, at);
     }
     put_utf16(&*units, start, end, change, area, at)
-}
-
-// What operation 2 puts in front.
-fn put_prefix(operation: u8, slashes: bool, area: &mut [u8], at: usize) -> usize
-    requires { ⌜ at + length (utf8 (slashedText slashes (prefixOf operation))) < 2 ^ 64 ⌝ }
-    ensures { λ r. ⌜ PutText (utf8 (slashedText slashes (prefixOf operation))) at r (now (area .entry)) (now (area .exit)) ⌝ }
-{
-    if operation != 2 {
-        return at;
-    }
-    if slashes {
-        sheet::put_all(area, at, b"kotlin/collections/");
-        return at + 19;
-    }
-    sheet::put_all(area, at, b"kotlin.collections.");
-    at + 19
 }
 
 // A part of the predefined list. The list stands in no function that writes other names, since each call copies it.
@@ -287,7 +281,7 @@ fn put_measured(s: &[u8], change: Change, size: usize, area: &mut [u8], at: usiz
     ensures { λ _. ⌜ now (area .exit) ≡ sets (now (area .entry)) at (utf8 (fitted size (map (changed change) (fromUtf8 (now (s .entry)))))) ⌝ }
 {
     if s.len() == size {
-        if change.from == change.to {
+        if replaces_none(change) {
             if at + size <= area.len() {
                 if ascii::ascii_bytes(&*s) {
                     ascii::copy_bytes(&*s, change.dots, change.slashes, area, at);
@@ -418,6 +412,5 @@ pub fn put_name(
         return at;
     }
     let change = change_of(name, slashes);
-    let next = put_prefix(name.operation, slashes, area, at);
-    put_source(&*payload, &*d2, name, change, area, next)
+    put_source(&*payload, &*d2, name, change, area, at)
 }

@@ -156,10 +156,6 @@ fn print_name(payload: &[u8], units: &[u16], name: Name) {
         print(b"absent");
         return;
     }
-    // "kotlin.collections."
-    if name.operation == 2 {
-        print(b"6b6f746c696e2e636f6c6c656374696f6e732e");
-    }
     let change = names::name::change_of(name, false);
     if source == 3 {
         print_units(units, start, end, change);

@@ -1,3 +1,4 @@
+pub mod EndsLaws
 pub mod PartLaws
 pub mod ShortLaws
 pub mod UnwrapLaws

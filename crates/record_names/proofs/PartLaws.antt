@@ -2,7 +2,7 @@
 -- Assumes nothing.
 use mathlib.Core.Path.{_≡_, refl, ap, sym, _∙_, subst}
 use mathlib.Core.Bool.{Bool, true, false, _&&_, _||_}
-use mathlib.Core.List.{List, [], _∷_, _++_}
+use mathlib.Core.List.{List, [], _∷_}
 use mathlib.Core.Option.{Option, none, some}
 use Prim.Native.Nat.{ℕ, _+_, _-_, _^_, _≤_, _<_}
 use native.Mathlib.Omega.{arith}
@@ -12,7 +12,7 @@ use denote.Enum.Declared.{tagOf}
 use lib.Dec.{eqb, leb, ltb}
 use lib.ListN.{length, drop, length-drop}
 use Rattle.foundation.specs.Choices.{if_then_else_, ifSome, isSome, mapOption, IfSome}
-use Rattle.foundation.specs.Texts.{Text, ascii}
+use Rattle.foundation.specs.Texts.{Text}
 use Rattle.foundation.proofs.ChoiceLaws.{and-left, and-right}
 use Rattle.messages.specs.told.Asked.{pieceTold, PieceInside, indexTold}
 use Rattle.wire.specs.declared.Piece.{Piece}
@@ -31,16 +31,19 @@ use Rattle.characters.specs.declared.Place.the-variants as place
 use Rattle.characters.proofs.TestLaws.{under}
 use Rattle.characters.proofs.SplitLaws.{place-within, substring-source}
 use Rattle.names.specs.Records as definition
-use Rattle.names.specs.Records.{baseText, textOf, predefinedText, substituted, replaceOf, dotted, operated, stepped}
-use Rattle.names.specs.told.Name.{predefinedList, sourceText, nameText, plain, absentName}
+use Rattle.names.specs.Records.{baseText, textOf, predefinedText, substituted, replaceOf, dotted, dollarsDotted, withoutEnds, operated, stepped}
+use Rattle.names.specs.told.Name.{predefinedList, turned, dropped, sourceText, nameText, plain, absentName}
 use Rattle.names.specs.told.RecordTold.{bothNumbers, recordTold}
 use Rattle.names.specs.told.Stream.{listedText, baseOf}
-use Rattle.record_names.specs.told.Steps.{SubstringTold, PieceFits, textIn, OfBytes, BaseTold, StepTold, known, withSteps}
+use Rattle.record_names.specs.told.Steps.{SubstringTold, PieceFits, textIn, OfBytes, BaseTold, StepTold, LeftTold, known, withSteps, turnedSteps}
 use Rattle.names.specs.declared.name.Name.{Name}
 use Rattle.names.specs.declared.records.Record.{Record}
 use Rattle.names.specs.declared.name.PredefinedPart.{PredefinedPart}
 use Rattle.names.specs.declared.name.PredefinedPart.the-variants as listed
 use Rattle.record_names.specs.declared.Extent.the-variants as extent
+use Rattle.record_names.specs.told.Ends.{EndsTold}
+use Rattle.record_names.proofs.EndsLaws.{steps-dropped}
+use Rattle.record_names.specs.declared.steps.Span.{Span}
 use Rattle.record_names.specs.declared.steps.Base.{Base}
 use Rattle.record_names.specs.declared.steps.Base.the-variants as base
 use Rattle.messages.proofs.repeated.Two.{the-type}
@@ -178,15 +181,54 @@ module _ (payload s : List ℕ) (source start end first last : ℕ) (p : 0 < sou
             (t .is ∙ ap (λ (x : List ℕ). some (fromUtf8 x)) f ∙ sym (source-is d2 (start + a) (start + b)));
       }
 
--- Replacement and operation.
-operated-known : (op : ℕ) (t : Text) → operated (known op) t ≡ operated op t
-unfolding operated
-operated-known op t = go (eqb op 1) (eqb op 2)
+-- The part that an operation leaves.
+module _ (payload : List ℕ) (source start end : ℕ) where
+  pub left-whole : (op : ℕ) → (op ≡ 2 → ⊥) → LeftTold payload source start end (dropped op) (record { start = start; end = end })
+  left-whole op f d2 = go (sourceText payload d2 (plain source start end))
+    where
+      go : (o : Option Text) → mapOption (dropped op) o ≡ o
+      go none = refl
+      go (some t) = rw (ne-eqb op 2 f)
+
+  pub left-inner : (op : ℕ) → op ≡ 2 → (r : Span) → LeftTold payload source start end withoutEnds r → LeftTold payload source start end (dropped op) r
+  left-inner op e r t d2 = go (sourceText payload d2 (plain source start end)) ∙ t d2
+    where
+      go : (o : Option Text) → mapOption (dropped op) o ≡ mapOption withoutEnds o
+      go none = refl
+      go (some u) = rw (eq-eqb op 2 e)
+
+  module _ (s : List ℕ) (p : 0 < source) (q : source ≤ 2) (e : s ≡ partFrom start end (baseOf source payload predefinedList)) where
+    text-of : (d2 : List ℕ) (a b : ℕ) → sourceText payload d2 (plain source a b) ≡ some (fromUtf8 (partFrom a b (baseOf source payload predefinedList)))
+    text-of d2 a b = source-bytes payload d2 (plain source a b) p (omega arith) λ z. omega arith
+
+    whole-of : (d2 : List ℕ) → sourceText payload d2 (plain source start end) ≡ some (fromUtf8 s)
+    whole-of d2 = text-of d2 start end ∙ ap (λ (l : List ℕ). some (fromUtf8 l)) (sym e)
+
+    pub inner-same : EndsTold s extent.Nothing → LeftTold payload source start end withoutEnds (record { start = start; end = end })
+    inner-same t d2 = ap (mapOption withoutEnds) (whole-of d2) ∙ ap some t ∙ sym (whole-of d2)
+
+    module _ {a b : ℕ} (t : EndsTold s (extent.Part a b)) where
+      pub inner-ends : (a ≤ b) × (b ≤ end - start)
+      inner-ends = (t .1, omega (arith, t .2, ap length e, part-short (baseOf source payload predefinedList) start end))
+
+      pub inner-cut : LeftTold payload source start end withoutEnds (record { start = start + a; end = start + b })
+      inner-cut d2 =
+          let l = baseOf source payload predefinedList in
+          let f : partFrom a b s ≡ partFrom (start + a) (start + b) l =
+          ap (partFrom a b) e ∙ part-part l start end a b (t .1) (subst (λ (x : List ℕ). b ≤ length x) e (t .2)) in
+          ap (mapOption withoutEnds) (whole-of d2)
+          ∙ ap some (t .0 ∙ ap fromUtf8 f)
+          ∙ sym (text-of d2 (start + a) (start + b))
+
+-- Replacement, and what an operation turns into dots.
+turned-known : (op : ℕ) (t : Text) → turned (known op) t ≡ turned op t
+unfolding turned
+turned-known op t = go (eqb op 1) (eqb op 2)
   where
     go : (a b : Bool)
         → (let k = if a then 1 else if b then 2 else 0 in
-        if eqb k 1 then dotted t else if eqb k 2 then ascii "kotlin.collections." ++ t else t)
-        ≡ (if a then dotted t else if b then ascii "kotlin.collections." ++ t else t)
+        if eqb k 1 then dotted t else if eqb k 2 then dollarsDotted t else t)
+        ≡ (if a then dotted t else if b then dollarsDotted t else t)
     go true b = refl
     go false true = refl
     go false false = refl
@@ -209,34 +251,34 @@ module _ (payload d2 : List ℕ) (source start end op : ℕ) where
   stepsOf from to k = record { source = source; start = start; end = end; from = from; to = to; operation = k; qualified = false; size = 0 }
 
   named-is : (from to : ℕ) {k : ℕ} → k ≡ known op
-      → nameText payload d2 (stepsOf from to k) ≡ mapOption (λ t. operated op (substituted from to t)) (sourceText payload d2 (plain source start end))
+      → nameText payload d2 (stepsOf from to k) ≡ mapOption (λ t. turned op (substituted from to t)) (sourceText payload d2 (plain source start end))
   unfolding nameText sourceText
   named-is from to e = rw e (go (sourceText payload d2 (plain source start end)))
     where
-      go : (o : Option Text) → mapOption (λ t. operated (known op) (substituted from to t)) o ≡ mapOption (λ t. operated op (substituted from to t)) o
+      go : (o : Option Text) → mapOption (λ t. turned (known op) (substituted from to t)) o ≡ mapOption (λ t. turned op (substituted from to t)) o
       go none = refl
-      go (some t) = ap some (operated-known op (substituted from to t))
+      go (some t) = ap some (turned-known op (substituted from to t))
 
   pub steps-none : (two : Two) → bothNumbers two ≡ none → {k : ℕ} → k ≡ known op
-      → nameText payload d2 (stepsOf 0 0 k) ≡ withSteps (bothNumbers two) op (sourceText payload d2 (plain source start end))
+      → nameText payload d2 (stepsOf 0 0 k) ≡ turnedSteps (bothNumbers two) op (sourceText payload d2 (plain source start end))
   steps-none two q e = named-is 0 0 e ∙ rw q (go (sourceText payload d2 (plain source start end)))
     where
-      go : (o : Option Text) → mapOption (λ t. operated op (substituted 0 0 t)) o ≡ withSteps none op o
+      go : (o : Option Text) → mapOption (λ t. turned op (substituted 0 0 t)) o ≡ turnedSteps none op o
       go none = refl
-      go (some t) = ap (λ (x : Text). some (operated op x)) (same-substituted t)
+      go (some t) = ap (λ (x : Text). some (turned op x)) (same-substituted t)
 
   module _ {two : Two} {a b : ℕ} (q : two ≡ Both a b) {scalars : Bool} (s : scalars ≡ isScalar a && isScalar b) where
     pub steps-both : scalars ≡ true → {k : ℕ} → k ≡ known op
-        → nameText payload d2 (stepsOf a b k) ≡ withSteps (bothNumbers two) op (sourceText payload d2 (plain source start end))
+        → nameText payload d2 (stepsOf a b k) ≡ turnedSteps (bothNumbers two) op (sourceText payload d2 (plain source start end))
     unfolding replaceOf
     steps-both t e = named-is a b e ∙ rw (q, ← s, t) (go (sourceText payload d2 (plain source start end)))
       where
-        go : (o : Option Text) → mapOption (λ t. operated op (substituted a b t)) o ≡ ifSome o none λ t. some (operated op (substituted a b t))
+        go : (o : Option Text) → mapOption (λ t. turned op (substituted a b t)) o ≡ ifSome o none λ t. some (turned op (substituted a b t))
         go none = refl
         go (some t) = refl
 
     pub steps-absent : scalars ≡ false → {n : Name} → n ≡ absentName
-        → nameText payload d2 n ≡ withSteps (bothNumbers two) op (sourceText payload d2 (plain source start end))
+        → nameText payload d2 n ≡ turnedSteps (bothNumbers two) op (sourceText payload d2 (plain source start end))
     unfolding replaceOf nameText sourceText
     steps-absent t e = rw (e, q, ← s, t) (go (sourceText payload d2 (plain source start end)))
       where
@@ -294,9 +336,15 @@ module _ (payload : List ℕ) (from : ℕ) (read : Record) (x : Base) (t : BaseT
       record-cut q e = rw (e, text-is told, part-is, q)
 
       pub record-built : {of a b : ℕ} → y ≡ base.Part of a b
-          → nameText payload d2 n ≡ withSteps (bothNumbers (read .replaced)) (read .operation) (sourceText payload d2 (plain of a b))
+          → (l : Span) → LeftTold payload of a b (dropped (read .operation)) l
+          → nameText payload d2 n ≡ turnedSteps (bothNumbers (read .replaced)) (read .operation) (sourceText payload d2 (plain of (l .start) (l .end)))
           → nameText payload d2 n ≡ textOf told
-      record-built q e = e ∙ sym (text-is told ∙ ap (withSteps (told .replaced) (told .operation)) (part-is ∙ ap (textIn payload d2) q))
+      record-built {of} {a} {b} q l left e =
+          let steps : Option Text → Option Text = turnedSteps (told .replaced) (told .operation) in
+          e
+          ∙ ap steps (sym (left d2))
+          ∙ sym (steps-dropped (told .replaced) (told .operation) (sourceText payload d2 (plain of a b)))
+          ∙ sym (text-is told ∙ ap (withSteps (told .replaced) (told .operation)) (part-is ∙ ap (textIn payload d2) q))
 
 -- Whether a record decides.
 module _ (string : Piece) (index : Indexed) (from : ℕ) (s : List ℕ) where

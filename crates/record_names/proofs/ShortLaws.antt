@@ -21,7 +21,7 @@ use Rattle.characters.specs.told.Places.{partFrom}
 use Rattle.characters.proofs.UnitLaws.{units-ended, units-cons}
 use Rattle.names.specs.Records.{recordOf, decides, predefinedText, baseText, operated, textOf}
 use Rattle.names.specs.told.RecordTold.{RecordTold}
-use Rattle.names.specs.told.Name.{sourceText, nameText, plain, absentName}
+use Rattle.names.specs.told.Name.{turned, sourceText, nameText, plain, absentName}
 use Rattle.names.specs.told.Stream.{listedText}
 use Rattle.record_names.specs.told.Steps.{BuiltTold}
 use Rattle.record_names.specs.told.Named.{PredefinedTold, NamedTold}
@@ -54,7 +54,7 @@ module _ {index : ℕ} {l : PredefinedPart} (e : listedText l ≡ predefinedText
   listed-absent g q = subst (PredefinedTold index) (sym q) record { bytes = (omega arith, refl, omega arith, omega arith, omega arith, refl); is = λ payload units. ap listedText (sym g) ∙ e }
 
   pub listed-named : {a b : ℕ} → l ≡ listed.Part a b → PredefinedTold index (plain 2 a b)
-  unfolding nameText sourceText operated
+  unfolding nameText sourceText turned
   listed-named {a} {b} g = record {
     bytes = (omega arith, refl, omega arith, omega arith, omega arith, refl);
     is = λ payload units. ap some (same-substituted _) ∙ ap listedText (sym g) ∙ e;

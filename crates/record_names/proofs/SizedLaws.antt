@@ -18,8 +18,8 @@ use Rattle.characters.proofs.UnitLaws.{units-ended}
 use Rattle.characters.proofs.TestLaws.{below}
 use Rattle.names.proofs.NameLaws.{part-rest, source-bytes, source-absent, absent-bytes}
 use Rattle.names.proofs.FittedLaws.{sized-is}
-use Rattle.names.specs.Records.{substituted, operated}
-use Rattle.names.specs.told.Name.{predefinedList, sourceText, steppedBy, nameText}
+use Rattle.names.specs.Records.{substituted}
+use Rattle.names.specs.told.Name.{predefinedList, turned, sourceText, steppedBy, nameText}
 use Rattle.names.specs.told.Stream.{baseOf, nameBytes}
 use Rattle.names.specs.declared.name.Name.{Name}
 use Rattle.record_names.specs.told.Steps.{BytesName}
@@ -84,7 +84,7 @@ source-kept bytes d2 n size = refl
 
 unstepped-size : (bytes : List ℕ) (n : Name) → n .operation ≡ 0 → n .qualified ≡ false → n .size ≡ 0 → (t : Text) → sourceText bytes [] n ≡ some t
     → 0 + length (nameBytes bytes [] n false) ≡ length (utf8 (substituted (n .from) (n .to) t))
-unfolding nameBytes nameText operated
+unfolding nameBytes nameText turned
 unstepped-size bytes n o q z t e = rw (e, o, q, z) (omega arith)
 
 -- A name says the same with its size.

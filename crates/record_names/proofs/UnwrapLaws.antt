@@ -9,10 +9,10 @@ use native.Mathlib.Nat.{le-refl}
 use native.Mathlib.Omega.{arith}
 use borrow.Author.Tests.{eq-eqb, ne-eqb, eqb-true, eqb-false}
 use lib.Dec.{eqb}
-use lib.ListN.{length, take, drop, length-drop, drop-of-length-le}
+use lib.ListN.{length, take, drop}
 use Rattle.foundation.specs.Choices.{if_then_else_, ifSome, mapOption}
 use Rattle.foundation.specs.Texts.{Text}
-use Rattle.characters.specs.Characters.{width, utf8Of, utf8, fromUtf8After, fromUtf8}
+use Rattle.characters.specs.Characters.{width, utf8Of, utf8, fromUtf8}
 use Rattle.characters.specs.told.Places.{partFrom}
 use Rattle.characters.specs.told.CharactersTold.{utf8At}
 use Rattle.characters.specs.told.Plain.{instead}
@@ -20,21 +20,22 @@ use Rattle.characters.specs.declared.Character.{Character}
 use Rattle.characters.specs.declared.Character.the-variants.{Read, End}
 use Rattle.characters.proofs.TestLaws.{below}
 use Rattle.foundation.proofs.EveryLaws.{map-twice}
-use Rattle.characters.proofs.CharacterLaws.{utf8-none, utf8-end, utf8-inside, utf8-next}
-use Rattle.characters.proofs.SplitLaws.{Boundary, boundary-start, boundary-next, boundary-text}
+use Rattle.characters.proofs.CharacterLaws.{utf8-end, utf8-inside}
 use Rattle.characters.proofs.LengthLaws.{bytes-cons, bytes-append}
-use Rattle.characters.proofs.PartLaws.{part-part, part-short, rest-is}
-use Rattle.names.specs.Records.{substituted, dotted, operated}
+use Rattle.characters.proofs.PartLaws.{part-part, part-short}
+use Rattle.names.specs.Records.{substituted, dotted, dollarsDotted}
 use Rattle.names.specs.Names.{withoutLast, unwrapped}
-use Rattle.names.specs.told.Name.{predefinedList, sourceText, nameText, plain}
+use Rattle.names.specs.told.Name.{predefinedList, turned, sourceText, nameText, plain}
 use Rattle.names.specs.told.Stream.{baseOf}
 use Rattle.record_names.specs.told.Steps.{BytesName}
-use Rattle.record_names.specs.told.ClassNames.{LastTold, sizeWith, UnwrapTold, qualifiedPart, classText, ClassTold}
+use Rattle.record_names.specs.told.Ends.{LastTold}
+use Rattle.record_names.specs.told.ClassNames.{sizeWith, UnwrapTold, qualifiedPart, classText, ClassTold}
 use Rattle.names.specs.declared.name.Name.{Name}
-use Rattle.record_names.specs.declared.class_name.Last.{Last}
-use Rattle.record_names.specs.declared.class_name.Last.the-variants as last
+use Rattle.record_names.specs.declared.ends.Last.{Last}
+use Rattle.record_names.specs.declared.ends.Last.the-variants as last
 use Rattle.record_names.specs.declared.Extent.the-variants as extent
 use Rattle.names.proofs.NameLaws.{source-bytes}
+use Rattle.record_names.proofs.EndsLaws.{first-text, single-text, whole-text, place-inside}
 
 -- A text by its last character.
 without-snoc : (c : ℕ) (t : Text) (a : ℕ) → withoutLast c (t ++ (a ∷ [])) ≡ (if eqb a c then some t else none)
@@ -92,91 +93,67 @@ instead-ind P from to c p q = go (eqb c from) refl
     go true e = p (eqb-true c from e)
     go false e = q (eqb-false c from e)
 
+-- what becomes a dot is another character than k, before and after
+other-keeps : (k c : ℕ) {e : ℕ} → (0x2e ≡ k → ⊥) → c ≡ e → (e ≡ k → ⊥) → eqb 0x2e k ≡ eqb c k
+other-keeps k c h p q = ne-eqb 0x2e k h ∙ sym (ne-eqb c k λ z. q (sym p ∙ z))
+
+dollar-keeps : (k c : ℕ) → (0x2e ≡ k → ⊥) → (0x24 ≡ k → ⊥) → eqb (instead 0x24 0x2e c) k ≡ eqb c k
+dollar-keeps k c h j = instead-ind (λ d. eqb d k ≡ eqb c k) 0x24 0x2e c (λ e. other-keeps k c h e j) λ n. refl
+
 dot-keeps : (k c : ℕ) → (0x2e ≡ k → ⊥) → (0x2f ≡ k → ⊥) → (0x24 ≡ k → ⊥) → eqb (dot c) k ≡ eqb c k
 dot-keeps k c h i j =
-    instead-ind (λ d. eqb (instead 0x2f 0x2e d) k ≡ eqb c k) 0x24 0x2e c (λ e. other e j) λ n.
-    instead-ind (λ d. eqb d k ≡ eqb c k) 0x2f 0x2e c (λ e. other e i) λ m. refl
-  where
-    other : {e : ℕ} → c ≡ e → (e ≡ k → ⊥) → eqb 0x2e k ≡ eqb c k
-    other p q = ne-eqb 0x2e k h ∙ sym (ne-eqb c k λ z. q (sym p ∙ z))
+    instead-ind (λ d. eqb (instead 0x2f 0x2e d) k ≡ eqb c k) 0x24 0x2e c (λ e. other-keeps k c h e j) λ n.
+    instead-ind (λ d. eqb d k ≡ eqb c k) 0x2f 0x2e c (λ e. other-keeps k c h e i) λ m. refl
 
-dot-last : (t : Text) → withoutLast 0x3b (map dot t) ≡ mapOption (map dot) (withoutLast 0x3b t)
-unfolding withoutLast
-dot-last [] = refl
-dot-last (a ∷ []) =
-    ap (λ (b : Bool). if b then some [] else none) (dot-keeps 0x3b a (λ z. omega arith) (λ z. omega arith) λ z. omega arith) ∙ go (eqb a 0x3b)
-  where
-    go : (b : Bool) → (if b then some [] else none) ≡ mapOption (map dot) (if b then some [] else none)
-    go true = refl
-    go false = refl
-dot-last (a ∷ b ∷ t) = ap (mapOption λ u. dot a ∷ u) (dot-last (b ∷ t)) ∙ go (withoutLast 0x3b (b ∷ t))
-  where
-    go : (o : Option Text) → mapOption (λ u. dot a ∷ u) (mapOption (map dot) o) ≡ mapOption (map dot) (mapOption (λ u. a ∷ u) o)
-    go none = refl
-    go (some u) = refl
+-- A change of characters that leaves L and ; where they are.
+module _ (f : ℕ → ℕ) (opens : (c : ℕ) → eqb (f c) 0x4c ≡ eqb c 0x4c) (closes : (c : ℕ) → eqb (f c) 0x3b ≡ eqb c 0x3b) where
+  map-last : (t : Text) → withoutLast 0x3b (map f t) ≡ mapOption (map f) (withoutLast 0x3b t)
+  unfolding withoutLast
+  map-last [] = refl
+  map-last (a ∷ []) = ap (λ (b : Bool). if b then some [] else none) (closes a) ∙ go (eqb a 0x3b)
+    where
+      go : (b : Bool) → (if b then some [] else none) ≡ mapOption (map f) (if b then some [] else none)
+      go true = refl
+      go false = refl
+  map-last (a ∷ b ∷ t) = ap (mapOption λ u. f a ∷ u) (map-last (b ∷ t)) ∙ go (withoutLast 0x3b (b ∷ t))
+    where
+      go : (o : Option Text) → mapOption (λ u. f a ∷ u) (mapOption (map f) o) ≡ mapOption (map f) (mapOption (λ u. a ∷ u) o)
+      go none = refl
+      go (some u) = refl
 
-unwrap-map : (t : Text) → unwrapped (map dot t) ≡ map dot (unwrapped t)
-unwrap-map [] = refl
-unwrap-map (c ∷ t) =
-    rw (dot-keeps 0x4c c (λ z. omega arith) (λ z. omega arith) λ z. omega arith, dot-last t) (go (eqb c 0x4c) (withoutLast 0x3b t))
-  where
-    go : (b : Bool) (o : Option Text)
-        → (if b then ifSome (mapOption (map dot) o) (dot c ∷ map dot t) (λ u. u) else dot c ∷ map dot t)
-        ≡ map dot (if b then ifSome o (c ∷ t) (λ u. u) else c ∷ t)
-    go true none = refl
-    go true (some u) = refl
-    go false o = refl
+  unwrap-map : (t : Text) → unwrapped (map f t) ≡ map f (unwrapped t)
+  unwrap-map [] = refl
+  unwrap-map (c ∷ t) = rw (opens c, map-last t) (go (eqb c 0x4c) (withoutLast 0x3b t))
+    where
+      go : (b : Bool) (o : Option Text)
+          → (if b then ifSome (mapOption (map f) o) (f c ∷ map f t) (λ u. u) else f c ∷ map f t)
+          ≡ map f (if b then ifSome o (c ∷ t) (λ u. u) else c ∷ t)
+      go true none = refl
+      go true (some u) = refl
+      go false o = refl
 
 unwrap-dotted : (t : Text) → unwrapped (dotted t) ≡ dotted (unwrapped t)
-unwrap-dotted t = ap unwrapped (dotted-map t) ∙ unwrap-map t ∙ sym (dotted-map (unwrapped t))
+unwrap-dotted t =
+    ap unwrapped (dotted-map t)
+    ∙ unwrap-map dot (λ c. dot-keeps 0x4c c (λ z. omega arith) (λ z. omega arith) λ z. omega arith)
+    (λ c. dot-keeps 0x3b c (λ z. omega arith) (λ z. omega arith) λ z. omega arith) t
+    ∙ sym (dotted-map (unwrapped t))
 
--- An operation that puts nothing in front.
-unwrap-operated : (op : ℕ) → (op ≡ 2 → ⊥) → (t : Text) → unwrapped (operated op t) ≡ operated op (unwrapped t)
-unfolding operated
-unwrap-operated op h t = rw (ne-eqb op 2 h) (go (eqb op 1))
+unwrap-dollars : (t : Text) → unwrapped (dollarsDotted t) ≡ dollarsDotted (unwrapped t)
+unwrap-dollars =
+    unwrap-map (instead 0x24 0x2e) (λ c. dollar-keeps 0x4c c (λ z. omega arith) λ z. omega arith) λ c. dollar-keeps 0x3b c (λ z. omega arith) λ z. omega arith
+
+unwrap-turned : (op : ℕ) (t : Text) → unwrapped (turned op t) ≡ turned op (unwrapped t)
+unfolding turned
+unwrap-turned op t = go (eqb op 1) (eqb op 2)
   where
-    go : (b : Bool) → unwrapped (if b then dotted t else t) ≡ (if b then dotted (unwrapped t) else unwrapped t)
-    go true = unwrap-dotted t
-    go false = refl
-
-unwrap-prefixed : (op : ℕ) → op ≡ 2 → (t : Text) → unwrapped (operated op t) ≡ operated op t
-unfolding operated
-unwrap-prefixed op h t = rw h
-
--- The last character of some bytes.
-module _ (s : List ℕ) where
-  -- a place where a character begins, before the end of bytes that there are
-  pub record Begins (at : ℕ) : Type 0 where
-    pub inside : 0 < length s → at < length s
-    pub boundary : Boundary s at
-
-  pub begins-start : Begins 0
-  begins-start = record { inside = λ h. h; boundary = boundary-start s }
-
-  module _ (at : ℕ) (i : Begins at) where
-    pub begins-end : length s ≤ at → s ≡ []
-    begins-end h = go s (λ l. omega (arith, i .inside l))
-      where
-        go : (l : List ℕ) → (0 < length l → ⊥) → l ≡ []
-        go [] f = refl
-        go (b ∷ l) f = absurd (f (omega arith))
-
-    pub begins-never : at < length s → utf8At at (drop at s) ≡ End → s ≡ []
-    begins-never h e =
-        let z : length (drop at s) ≡ 0 = ap length (utf8-none s at e) in
-        absurd (omega (arith, length-drop at s))
-
-    module _ {code next : ℕ} (e : utf8At at (drop at s) ≡ Read code next) where
-      pub begins-next : next < length s → Begins next
-      begins-next h = record { inside = λ l. h; boundary = boundary-next s (i .boundary) e }
-
-      pub last-is : length s ≤ next → LastTold s (last.Character at code)
-      unfolding fromUtf8After
-      last-is h =
-          let z : drop next s ≡ [] = drop-of-length-le s h in (
-            boundary-text s (i .boundary) ∙ ap (λ (t : Text). fromUtf8 (take at s) ++ t) (utf8-next s at e ∙ ap (λ (bs : List ℕ). code ∷ fromUtf8 bs) z),
-            omega (arith, utf8-inside s at e),
-          )
+    go : (a b : Bool)
+        → unwrapped (if a then dotted t else if b then dollarsDotted t else t)
+        ≡ (let u = unwrapped t in
+        if a then dotted u else if b then dollarsDotted u else u)
+    go true b = unwrap-dotted t
+    go false true = unwrap-dollars t
+    go false false = refl
 
 -- Bytes without L and ;.
 substituted-append : (from to : ℕ) (t u : Text) → substituted from to (t ++ u) ≡ substituted from to t ++ substituted from to u
@@ -193,44 +170,26 @@ module _ (s : List ℕ) (from to : ℕ) where
   unwrap-empty e = ap (λ (t : Text). unwrapped (substituted from to t)) (utf8-end s 0 e) ∙ ap (substituted from to) (sym (utf8-end s 0 e))
 
   module _ {code next : ℕ} (e : utf8At 0 (drop 0 s) ≡ Read code next) {c : ℕ} (p : c ≡ instead from to code) where
-    pub next-inside : next ≤ length s
-    next-inside = utf8-inside s 0 e .1
-
-    text : fromUtf8 s ≡ code ∷ fromUtf8 (drop next s)
-    text = utf8-next s 0 e
-
     -- the whole, if its text stays
     stays : {t : Text} → fromUtf8 s ≡ t → unwrapped (substituted from to t) ≡ substituted from to t → UnwrapTold s from to extent.Nothing
     stays q f = rw q f
 
     pub unwrap-other : (c ≡ 0x4c → ⊥) → UnwrapTold s from to extent.Nothing
-    unwrap-other h = stays text (unwrap-first (instead from to code) (substituted from to (fromUtf8 (drop next s))) λ z. h (p ∙ z))
+    unwrap-other h = stays (first-text s e) (unwrap-first (instead from to code) (substituted from to (fromUtf8 (drop next s))) λ z. h (p ∙ z))
 
     module _ (r : Last) (t : LastTold (partFrom next (length s) s) r) where
-      rest : LastTold (drop next s) r
-      rest = subst (λ (bs : List ℕ). LastTold bs r) (rest-is s next) t
-
       pub unwrap-single : r ≡ last.Nothing → UnwrapTold s from to extent.Nothing
-      unfolding fromUtf8After
-      unwrap-single g =
-          let z : drop next s ≡ [] = subst (LastTold (drop next s)) g rest in
-          stays (text ∙ ap (λ (bs : List ℕ). code ∷ fromUtf8 bs) z) (unwrap-alone (instead from to code))
+      unwrap-single g = stays (single-text s e r t g) (unwrap-alone (instead from to code))
 
       module _ {place l : ℕ} (g : r ≡ last.Character place l) {d : ℕ} (q : d ≡ instead from to l) where
-        ends : LastTold (drop next s) (last.Character place l)
-        ends = subst (LastTold (drop next s)) g rest
-
         abbrev middle : Text
         middle = fromUtf8 (take place (drop next s))
 
         whole : fromUtf8 s ≡ code ∷ (middle ++ (l ∷ []))
-        whole = text ∙ ap (λ (u : Text). code ∷ u) (ends .0)
+        whole = whole-text s e r t g
 
         changed : substituted from to (code ∷ (middle ++ (l ∷ []))) ≡ instead from to code ∷ (substituted from to middle ++ (instead from to l ∷ []))
         changed = ap (λ (u : Text). instead from to code ∷ u) (substituted-append from to middle (l ∷ []))
-
-        pub place-inside : next + place ≤ length s
-        place-inside = omega (arith, ends .1, length-drop next s, next-inside)
 
         pub unwrap-open : (d ≡ 0x3b → ⊥) → UnwrapTold s from to extent.Nothing
         unwrap-open h =
@@ -256,7 +215,7 @@ module _ (s : List ℕ) (from to : ℕ) where
                   ∙ unwrap-both (instead from to code) (substituted from to middle) (instead from to l) (sym p ∙ h) (sym q ∙ k)
                   ∙ ap (λ (n : ℕ). substituted from to (fromUtf8 (take n (drop next s)))) (sym z),
               omega arith,
-              place-inside,
+              place-inside s e r t g,
               omega (arith, utf8-inside s 0 e .0),
               closed-size h k ∙ ap (λ (n : ℕ). sizeWith from to (take n (drop next s)) + 2) (sym z),
             )
@@ -264,13 +223,13 @@ module _ (s : List ℕ) (from to : ℕ) where
 -- The class name of a name made of bytes.
 module _ (payload : List ℕ) (n : Name) (b : BytesName n) where
   -- the same part: the text stays under L and ;
-  text-of : (d2 : List ℕ) → nameText payload d2 n ≡ mapOption (λ t. operated (n .operation) (substituted (n .from) (n .to) t)) (sourceText payload d2 n)
+  text-of : (d2 : List ℕ) → nameText payload d2 n ≡ mapOption (λ t. turned (n .operation) (substituted (n .from) (n .to) t)) (sourceText payload d2 n)
   unfolding nameText
   text-of d2 = rw (b .1, b .5)
 
   class-of : (d2 : List ℕ) (a e : ℕ)
       → nameText payload d2 (qualifiedPart n a e)
-      ≡ mapOption (λ t. dotted (operated (n .operation) (substituted (n .from) (n .to) t))) (sourceText payload d2 (plain (n .source) a e))
+      ≡ mapOption (λ t. dotted (turned (n .operation) (substituted (n .from) (n .to) t))) (sourceText payload d2 (plain (n .source) a e))
   unfolding nameText sourceText
   class-of d2 a e = refl
 
@@ -283,14 +242,14 @@ module _ (payload : List ℕ) (n : Name) (b : BytesName n) where
 
   -- from a law of the text to one of the name
   class-law : (d2 : List ℕ) (a e : ℕ) (o p : Option Text) → sourceText payload d2 n ≡ o → sourceText payload d2 (plain (n .source) a e) ≡ p
-      → mapOption (λ t. dotted (operated (n .operation) (substituted (n .from) (n .to) t))) p
-      ≡ mapOption (λ t. dotted (unwrapped (operated (n .operation) (substituted (n .from) (n .to) t)))) o
+      → mapOption (λ t. dotted (turned (n .operation) (substituted (n .from) (n .to) t))) p
+      ≡ mapOption (λ t. dotted (unwrapped (turned (n .operation) (substituted (n .from) (n .to) t)))) o
       → nameText payload d2 (qualifiedPart n a e) ≡ classText (nameText payload d2 n)
   class-law d2 a e o p q r f =
-      class-of d2 a e ∙ ap (mapOption λ t. dotted (operated (n .operation) (substituted (n .from) (n .to) t))) r
+      class-of d2 a e ∙ ap (mapOption λ t. dotted (turned (n .operation) (substituted (n .from) (n .to) t))) r
       ∙ f
-      ∙ sym (map-twice (λ t. operated (n .operation) (substituted (n .from) (n .to) t)) (λ u. dotted (unwrapped u)) o)
-      ∙ ap (λ (x : Option Text). classText (mapOption (λ t. operated (n .operation) (substituted (n .from) (n .to) t)) x)) (sym q)
+      ∙ sym (map-twice (λ t. turned (n .operation) (substituted (n .from) (n .to) t)) (λ u. dotted (unwrapped u)) o)
+      ∙ ap (λ (x : Option Text). classText (mapOption (λ t. turned (n .operation) (substituted (n .from) (n .to) t)) x)) (sym q)
       ∙ ap classText (sym (text-of d2))
 
   -- made of the same part
@@ -302,23 +261,11 @@ module _ (payload : List ℕ) (n : Name) (b : BytesName n) where
     size = rw (e, eq-eqb (n .start) (n .start) refl) (omega arith);
   }
 
-  prefixed-is : n .operation ≡ 2 → {r : Name} → r ≡ qualifiedPart n (n .start) (n .end) → (d2 : List ℕ) → nameText payload d2 r ≡ classText (nameText payload d2 n)
-  prefixed-is h e d2 = rw e (class-law d2 (n .start) (n .end) (sourceText payload d2 n) (sourceText payload d2 n) refl (sym (same-source d2)) (go (sourceText payload d2 n)))
-    where
-      go : (o : Option Text)
-          → mapOption (λ t. dotted (operated (n .operation) (substituted (n .from) (n .to) t))) o
-          ≡ mapOption (λ t. dotted (unwrapped (operated (n .operation) (substituted (n .from) (n .to) t)))) o
-      go none = refl
-      go (some t) = ap (λ (u : Text). some (dotted u)) (sym (unwrap-prefixed (n .operation) h (substituted (n .from) (n .to) t)))
-
-  pub class-prefixed : n .operation ≡ 2 → {r : Name} → r ≡ qualifiedPart n (n .start) (n .end) → ClassTold payload n r
-  class-prefixed h e = told-same e (prefixed-is h e)
-
-  -- with no text in front: nothing for a name that is absent, else by the text of its bytes
+  -- nothing for a name that is absent, else by the text of its bytes
   abbrev textAt : ℕ → ℕ → Text
   textAt a e = fromUtf8 (partFrom a e (baseOf (n .source) payload predefinedList))
 
-  module _ (h : n .operation ≡ 2 → ⊥) (a e : ℕ)
+  module _ (a e : ℕ)
       (f : unwrapped (substituted (n .from) (n .to) (textAt (n .start) (n .end))) ≡ substituted (n .from) (n .to) (textAt a e)) where
     class-there : (d2 : List ℕ) → 0 < n .source → nameText payload d2 (qualifiedPart n a e) ≡ classText (nameText payload d2 n)
     class-there d2 g =
@@ -326,7 +273,7 @@ module _ (payload : List ℕ) (n : Name) (b : BytesName n) where
         source-bytes payload d2 (plain (n .source) x y) g (omega (arith, b .0)) (λ z. omega (arith, b .0)) in
         class-law d2 a e (some (textAt (n .start) (n .end))) (some (textAt a e)) (same-source d2 ∙ source (n .start) (n .end)) (source a e)
         (ap (λ (u : Text). some (dotted u))
-        (sym (unwrap-operated (n .operation) h (substituted (n .from) (n .to) (textAt (n .start) (n .end))) ∙ ap (operated (n .operation)) f)))
+        (sym (unwrap-turned (n .operation) (substituted (n .from) (n .to) (textAt (n .start) (n .end))) ∙ ap (turned (n .operation)) f)))
 
     class-absent : (d2 : List ℕ) → n .source ≡ 0 → nameText payload d2 (qualifiedPart n a e) ≡ classText (nameText payload d2 n)
     unfolding sourceText
@@ -335,10 +282,10 @@ module _ (payload : List ℕ) (n : Name) (b : BytesName n) where
     class-made : {r : Name} → r ≡ qualifiedPart n a e → (d2 : List ℕ) → nameText payload d2 r ≡ classText (nameText payload d2 n)
     class-made q d2 = rw q (below 1 (n .source) (λ l. class-absent d2 (omega arith)) λ l. class-there d2 (omega arith))
 
-  module _ (h : n .operation ≡ 2 → ⊥) (s : List ℕ) (e : s ≡ partFrom (n .start) (n .end) (baseOf (n .source) payload predefinedList)) where
+  module _ (s : List ℕ) (e : s ≡ partFrom (n .start) (n .end) (baseOf (n .source) payload predefinedList)) where
     pub class-stays : UnwrapTold s (n .from) (n .to) extent.Nothing → {r : Name} → r ≡ qualifiedPart n (n .start) (n .end) → ClassTold payload n r
     class-stays t q =
-        told-same q (class-made h (n .start) (n .end) (subst (λ (bs : List ℕ). UnwrapTold bs (n .from) (n .to) extent.Nothing) e t) q)
+        told-same q (class-made (n .start) (n .end) (subst (λ (bs : List ℕ). UnwrapTold bs (n .from) (n .to) extent.Nothing) e t) q)
 
     module _ {i j : ℕ} (t : UnwrapTold s (n .from) (n .to) (extent.Part i j)) where
       pub class-ends : (i ≤ j) × (j ≤ n .end - n .start)
@@ -352,7 +299,7 @@ module _ (payload : List ℕ) (n : Name) (b : BytesName n) where
           let c = class-ends in
           record {
             part = rw q;
-            is = class-made h (n .start + i) (n .start + j) (u .0 ∙ ap (λ (bs : List ℕ). substituted (n .from) (n .to) (fromUtf8 bs)) p) q;
+            is = class-made (n .start + i) (n .start + j) (u .0 ∙ ap (λ (bs : List ℕ). substituted (n .from) (n .to) (fromUtf8 bs)) p) q;
             inside = λ o. rw q (omega (arith, c .0, c .1), omega (arith, c .1));
             size =
                 rw (q, ne-eqb (n .start + i) (n .start) (λ z. omega (arith, u .3)))

@@ -1,4 +1,5 @@
 pub mod Note
+pub mod Ends
 pub mod Steps
 pub mod ClassNames
 pub mod Named

@@ -2,37 +2,16 @@
 // `unwrapped`; how the answers tell it: specs/told/ClassNames.antt.
 ghost use mathlib.Core.Path.{_≡_};
 ghost use Rattle.record_names.specs.told.Steps.{BytesName};
-ghost use Rattle.record_names.specs.told.ClassNames.{LastTold, UnwrapTold, qualifiedPart, ClassTold};
+ghost use Rattle.record_names.specs.told.ClassNames.{UnwrapTold, qualifiedPart, ClassTold};
 use crate::Extent;
+use crate::ends::Last;
+use crate::ends::last_of;
 use characters::Character;
 use characters::utf8_at;
 use names::name::Name;
 use names::name::PREDEFINED;
 use names::name::base_part;
 use names::name::instead;
-
-enum Last {
-    Character { place: usize, code: u32 },
-    Nothing,
-}
-
-// The last character of some bytes' text, and where it begins.
-fn last_of(s: &[u8]) -> Last
-    ensures { λ r. ⌜ LastTold (now (s .entry)) r ⌝ }
-{
-    let mut at = 0;
-    while at < s.len() {
-        let character = utf8_at(&*s, at);
-        let Character::Read { code, next } = character else {
-            return Last::Nothing;
-        };
-        if s.len() <= next {
-            return Last::Character { place: at, code };
-        }
-        at = next;
-    }
-    Last::Nothing
-}
 
 // The part between a leading L and a trailing ; of some bytes' text, every character `from` become `to`.
 fn unwrapped_part(s: &[u8], from: u32, to: u32) -> Extent
@@ -74,7 +53,7 @@ fn qualified_part(name: Name, start: usize, end: usize) -> Name
     }
 }
 
-// The class name of a record's name, when the record is worked out. What operation 2 puts in front begins with no L.
+// The class name of a record's name, when the record is worked out.
 pub(crate) fn qualified_bytes(payload: &[u8], name: Name) -> Name
     requires { ⌜ BytesName name ⌝ }
     ensures { λ r. ⌜ ClassTold (now (payload .entry)) name r ⌝ }
@@ -82,9 +61,6 @@ pub(crate) fn qualified_bytes(payload: &[u8], name: Name) -> Name
     let source = name.source;
     let start = name.start;
     let end = name.end;
-    if name.operation == 2 {
-        return qualified_part(name, start, end);
-    }
     let s = base_part(&*payload, &PREDEFINED, source, start, end);
     let part = unwrapped_part(s, name.from, name.to);
     let Extent::Part { start: a, end: b } = part else {

@@ -6,6 +6,7 @@ ghost use lib.ListN.{length};
 ghost use Rattle.record_names.specs.told.Named.{PredefinedTold, NamedTold, RecordWords};
 
 mod class_name; // class_name.rt: a record's class name
+mod ends; // ends.rt: the first and the last character of a text
 pub mod note; // note.rt: what a record builds, in two words
 mod sized; // sized.rt: a record's name with its size
 mod steps; // steps.rt: the name that a record builds

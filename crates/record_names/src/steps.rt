@@ -8,10 +8,12 @@ ghost use Rattle.messages.specs.told.Asked.{pieceTold, indexTold};
 ghost use Rattle.foundation.specs.Choices.{isSome};
 ghost use Rattle.characters.specs.Characters.{isScalar};
 ghost use Rattle.characters.specs.Splits.{substringOf};
-ghost use Rattle.names.specs.Records.{stepped};
+ghost use Rattle.names.specs.Records.{stepped, withoutEnds};
+ghost use Rattle.names.specs.told.Name.{dropped};
 ghost use Rattle.names.specs.told.RecordTold.{bothNumbers};
-ghost use Rattle.record_names.specs.told.Steps.{known, SubstringTold, PieceFits, BaseTold, StepTold, StepsTold, BuiltTold};
+ghost use Rattle.record_names.specs.told.Steps.{known, SubstringTold, PieceFits, BaseTold, StepTold, LeftTold, StepsTold, BuiltTold};
 use crate::Extent;
+use crate::ends::without_ends;
 use characters::Place;
 use characters::find_place;
 use foundation::wide;
@@ -134,7 +136,7 @@ fn are_scalars(a: u32, b: u32) -> bool
     false
 }
 
-// A part with the replacement and the operation of a record. It is absent if either number is no character.
+// A part with the replacement of a record, and with what its operation turns into dots. It is absent if either number is no character.
 fn with_steps(source: u8, start: usize, end: usize, replaced: Two, operation: u64) -> Name
     ensures { λ r. ⌜ StepsTold source start end (bothNumbers replaced) operation r ⌝ }
 {
@@ -179,6 +181,40 @@ fn substring_of(payload: &[u8], source: u8, start: usize, end: usize, numbers: T
     }
 }
 
+// Two places in a source.
+struct Span {
+    start: usize,
+    end: usize,
+}
+
+// The part of a part that is left of its text without the first and the last character, if it has two or more.
+fn inner_part(payload: &[u8], source: u8, start: usize, end: usize) -> Span
+    requires { ⌜ (0 < source) × (source ≤ 2) ⌝ }
+    ensures { λ r. ⌜ LeftTold (now (payload .entry)) source start end withoutEnds r ⌝ }
+{
+    let s = base_part(&*payload, &PREDEFINED, source, start, end);
+    let part = without_ends(s);
+    let Extent::Part { start: a, end: b } = part else {
+        return Span { start, end };
+    };
+    Span {
+        start: start + a,
+        end: start + b,
+    }
+}
+
+// The part that a record's operation leaves: operation 2 drops the first and the last character, here and once, so that no look-up walks to
+// the last. A replacement neither adds nor drops a character, so this can be done before it.
+fn left_part(payload: &[u8], source: u8, start: usize, end: usize, operation: u64) -> Span
+    requires { ⌜ (0 < source) × (source ≤ 2) ⌝ }
+    ensures { λ r. ⌜ LeftTold (now (payload .entry)) source start end (dropped operation) r ⌝ }
+{
+    if operation == 2 {
+        return inner_part(&*payload, source, start, end);
+    }
+    Span { start, end }
+}
+
 // The name that a record builds whose message begins at `from`. Public for the crate's root alone, which has read the record there, so that
 // the sums of places fit.
 pub(crate) fn record_name(payload: &[u8], from: usize, read: Record) -> Name
@@ -202,7 +238,8 @@ pub(crate) fn record_name(payload: &[u8], from: usize, read: Record) -> Name
     else {
         return absent();
     };
-    with_steps(of, a, b, replaced, read.operation)
+    let left = left_part(&*payload, of, a, b, read.operation);
+    with_steps(of, left.start, left.end, replaced, read.operation)
 }
 
 fn is_index(index: Indexed) -> bool

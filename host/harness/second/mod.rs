@@ -35,6 +35,8 @@ pub struct Reading {
     pub ranges: u64,
     /// Whether the body could be cut into its fields and holds a type alias, named or not.
     pub aliases: bool,
+    /// Whether a record of the name table that decides its indices has operation 2.
+    pub descriptor_operation: bool,
 }
 
 /// The reading apart from the areas.
@@ -46,6 +48,7 @@ pub fn read(input: &Input) -> Reading {
         record_bytes: 0,
         ranges: 0,
         aliases: false,
+        descriptor_operation: false,
     };
     if let Some(number) = limits::before_reading(input) {
         reading.whole = Whole::refused(number, 0);

@@ -37,7 +37,9 @@ impl<'a> Names<'a> {
         let mut records = Vec::new();
         let mut served = 0u64;
         for message in table.messages(1)? {
-            records.push(Record::of(&message, served));
+            let record = Record::of(&message, served);
+            reading.descriptor_operation |= record.decides() && record.operation == 2;
+            records.push(record);
             let range = range_of(&message);
             let length = message.bytes(6).map_or(0, <[u8]>::len) as u64;
             reading.record_bytes += range * (length + 100);
@@ -51,7 +53,7 @@ impl<'a> Names<'a> {
 
     pub fn string(&self, index: u32) -> Option<String> {
         if let Some(record) = self.record(index) {
-            if record.string.is_some() || record.predefined.is_some() {
+            if record.decides() {
                 let text = record.text();
                 if text.is_some() || !planted(Mistake::FallsToStrings) {
                     return text;
@@ -125,6 +127,10 @@ impl<'a> Record<'a> {
         }
     }
 
+    fn decides(&self) -> bool {
+        self.string.is_some() || self.predefined.is_some()
+    }
+
     fn text(&self) -> Option<String> {
         let predefined = || Some(PREDEFINED.split('\n').nth(self.predefined? as usize)?.to_string());
         let raw = self.string.filter(|_| self.predefined.is_none() || !planted(Mistake::PredefinedFirst));
@@ -151,10 +157,31 @@ impl<'a> Record<'a> {
         Some(match operation {
             1 if planted(Mistake::OperationKeepsSlash) => text.replace('$', "."),
             1 => text.chars().map(|c| if c == '/' || c == '$' { '.' } else { c }).collect(),
-            2 => "kotlin.collections.".to_string() + &text,
+            2 => descriptor_to_class(&text),
             _ => text,
         })
     }
+}
+
+/// DESC_TO_CLASS_ID: of two characters or more the first and the last are dropped, whatever they are; then $ becomes a dot.
+fn descriptor_to_class(text: &str) -> String {
+    let mut characters: Vec<char> = text.chars().collect();
+    if planted(Mistake::DropsUnits) {
+        let units: Vec<u16> = text.encode_utf16().collect();
+        let inner = if units.len() >= 2 { &units[1..units.len() - 1] } else { &units };
+        characters = from_utf16(inner).chars().collect();
+    } else if planted(Mistake::DropsLetters) {
+        if text.len() >= 2 && text.starts_with('L') && text.ends_with(';') {
+            characters = characters[1..characters.len() - 1].to_vec();
+        }
+    } else if characters.len() >= 2 {
+        characters.pop();
+        characters.remove(0);
+    } else if planted(Mistake::DropsOfOne) {
+        characters.clear();
+    }
+    let slash = planted(Mistake::DescriptorSlashes);
+    characters.into_iter().map(|c| if c == '$' || (c == '/' && slash) { '.' } else { c }).collect()
 }
 
 fn replaced(text: &str, old: u32, new: u32) -> Option<String> {

@@ -31,6 +31,10 @@ pub fn inputs() -> Vec<Slow> {
             all.push(slow(format!("{}: {}", made.words, place.words), input(made, place, &[])));
         }
     }
+    for place in &places {
+        let made = longest();
+        all.push(slow(format!("{}: {}", made.words, place.words), input(&made, place, &[])));
+    }
     // The last property's signature is broken: refusal 7, when all else is read.
     let last = bytes(4, &[number(2, SHORT), bytes(100, &[0x80])].concat());
     for made in records().iter().chain(&strings()) {
@@ -70,6 +74,16 @@ fn places() -> Vec<Place> {
     ]
 }
 
+/// The longest record with operation 2 that leaves room for members: its last character stands at the end of 30,000 bytes.
+fn longest() -> Made {
+    let content = [vec![b'L'], "a$".repeat(15_000).into_bytes(), vec![b';']].concat();
+    Made {
+        words: "30,000 bytes with operation 2",
+        table: bytes(1, &[bytes(6, &content), number(3, 2)].concat()),
+        string: String::new(),
+    }
+}
+
 /// Records of the name table, of half of d1 each. What they build is short where it can be: then the answer is 0.
 fn records() -> Vec<Made> {
     let made = |words, record: Vec<u8>| Made { words, table: bytes(1, &record), string: String::new() };
@@ -94,9 +108,10 @@ fn records() -> Vec<Made> {
         ),
         made("a replacement that widens 16,000 bytes", [text(&[b'a'; 16000]), widening.clone()].concat()),
         made(
-            "the same with dots and a prefix, of bytes that are no UTF-8",
+            "the same with operation 2, of bytes that are no UTF-8",
             [text(&[0xff; 16000]), widening, number(3, 2)].concat(),
         ),
+        made("16,000 bytes with operation 2", [text(&wrapped("a$".repeat(8000).into_bytes())), number(3, 2)].concat()),
         made("16,000 bytes with dots", [text("a/".repeat(8000).as_bytes()), number(3, 1)].concat()),
         made("a record of 16,000 bytes whose text can't be built", [text(&[0xff; 16000]), far(9, 8)].concat()),
     ]

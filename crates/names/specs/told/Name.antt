@@ -10,7 +10,7 @@ use Rattle.foundation.specs.Choices.{if_then_else_, mapOption, concat}
 use Rattle.foundation.specs.Texts.{Text, ascii}
 use Rattle.characters.specs.Characters.{width, between, fromUtf8, fromUtf16}
 use Rattle.characters.specs.told.Places.{partFrom}
-use Rattle.names.specs.Records.{predefinedStrings, substituted, operated, dotted}
+use Rattle.names.specs.Records.{predefinedStrings, substituted, dotted, dollarsDotted, withoutEnds, INTERNAL-TO-CLASS-ID, DESC-TO-CLASS-ID}
 use Rattle.names.specs.declared.name.Name.{Name}
 
 -- the predefined strings one after the other
@@ -40,10 +40,19 @@ isMeasured size = between 1 131072 size
 abbrev pub sized : ℕ → Text → Text
 sized size t = if isMeasured size then fitted size t else t
 
+-- What a name's operation does to its characters: 1 turns $ and / into dots, 2 turns $ alone. The two characters that operation 2 drops from a
+-- record's text are no part of its name.
+unfoldable pub turned : ℕ → Text → Text
+turned op t = if eqb op INTERNAL-TO-CLASS-ID then dotted t else if eqb op DESC-TO-CLASS-ID then dollarsDotted t else t
+
+-- what operation 2 drops from a text before its $ are turned
+abbrev pub dropped : ℕ → Text → Text
+dropped op t = if eqb op DESC-TO-CLASS-ID then withoutEnds t else t
+
 -- replacement, operation, and dots in a class name
 abbrev pub steppedBy : Name → Text → Text
 steppedBy n t =
-    let it = operated (n .operation) (sized (n .size) (substituted (n .from) (n .to) t)) in
+    let it = turned (n .operation) (sized (n .size) (substituted (n .from) (n .to) t)) in
     if n .qualified then dotted it else it
 
 -- the name's text, absent if it has no source

@@ -1,6 +1,6 @@
 -- What the code does with a name, in the definitions' words.
 -- Assumes nothing.
-use mathlib.Core.Bool.{Bool, true, _||_}
+use mathlib.Core.Bool.{Bool, true, false, _||_}
 use mathlib.Core.Path.{_≡_}
 use mathlib.Core.List.{List, [], map}
 use mathlib.Core.Option.{Option, none, some}
@@ -9,7 +9,7 @@ use lib.Dec.{eqb, leb}
 use lib.ListN.{length}
 use lib.Seq.{sets}
 use Rattle.foundation.specs.Choices.{if_then_else_, ifSome}
-use Rattle.foundation.specs.Texts.{Text, ascii}
+use Rattle.foundation.specs.Texts.{Text}
 use Rattle.characters.specs.Characters.{width, fromUtf8, utf8}
 use Rattle.characters.specs.told.Places.{partFrom}
 use Rattle.characters.specs.told.Plain.{instead, withDots, slashedCharacter, isAscii}
@@ -37,22 +37,27 @@ abbrev pub changeOf : Name → Bool → Change
 changeOf n slashes = record {
   from = n .from;
   to = n .to;
+  dollars = eqb (n .operation) DESC-TO-CLASS-ID;
   dots = eqb (n .operation) INTERNAL-TO-CLASS-ID || n .qualified;
   slashes = slashes;
 }
 
+abbrev pub withDollars : Bool → ℕ → ℕ
+withDollars dollars c = if dollars then instead 0x24 0x2e c else c
+
 unfoldable pub changed : Change → ℕ → ℕ
-changed h c = slashedCharacter (h .slashes) (withDots (h .dots) (instead (h .from) (h .to) c))
+changed h c = slashedCharacter (h .slashes) (withDots (h .dots) (withDollars (h .dollars) (instead (h .from) (h .to) c)))
+
+-- a change after which a character is one of those that become dots or slashes, or itself
+pub record NoneReplaced (h : Change) : Type 0 where
+  pub same : h .from ≡ h .to
+  pub dollars : h .dollars ≡ false
 
 -- a part that is there, of characters below 128 alone
 pub record PlainPart (s : List ℕ) (start end : ℕ) : Type 0 where
   pub ordered : start ≤ end
   pub inside : end ≤ length s
   pub ascii : isAscii (partFrom start end s) ≡ true
-
--- the text that operation 2 puts in front
-abbrev pub prefixOf : ℕ → Text
-prefixOf operation = if eqb operation DESC-TO-CLASS-ID then ascii "kotlin.collections." else []
 
 -- a text, with slashes for dots if they are asked for
 abbrev pub slashedText : Bool → Text → Text

@@ -2,10 +2,10 @@
 -- Assumes nothing.
 use mathlib.Core.Path.{_≡_}
 use mathlib.Core.Bool.{true}
-use mathlib.Core.List.{List, [], _∷_, _++_}
+use mathlib.Core.List.{List}
 use mathlib.Core.Option.{Option}
 use Prim.Native.Nat.{ℕ, _+_, _≤_, _<_}
-use lib.ListN.{length, take}
+use lib.ListN.{length}
 use lib.Dec.{eqb}
 use Rattle.foundation.specs.Choices.{if_then_else_, mapOption}
 use Rattle.foundation.specs.Texts.{Text}
@@ -16,15 +16,8 @@ use Rattle.names.specs.Names.{unwrapped}
 use Rattle.names.specs.told.Name.{predefinedList, nameText}
 use Rattle.names.specs.told.Stream.{baseOf}
 use Rattle.names.specs.declared.name.Name.{Name}
-use Rattle.record_names.specs.declared.class_name.Last.{Last}
-use Rattle.record_names.specs.declared.class_name.Last.the-variants as last
 use Rattle.record_names.specs.declared.Extent.{Extent}
 use Rattle.record_names.specs.declared.Extent.the-variants as extent
-
--- the last character of some bytes' text: what stands before it is the text of the bytes before its place
-abbrev pub LastTold : List ℕ → Last → Type 0
-LastTold s (last.Character place code) = (fromUtf8 s ≡ fromUtf8 (take place s) ++ (code ∷ [])) × (place ≤ length s)
-LastTold s last.Nothing = s ≡ []
 
 -- how many bytes a text takes, every character `from` become `to`
 abbrev pub sizeWith : ℕ → ℕ → List ℕ → ℕ

@@ -17,12 +17,13 @@ use Rattle.characters.specs.Characters.{fromUtf8}
 use Rattle.characters.specs.told.Places.{partFrom}
 use Rattle.characters.specs.Splits.{substringOf}
 use Rattle.names.specs.Records.{textOf, predefinedText, replaceOf, operated, stepped}
-use Rattle.names.specs.told.Name.{sourceText, nameText, plain}
+use Rattle.names.specs.told.Name.{turned, sourceText, nameText, plain}
 use Rattle.names.specs.told.RecordTold.{recordTold}
 use Rattle.names.specs.declared.records.Record.{Record}
 use Rattle.names.specs.declared.name.Name.{Name}
 use Rattle.record_names.specs.declared.Extent.{Extent}
 use Rattle.record_names.specs.declared.Extent.the-variants as extent
+use Rattle.record_names.specs.declared.steps.Span.{Span}
 use Rattle.record_names.specs.declared.steps.Base.{Base}
 use Rattle.record_names.specs.declared.steps.Base.the-variants as base
 
@@ -65,6 +66,11 @@ pub record StepTold (payload : List ℕ) (step : Text → Option Text) (source s
   pub bytes : OfBytes r
   pub is : (d2 : List ℕ) → ifSome (sourceText payload d2 (plain source start end)) none step ≡ textIn payload d2 r
 
+-- the part of a part that is left by something that drops characters
+abbrev pub LeftTold : List ℕ → ℕ → ℕ → ℕ → (Text → Text) → Span → Type 0
+LeftTold payload source start end drops r =
+    (d2 : List ℕ) → mapOption drops (sourceText payload d2 (plain source start end)) ≡ sourceText payload d2 (plain source (r .start) (r .end))
+
 abbrev pub known : ℕ → ℕ
 known operation = if eqb operation 1 then 1 else if eqb operation 2 then 2 else 0
 
@@ -72,13 +78,17 @@ known operation = if eqb operation 1 then 1 else if eqb operation 2 then 2 else 
 abbrev pub withSteps : Option (ℕ × ℕ) → ℕ → Option Text → Option Text
 withSteps replaced operation text = ifSome text none λ t. mapOption (operated operation) (stepped replaceOf replaced t)
 
+-- the same of a text from which the operation has dropped what it drops
+abbrev pub turnedSteps : Option (ℕ × ℕ) → ℕ → Option Text → Option Text
+turnedSteps replaced operation text = ifSome text none λ t. mapOption (turned operation) (stepped replaceOf replaced t)
+
 -- a name that is made of bytes, not of units, and is no class name yet; its size isn't noted yet
 abbrev pub BytesName : Name → Type 0
 BytesName n = (n .source ≤ 2) × (n .qualified ≡ false) × (n .operation < 4) × (n .from < 2097152) × (n .to < 2097152) × (n .size ≡ 0)
 
 pub record StepsTold (source start end : ℕ) (replaced : Option (ℕ × ℕ)) (operation : ℕ) (r : Name) : Type 0 where
   pub bytes : source ≤ 2 → BytesName r
-  pub is : (payload d2 : List ℕ) → nameText payload d2 r ≡ withSteps replaced operation (sourceText payload d2 (plain source start end))
+  pub is : (payload d2 : List ℕ) → nameText payload d2 r ≡ turnedSteps replaced operation (sourceText payload d2 (plain source start end))
 
 -- the name that a record builds, whose message begins at `from`
 pub record BuiltTold (payload : List ℕ) (from : ℕ) (read : Record) (r : Name) : Type 0 where

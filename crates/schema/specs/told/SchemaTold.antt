@@ -92,7 +92,7 @@ pub record Scoped (e : Lent) (s : Scope) : Type 0 where
 
 -- How many bytes a name takes at most, and a type's record.
 abbrev pub nameLimit : ℕ
-nameLimit = 131091
+nameLimit = 131072
 
 abbrev pub typeLength : ℕ
 typeLength = 9

@@ -1,6 +1,6 @@
 use Prim.Native.Nat.{_+_, _-_, _*_}
-use lib.ListN.{length}
 use native.Mathlib.Omega.{arith}
+use lib.ListN.{length}
 use Rattle.descriptors.specs.told.DefaultsTold.{partCost}
 use Rattle.descriptors.proofs.JoinLaws.{written-within}
 use Rattle.descriptors.proofs.FunctionLaws.{constructor-absent, constructor-done}

@@ -1,6 +1,6 @@
-use Rattle.schema.proofs.StandsLaws.{part-stands}
 use native.Mathlib.Omega.{arith}
 use Rattle.schema.specs.told.SchemaTold.{lent}
+use Rattle.schema.proofs.StandsLaws.{part-stands}
 use Rattle.descriptors.proofs.DefaultLaws.{type-nowhere, type-inside, type-there}
 use borrow.Author.Needs.{needs}
 use Rattle.descriptors.proofs.defaults.type_part.Statement.{statement}

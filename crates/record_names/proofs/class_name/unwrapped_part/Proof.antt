@@ -1,13 +1,14 @@
 use mathlib.Core.Path.{_∙_, sym}
 use native.Mathlib.Omega.{arith}
-use Rattle.record_names.proofs.UnwrapLaws.{unwrap-empty, next-inside, unwrap-other, unwrap-single, place-inside, unwrap-open, unwrap-closed}
+use Rattle.record_names.proofs.EndsLaws.{next-inside, place-inside}
+use Rattle.record_names.proofs.UnwrapLaws.{unwrap-empty, unwrap-other, unwrap-single, unwrap-open, unwrap-closed}
 use borrow.Author.Needs.{needs}
 use Rattle.record_names.proofs.class_name.unwrapped_part.Statement.{statement}
 use Rattle.record_names.proofs.class_name.unwrapped_part.Tie as tie
 use Rattle.record_names.proofs.class_name.unwrapped_part.Reads as reads
 use Rattle.record_names.proofs.class_name.unwrapped_part.Lts as lts
 use Rattle.names.proofs.name.instead.Reads as instead-reads
-use Rattle.record_names.proofs.class_name.last_of.Reads as last-of-reads
+use Rattle.record_names.proofs.ends.last_of.Reads as last-of-reads
 use Rattle.characters.proofs.utf8_at.Reads as utf8-at-reads
 
 -- src/qualified.rt:54:9
@@ -36,11 +37,11 @@ returns-2 c = unwrap-other (c .before .before .before .before .before .before .b
 
 -- src/qualified.rt:61:26
 sub-last-of : tie.Need-sub-last-of
-sub-last-of c = let h = next-inside (c .before .before .before .before .before .before .before .args .s .now) (c .before .before .before .before .before .before .before .args .from) (c .before .before .before .before .before .before .before .args .to) (sym (c .before .before .before .before .before .utf8-at .ensures) ∙ c .before .before .before .character .given .1) (c .before .instead .ensures) in omega arith
+sub-last-of c = let h = next-inside (c .before .before .before .before .before .before .before .args .s .now) (sym (c .before .before .before .before .before .utf8-at .ensures) ∙ c .before .before .before .character .given .1) in omega arith
 
 -- src/qualified.rt:61:26
 part-last-of-start : tie.Need-part-last-of-start
-part-last-of-start c = let h = next-inside (c .before .before .before .before .before .before .before .args .s .now) (c .before .before .before .before .before .before .before .args .from) (c .before .before .before .before .before .before .before .args .to) (sym (c .before .before .before .before .before .utf8-at .ensures) ∙ c .before .before .before .character .given .1) (c .before .instead .ensures) in omega arith
+part-last-of-start c = let h = next-inside (c .before .before .before .before .before .before .before .args .s .now) (sym (c .before .before .before .before .before .utf8-at .ensures) ∙ c .before .before .before .character .given .1) in omega arith
 
 -- src/qualified.rt:61:26
 part-last-of-end : tie.Need-part-last-of-end
@@ -72,7 +73,7 @@ returns-4 c = unwrap-open (c .before .before .before .before .before .before .be
 
 -- src/qualified.rt:70:14
 add-t15 : tie.Need-add-t15
-add-t15 c = let h = place-inside (c .before .before .before .before .before .before .before .before .before .before .before .before .before .before .args .s .now) (c .before .before .before .before .before .before .before .before .before .before .before .before .before .before .args .from) (c .before .before .before .before .before .before .before .before .before .before .before .before .before .before .args .to) (sym (c .before .before .before .before .before .before .before .before .before .before .before .before .utf8-at .ensures) ∙ c .before .before .before .before .before .before .before .before .before .before .character .given .1) (c .before .before .before .before .before .before .before .before .instead .ensures) (c .before .before .before .before .before .last-of .result) (c .before .before .before .before .before .last-of .ensures) (c .before .before .before .ending .given .1) (c .before .instead2 .ensures) in omega arith
+add-t15 c = let h = place-inside (c .before .before .before .before .before .before .before .before .before .before .before .before .before .before .args .s .now) (sym (c .before .before .before .before .before .before .before .before .before .before .before .before .utf8-at .ensures) ∙ c .before .before .before .before .before .before .before .before .before .before .character .given .1) (c .before .before .before .before .before .last-of .result) (c .before .before .before .before .before .last-of .ensures) (c .before .before .before .ending .given .1) in omega arith
 
 -- src/qualified.rt:51:1
 returns-5 : tie.Need-returns-5

@@ -3,12 +3,12 @@ use Prim.Native.Nat.{_-_}
 use native.Mathlib.Omega.{arith}
 use lib.ListN.{length}
 use Rattle.characters.proofs.CharacterLaws.{utf8-inside}
-use Rattle.record_names.proofs.UnwrapLaws.{Begins, begins-start, begins-end, begins-never, begins-next, last-is}
+use Rattle.record_names.proofs.EndsLaws.{Begins, begins-start, begins-end, begins-never, begins-next, last-is}
 use borrow.Author.Needs.{needs}
-use Rattle.record_names.proofs.class_name.last_of.Statement.{statement}
-use Rattle.record_names.proofs.class_name.last_of.Tie as tie
-use Rattle.record_names.proofs.class_name.last_of.Reads as reads
-use Rattle.record_names.proofs.class_name.last_of.Lts as lts
+use Rattle.record_names.proofs.ends.last_of.Statement.{statement}
+use Rattle.record_names.proofs.ends.last_of.Tie as tie
+use Rattle.record_names.proofs.ends.last_of.Reads as reads
+use Rattle.record_names.proofs.ends.last_of.Lts as lts
 use Rattle.characters.proofs.utf8_at.Reads as utf8-at-reads
 
 abbrev Inv-loop : tie.InvT-loop
