@@ -81,6 +81,16 @@ LONG_TEXTS = {
     'text of 1,073,479,680 bytes': (given(2, 1, functions(3640, b'\xa2\6\2\x10\0'), ['\uffff' * 32768]),
                                     [23 + 3640 * 29, 3640 * 3 * 98304, 0, 1, 0, 3640, 0, 0, 0, 3640, 0, 1]),
 }
+
+
+# A class that Kotlin 1.3.31 wrote in the old form, and the same class as it writes it otherwise; the line is the Rust's for the latter, with a count of
+# no type aliases. One class, one sheet.
+OLD = bytes.fromhex('111509412241030219052901214201090f1501416139010d0165090114411305110569110167012517511b2101')
+MARKED = bytes.fromhex('00100a0218020a0218020a000a02100e0a0008c6011800320230014a0810021a0230034816a80604')
+VAT = ['Lde/till/app/Vat$FULL;', 'Lde/till/app/Vat;', 'label', '', 'till-app_main']
+VAT_LINE = ('0 0 010100001400c60000000000000000000100000003140005001600000000000000ffffffffffffffff00000006010019000d0000000726001400090000 '
+            '64652e74696c6c2e6170702e5661742e46554c4c6c6162656c6b6f746c696e2e537472696e6728294c6a6176612f6c616e672f537472696e673b')
+
 MADE = {
     'empty, k 3': (given(3, 1, b'', []), head(3)),
     'empty, k 2': (given(2, 1, b'', []), '5 0 - -'),
@@ -104,6 +114,11 @@ MADE = {
     'types looked up, 32 deep': (given(2, 1, b'\0' + looked_up(0), ['f']), types_line(33)),
     'types looked up in a long d1': (given(2, 1, b'\0' + looked_up(20000), ['f']), types_line(33)),
     '2,048 types deep': (given(2, 1, b'\0' + nested(2048), ['f']), types_line(2048)),
+    'a class in the old form': (given(1, 1, OLD, VAT), VAT_LINE),
+    'the same class with the marker': (given(1, 1, MARKED, VAT), VAT_LINE),
+    'eight units of the old form': (given(1, 1, b'\1' * 8, []), head(1)),
+    'one unit of the old form': (given(1, 1, b'\1', []), '7 0 - -'),
+    'a marker of the old form': (given(1, 1, [65535, 1, 1], []), '6 65535 - -'),
     '2,049 types deep': (given(2, 1, b'\0' + nested(2049), ['f']), '10 0 - -'),
 }
 

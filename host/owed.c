@@ -1,6 +1,6 @@
-/* A stand-in for the reader that tests what a caller owes of the memory (include/sheet_reader.h): no pointer is NULL, each is aligned for its
- * type. host/test links the host programs with it. sheet_read answers 5; sheet_room tells a sheet of 23 bytes and no text, so that a program that
- * goes by it lends what it would lend for a head alone. */
+/* A stand-in for the library that tests what a caller owes of the memory (include/sheet_reader.h): no pointer is NULL, each is aligned for its
+ * type. host/test links the host programs with it. sheet_read and the conversions answer 5; sheet_room tells a sheet of 23 bytes and no text, so that
+ * a program that goes by it lends what it would lend for a head alone. */
 #include <stdio.h>
 #include <stdlib.h>
 
@@ -36,4 +36,22 @@ void sheet_read(int32_t k, int32_t major, int32_t minor, int32_t patch, const ui
     owed("answer", answer, sizeof *answer);
     for (int i = 0; i < SHEET_ANSWER; i++) answer[i] = 0;
     answer[SHEET_NUMBER] = SHEET_EMPTY;
+}
+
+static void owed_by_conversion(const uint16_t *d1, uint16_t *units, uint64_t answer[SHEET_CONVERTED_ANSWER]) {
+    owed("d1", d1, sizeof *d1);
+    owed("units", units, sizeof *units);
+    owed("answer", answer, sizeof *answer);
+    for (int i = 0; i < SHEET_CONVERTED_ANSWER; i++) answer[i] = 0;
+    answer[SHEET_CONVERTED_NUMBER] = SHEET_EMPTY;
+}
+
+void sheet_old_to_new(const uint16_t *d1, size_t d1_count, uint16_t *units, size_t units_count, uint64_t answer[SHEET_CONVERTED_ANSWER]) {
+    (void)d1_count, (void)units_count;
+    owed_by_conversion(d1, units, answer);
+}
+
+void sheet_new_to_old(const uint16_t *d1, size_t d1_count, uint16_t *units, size_t units_count, uint64_t answer[SHEET_CONVERTED_ANSWER]) {
+    (void)d1_count, (void)units_count;
+    owed_by_conversion(d1, units, answer);
 }

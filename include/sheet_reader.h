@@ -1,5 +1,6 @@
 /* The sheet reader as C functions: the metadata of one compiled Kotlin class in, a call sheet out (sheet_read); before that, if wanted, how much
- * room the sheet takes (sheet_room). docs/MANUAL.md tells all of it.
+ * room the sheet takes (sheet_room); and two functions that convert d1 between its old form and the one with the marker. docs/MANUAL.md tells all
+ * of it.
  *
  * Build the archive with `rt staticlib sheet_calls`, and link target/staticlib/libsheet_calls.a (x86-64 Linux). It needs no other library,
  * allocates nothing, keeps nothing between calls and may be called from several threads at once.
@@ -14,9 +15,10 @@
 extern "C" {
 #endif
 
-/* The number of the sheets' format: 2 for the sheets as they are told below (1 was without type aliases). It goes up whenever sheets change, so that a program that keeps
- * sheets can tell by it which of them to make anew. */
-#define SHEET_FORMAT 3
+/* The number of the sheets' format: 4 for the sheets as they are told below (1 was without type aliases; up to 2 names by operation 2 of the name
+ * table had "kotlin.collections." in front; up to 3 a d1 in its old form was refused or misread). It goes up whenever sheets change, so that a
+ * program that keeps sheets can tell by it which of them to make anew. */
+#define SHEET_FORMAT 4
 
 /* What sheet_read puts into answer. */
 enum {
@@ -28,25 +30,40 @@ enum {
     SHEET_ANSWER = 5        /* how many numbers answer has */
 };
 
-/* Refusals. Both areas are then as they were. They are tested in the order of their numbers, but 7 to 10, 13 and 14 as the payload is read: of
- * these the first that is met is given. An offset counts the payload's bytes from 0: where d1 begins with a unit 0, the byte at offset n is its
- * unit n + 1. It is that of the first byte of the varint or fixed number that was read, also where not even that is there. */
+/* What sheet_old_to_new and sheet_new_to_old put into answer. */
+enum {
+    SHEET_CONVERTED_NUMBER = 0,  /* 0: converted; else refused, see below */
+    SHEET_CONVERTED_DETAIL = 1,  /* of 6 the unit; else 0 */
+    SHEET_CONVERTED_LENGTH = 2,  /* units of the converted d1, 0 if refused */
+    SHEET_CONVERTED_ANSWER = 3   /* how many numbers answer has */
+};
+
+/* Refusals. All areas are then as they were.
+ *
+ * sheet_read gives 1 to 14. They are tested in the order of their numbers, but 7 to 10, 13 and 14 as the payload is read: of these the first that is
+ * met is given. An offset counts the payload's bytes from 0: where d1 begins with a unit 0, the byte at offset n is its unit n + 1. It is that of
+ * the first byte of the varint or fixed number that was read, also where not even that is there.
+ *
+ * sheet_old_to_new gives 1, 5, 15, 6 and 12, sheet_new_to_old 1, 5, 15, 6, 16 and 12, tested in this order. */
 enum {
     SHEET_READ = 0,
     SHEET_D1_TOO_LONG = 1,         /* more than SHEET_UNIT_LIMIT units */
     SHEET_D2_TOO_LONG = 2,         /* more than SHEET_UNIT_LIMIT units or SHEET_STRING_LIMIT strings */
     SHEET_STRING_ENDS = 3,         /* they fall, or the last (0 if there are none) isn't d2's count */
     SHEET_NEWER_VERSION = 4,       /* major above 2 */
-    SHEET_EMPTY = 5,               /* d1 has no units */
+    SHEET_EMPTY = 5,               /* d1 has no units; from new to old also: it has the marker alone */
     SHEET_NOT_A_BYTE = 6,          /* a unit of d1 is above 255; detail: the first such unit */
     SHEET_TRUNCATED = 7,           /* a varint is cut short by its message's end; detail: its offset */
     SHEET_WIRE_TYPE = 8,           /* a field has wire type 3, 4, 6 or 7; detail: its tag's offset */
     SHEET_OVERSIZED_VARINT = 9,    /* a varint has an eleventh byte; detail: its offset */
     SHEET_TOO_MANY_TYPES = 10,     /* more than SHEET_TYPE_LIMIT */
     SHEET_TEXT_TOO_LONG = 11,      /* longer than text_size or SHEET_TEXT_LIMIT: lend SHEET_TEXT_LIMIT bytes */
-    SHEET_SHEET_TOO_LONG = 12,     /* longer than sheet_size: lend more; SHEET_LONGEST is always enough */
+    SHEET_SHEET_TOO_LONG = 12,     /* longer than sheet_size: lend more; SHEET_LONGEST is always enough. Of a conversion: it has more units than
+                                    * units_count */
     SHEET_PAST_MESSAGE = 13,       /* a length, or a fixed number, runs past its message; detail: the length's or the number's offset */
-    SHEET_FIELD_TOO_LARGE = 14     /* a field number is above 32 bits; detail: its tag's offset */
+    SHEET_FIELD_TOO_LARGE = 14,    /* a field number is above 32 bits; detail: its tag's offset */
+    SHEET_WRONG_FORM = 15,         /* conversions: d1 has the other form. It begins with a unit 0 (old to new), or it doesn't (new to old) */
+    SHEET_FIRST_UNIT_ZERO = 16     /* new to old: the first unit would be 0 and pass for the marker. The payload's first byte is 7F or FF hex */
 };
 
 /* Limits. Areas of SHEET_LONGEST and SHEET_TEXT_LIMIT bytes are always enough: with them 12 is never given, and 11 only to a class whose text fits no
@@ -59,10 +76,17 @@ enum {
     SHEET_LONGEST = 411647
 };
 
+/* How many units a conversion gives at most: with an area of so many 12 is never given. It stands in the contracts of both functions, clause `enough`.
+ * (32,768 units of the old form are 28,672 bytes; 32,767 bytes after the marker are 37,448 units of the old form.) */
+enum {
+    SHEET_NEW_LONGEST = 28673, /* of sheet_old_to_new */
+    SHEET_OLD_LONGEST = 37448  /* of sheet_new_to_old */
+};
+
 /* Reads one class.
  *
  *   k, major, minor, patch   of the annotation kotlin.Metadata: k (1 if it is absent) and mv (0 for each number that is absent)
- *   d1, d1_count             the UTF-16 units of all strings of d1, one after the other
+ *   d1, d1_count             the UTF-16 units of all strings of d1, one after the other; in the form with the marker or in the old one
  *   d2, d2_count             the same of d2
  *   ends, ends_count         for each string of d2, how many units of d2 stand before its end
  *   sheet, sheet_size        the area for the sheet
@@ -130,6 +154,34 @@ void sheet_room(int32_t k, int32_t major, int32_t minor, int32_t patch,
                 const uint16_t *d2, size_t d2_count,
                 const uint32_t *ends, size_t ends_count,
                 uint64_t answer[SHEET_ROOM_ANSWER]);
+
+/* Convert d1. With the marker it is a unit 0 and then a unit for each byte of the payload. The old form, which compilers wrote before that, has no
+ * marker: the bytes' bits one after the other, each byte's lowest first, in groups of seven, the last filled with zero bits, and a unit is its
+ * group and 1, mod 128. sheet_read takes both forms and gives the same answer for a d1 and what it is converted to.
+ *
+ *   d1, d1_count             the units to convert, as for sheet_read
+ *   units, units_count       the area for the converted units
+ *   answer                   SHEET_CONVERTED_ANSWER numbers, always written
+ *
+ * Both counts are of units, not of bytes. What is handed in may hold anything: there is no input that the functions don't answer.
+ *
+ * What the caller owes, of the memory alone:
+ *   - every pointer is aligned for its type and not NULL, also where the count is 0: then hand over the address of any object of that type;
+ *   - d1 is readable over its count, units and answer are writable over theirs, and nothing else writes to any of them until the call returns;
+ *   - units and answer overlap neither each other nor d1: d1 can't be converted in place.
+ *
+ * Stack: less than 40 KiB.
+ *
+ * What the caller gets: if answer[SHEET_CONVERTED_NUMBER] is 0, the converted d1 stands in the first answer[SHEET_CONVERTED_LENGTH] units of the
+ * area. All other units of it are as they were; after a refusal all of them are.
+ *
+ * From old to new, n units give the marker and 7n/8 bytes, rounded down; a unit counts mod 128, and bits that are left over are dropped. From new to
+ * old, n bytes after the marker give 8n/7 units, rounded up. New to old to new gives the same units for up to 28,672 bytes; more give more units
+ * than old to new takes (1). Old to new to old gives the same units exactly when all are below 128, no fewer units would do (one unit, and 8m + 1
+ * units, have one too many) and the last group's spare bits are zero, as compilers write them; others come back changed, or are refused.
+ */
+void sheet_old_to_new(const uint16_t *d1, size_t d1_count, uint16_t *units, size_t units_count, uint64_t answer[SHEET_CONVERTED_ANSWER]);
+void sheet_new_to_old(const uint16_t *d1, size_t d1_count, uint16_t *units, size_t units_count, uint64_t answer[SHEET_CONVERTED_ANSWER]);
 
 /* The sheet: records one after the other. The first byte of a record is its kind, which fixes its length. Numbers are little-endian.
  * A ref is the offset of a text in the text area, 2 bytes, and its length, 2 bytes; FFFFFFFF hex is no text. Texts are UTF-8, without a 0

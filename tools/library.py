@@ -1,15 +1,18 @@
-"""The reader itself: sheet_read and sheet_room of the library (include/sheet_reader.h), called in this process."""
+"""The reader itself, the room and the conversions of d1: the functions of the library (include/sheet_reader.h), called in this process."""
 import array, collections, ctypes
 
 import library_build
 from sheets import RECORDS, TEXT_LIMIT
 
 SHEET_LONGEST = 411647  # areas of this size and of TEXT_LIMIT are always long enough
+# of a conversion: its function, and how many units it gives at most
+OLD_TO_NEW, NEW_TO_OLD = ('sheet_old_to_new', 28673), ('sheet_new_to_old', 37448)
 
 Answer = collections.namedtuple('Answer', 'number detail sheet text types')
 # of a class before it is read: lengths of sheet and text, types, and records by kind
 Room = collections.namedtuple('Room', 'number detail sheet text types records')
 FIRST_RECORDS = 5  # the place of the records of kind 1
+Converted = collections.namedtuple('Converted', 'number detail units')
 
 
 def lent(typecode, numbers):
@@ -17,16 +20,22 @@ def lent(typecode, numbers):
     return array.array(typecode, numbers or [0]), len(numbers)
 
 
+def typed(function, parameters):
+    """A C function that gives nothing back."""
+    function.restype, function.argtypes = None, parameters
+    return function
+
+
 class Library:
     def __init__(self, path):
+        pointer, size, number = ctypes.c_void_p, ctypes.c_size_t, ctypes.c_int32
         try:
             library = ctypes.CDLL(path)
-            self.sheet_read, self.sheet_room = library.sheet_read, library.sheet_room
+            self.sheet_read = typed(library.sheet_read, [number] * 4 + [pointer, size] * 5 + [pointer])
+            self.sheet_room = typed(library.sheet_room, [number] * 4 + [pointer, size] * 3 + [pointer])
+            self.conversions = {way: typed(library[way[0]], [pointer, size] * 2 + [pointer]) for way in (OLD_TO_NEW, NEW_TO_OLD)}
         except (OSError, AttributeError) as why:
             raise library_build.BuildFailed(f'{path} is no library of the reader: {why}') from None
-        pointer, size, number = ctypes.c_void_p, ctypes.c_size_t, ctypes.c_int32
-        for function, slices in ((self.sheet_read, 5), (self.sheet_room, 3)):
-            function.restype, function.argtypes = None, [number] * 4 + [pointer, size] * slices + [pointer]
         self.sheet, self.text = ctypes.create_string_buffer(SHEET_LONGEST), ctypes.create_string_buffer(TEXT_LIMIT)
 
     def call(self, function, m, areas, count):
@@ -47,6 +56,14 @@ class Library:
         """The room for a class_input.Metadata."""
         told = self.call(self.sheet_room, m, [], FIRST_RECORDS + len(RECORDS))
         return Room(*told[:FIRST_RECORDS], dict(enumerate(told[FIRST_RECORDS:], 1)))
+
+    def convert(self, way, units):
+        """The units of the other form; `way` is OLD_TO_NEW or NEW_TO_OLD."""
+        d1, count = lent('H', units)
+        area, answer = (ctypes.c_uint16 * way[1])(), (ctypes.c_uint64 * 3)()
+        self.conversions[way](d1.buffer_info()[0], count, ctypes.addressof(area), way[1], ctypes.addressof(answer))
+        number, detail, length = answer
+        return Converted(number, detail, area[:length])
 
 
 def opened(say, command):

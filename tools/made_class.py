@@ -66,6 +66,13 @@ def payload(data):
     return [units[at:at + 20000] for at in range(0, len(units), 20000)]
 
 
+def old_payload(data):
+    """d1 for a payload of bytes in the old form, as docs/MANUAL.md tells it under "Old libraries"."""
+    bits = int.from_bytes(data, 'little')
+    units = ''.join(chr(((bits >> at & 127) + 1) % 128) for at in range(0, 8 * len(data), 7))
+    return [units[at:at + 20000] for at in range(0, len(units), 20000)]
+
+
 def varint(n):
     return bytes([n]) if n < 128 else bytes([n & 127 | 128]) + varint(n >> 7)
 

@@ -2,7 +2,7 @@
 """usage: mutation_test.py [COUNT [SEED]]      default 2000 1
 
 Damaged class files in every form of ./sheet: COUNT copies of the examples and of made classes (annotations nested in one another, elements of
-kotlin.Metadata of wrong kinds, types nested in one another), changed in some places of the file, of bytes alone, or of what the annotation
+kotlin.Metadata of wrong kinds, types nested in one another, d1 in its old form), changed in some places of the file, of bytes alone, or of what the annotation
 holds; then a tenth as many damaged jars.
 A fault is an exception that the tool doesn't expect, JSON that doesn't keep to the schema, a character in the output that doesn't print, an
 offset of the reader's at which the tool's own walk of the payload finds nothing broken, or a room that isn't that of the sheet that is read. The
@@ -12,8 +12,8 @@ import collections, io, json, os, random, sys, tempfile, time, traceback, zipfil
 
 sys.dont_write_bytecode = True
 sys.setrecursionlimit(20000)
-import class_input, made_class, output, payloads, runs, schema, sheet_json, sheets
-from commands import check, read, room
+import class_input, library, made_class, output, payloads, runs, schema, sheet_json, sheets
+from commands import check, convert, read, room
 
 ROOT = os.path.dirname(os.path.dirname(os.path.realpath(__file__)))
 with open(os.path.join(ROOT, 'docs', 'sheet.schema.json'), encoding='utf-8') as f:
@@ -35,6 +35,7 @@ def made():
     function = made_class.package(made_class.field(3, b'\x10\0' + made_class.field(3, b'\x30\1')), ['f', 'kotlin/Unit'])
     aliases = made_class.package(made_class.alias(0, b'\x30\1', b'\x12\4\x12\2\x30\1') + made_class.alias(1, None, b''), ['A', 'kotlin/Int'])
     yield made_class.class_file(aliases)
+    yield made_class.class_file({**function, 'd1': made_class.old_payload(b''.join(part.encode('latin-1') for part in function['d1'])[1:])})
     nest = made_class.nested_annotation
     for depth in (1, 3, 50, 3000):
         yield made_class.class_file(function, before=lambda pool: [nest(pool, depth)], methods=[('f', '()V')])
@@ -155,11 +156,21 @@ class CheckedRoom(Checked):
             raise AssertionError(f'the room {one.room} is not that of what is read')
 
 
+class CheckedConversions(Checked):
+    """The same of conversions."""
+
+    def read(self, one):
+        self.told(sheet_json.left_json(one) if isinstance(one, convert.Left) else sheet_json.converted_json(one))
+
+
 def forms():
     """A run for each form of the tool."""
     shows = [read.form([]), read.form(['--records']), read.form(['--line']), read.form(['--json']), Checked(), check.FindingsInText(check.Tally())]
     reading = [runs.Run(show, 'sheet') for show in shows]
-    return [*reading, *(runs.RoomRun(show, 'sheet') for show in (room.RoomInText(), CheckedRoom(reading[0])))]
+    rooms = [runs.RoomRun(show, 'sheet') for show in (room.RoomInText(), CheckedRoom(reading[0]))]
+    conversions = [convert.Conversions(show, 'sheet', way) for show, way in (
+        (convert.ConvertedInText(), library.OLD_TO_NEW), (CheckedConversions(), library.OLD_TO_NEW), (CheckedConversions(), library.NEW_TO_OLD))]
+    return reading + rooms + conversions
 
 
 def keep(data, suffix):

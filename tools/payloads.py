@@ -50,7 +50,7 @@ def decoded(d1):
         return bytes(d1[1:])
     found, bits, count = bytearray(), 0, 0
     for unit in d1:
-        bits, count = bits | (unit & 127) << count, count + 7
+        bits, count = bits | (unit + 127 & 127) << count, count + 7
         if count >= 8:
             found.append(bits & 255)
             bits, count = bits >> 8, count - 8

@@ -121,6 +121,16 @@ def refused_json(found, name, refusal):
             'refusal': {'number': number, 'detail': detail, 'name': sheets.REFUSAL_NAMES[number], 'what': what, 'advice': advice, 'place': told}}
 
 
+def converted_json(c):
+    """A class whose d1 was converted: a Conversion of commands.convert."""
+    return {**where(c.found, c.name), 'state': 'converted', 'from': c.form, 'count': len(c.before), 'to': c.other, 'units': c.after}
+
+
+def left_json(one):
+    """A class with nothing to convert: a Left of commands.convert."""
+    return {**where(one.found, one.name), 'state': 'nothing to convert', 'why': one.why}
+
+
 def not_a_class_json(found, why):
     return {**where(found), 'state': 'not a class', 'why': why}
 

@@ -5,7 +5,7 @@ import collections, json, os, pty, re, resource, subprocess, sys, tempfile, type
 
 sys.dont_write_bytecode = True
 sys.setrecursionlimit(20000)
-import flag_words, made_class, payloads, schema, sheets
+import class_input, flag_words, made_class, payloads, schema, sheets
 
 ROOT = os.path.dirname(os.path.dirname(os.path.realpath(__file__)))
 SHEET, EXAMPLES = os.path.join(ROOT, 'sheet'), os.path.join(ROOT, 'examples')
@@ -234,6 +234,111 @@ class Json(InFolder):
             self.assertEqual(json.loads(text), objects(out)[0], command)
 
 
+def units(strings):
+    """d1's units from its strings."""
+    return [ord(unit) for string in strings for unit in string]
+
+
+class OldForm(InFolder):
+    """d1 from before the marker: it is read as the same payload with the marker is, and converted into it."""
+    # a class that Kotlin 1.3.31 wrote in the old form, and the same class as it writes it otherwise
+    OLD = bytes.fromhex('111509412241030219052901214201090f1501416139010d0165090114411305110569110167012517511b2101')
+    MARKED = bytes.fromhex('00100a0218020a0218020a000a02100e0a0008c6011800320230014a0810021a0230034816a80604')
+    D2 = ['Lde/till/app/Vat$FULL;', 'Lde/till/app/Vat;', 'label', '', 'till-app_main']
+
+    def put_class(self, name, d1, **more):
+        strings = [d1.decode('latin-1')] if isinstance(d1, bytes) else d1
+        return self.put(name, made_class.class_file({'mv': [1, 1, 15], 'k': 1, 'd1': strings, 'd2': self.D2, **more}))
+
+    def example(self, name):
+        """k, mv, the payload and the strings of an example."""
+        m = class_input.ClassFile(example(name, '.class')).metadata()
+        d2 = bytes(b for unit in m.d2 for b in unit.to_bytes(2, 'little')).decode('utf-16-le')
+        return m.k, m.version, bytes(m.d1[1:]), [d2[start:end] for start, end in zip([0, *m.ends], m.ends)]
+
+    def test_a_real_class_gives_one_sheet_in_both_forms(self):
+        old, marked = self.put_class('Old.class', self.OLD), self.put_class('Marked.class', self.MARKED)
+        for options in ([], ['--records'], ['--line']):
+            told = [sheet('read', *options, path) for path in (old, marked)]
+            self.assertEqual((told[0], told[0][0]), (told[1], 0))
+        self.assertIn('enum entry de.till.app.Vat.FULL', sheet('read', old)[1])
+
+    def test_the_examples_in_the_old_form(self):
+        for name in NAMES:
+            k, version, data, d2 = self.example(name)
+            if data:
+                path = self.put('Old.class', made_class.class_file({'mv': version, 'k': k, 'd1': made_class.old_payload(data), 'd2': d2}))
+                self.assertEqual(sheet('read', '--line', path)[:2], (0, example(name, '.line').decode()), name)
+                o, = objects(sheet('convert', '--json', path)[1])
+                self.assertEqual(bytes(o['units']), b'\0' + data, name)
+
+    def test_convert_in_words(self):
+        old, marked = self.put_class('Old.class', self.OLD), self.put_class('Marked.class', self.MARKED)
+        forms = ['the old form, 45 units: 11 15 09 41 22 41 03 02 ..', 'with the marker, 40 units: 00 10 0a 02 18 02 0a 02 ..']
+        self.assertEqual(sheet('convert', old), (0, f'{old}: {forms[0]}; {forms[1]}\n', ''))
+        self.assertEqual(sheet('convert', '--old', marked), (0, f'{marked}: {forms[1]}; {forms[0]}\n', ''))
+        self.assertEqual(sheet('convert', marked), (0, f'{marked}: {forms[1]}; nothing to convert\n', ''))
+        self.assertEqual(sheet('convert', '--old', old), (0, f'{old}: {forms[0]}; nothing to convert\n', ''))
+        one = self.put_class('One.class', b'\1')
+        self.assertEqual(sheet('convert', one), (0, f'{one}: the old form, 1 unit: 01; with the marker, 1 unit: 00\n', ''))
+
+    def test_the_manual_shows_what_is_printed(self):
+        with open(os.path.join(ROOT, 'docs', 'MANUAL.md'), encoding='utf-8') as f:
+            shown = re.search(r'^    \$ (./sheet convert old.jar)\n((?:    .*\n)+)', f.read(), re.M)
+        self.jar('old.jar', {'de/till/app/Vat$FULL.class': made_class.class_file({'mv': [1, 1, 15], 'k': 1, 'd1': [self.OLD.decode()], 'd2': self.D2}),
+                             'till/Sale.class': example('Sale', '.class')})
+        self.assertEqual(sheet(*shown[1].split()[1:], cwd=self.here)[1], re.sub('^    ', '', shown[2], flags=re.M))
+
+    def test_convert_in_json_and_back(self):
+        for way, path, other in (([], self.put_class('Old.class', self.OLD), self.MARKED),
+                                 (['--old'], self.put_class('Marked.class', self.MARKED), self.OLD)):
+            o, = objects(sheet('convert', '--json', *way, path)[1])
+            self.assertEqual(schema.faults(o, SCHEMA, SCHEMA), [])
+            self.assertEqual((o['state'], o['class'], o['count'], bytes(o['units'])), ('converted', 'made/Made', 85 - len(other), other))
+            left, = objects(sheet('convert', '--json', *(['--old'] if not way else []), path)[1])
+            self.assertEqual((left['state'], schema.faults(left, SCHEMA, SCHEMA)), ('nothing to convert', []))
+
+    def test_what_is_refused(self):
+        for way, d1, number, detail in (('new', ['\1\u012c\u0190'], 6, 300), ('new', ['\uffff\1\1'], 6, 65535), ('new', [], 5, 0), ('old', [], 5, 0),
+                                        ('new', ['\1' * 16385] * 2, 1, 0), ('old', ['\0' * 16385] * 2, 1, 0), ('old', ['\0'], 5, 0),
+                                        ('old', ['\0\x7f\u012c'], 6, 300), ('old', ['\0\x7f'], 16, 0), ('old', ['\0\xff\1'], 16, 0)):
+            path = self.put_class('Bad.class', d1)
+            words = ['convert', *(['--old'] if way == 'old' else []), path]
+            status, out, said = sheet(*words)
+            self.assertEqual((status, out), (1, ''), (way, number))
+            self.assertRegex(said, rf'^sheet: .*Bad.class: refused, {number}: .* What to do: ')
+            o, = objects(sheet(*words[:-1], '--json', path)[1])
+            self.assertEqual((schema.faults(o, SCHEMA, SCHEMA), o['refusal']['number'], o['refusal']['detail'], o['refusal']['place']), ([], number, detail, None))
+
+    def test_classes_of_every_kind_in_a_jar(self):
+        made = lambda values: made_class.class_file({'mv': [1, 1, 15], **values})
+        jar = self.jar('a.jar', {
+            'Old.class': made({'k': 1, 'd1': [self.OLD.decode()], 'd2': self.D2}), 'Facade.class': made({'k': 4, 'd1': ['made/F__AKt']}),
+            'Synthetic.class': made({'k': 3}), 'Bad.class': made({'k': 2, 'd1': ['\1\u0100']}), 'Java.class': made_class.class_file(None)})
+        status, out, said = sheet('convert', jar)
+        self.assertEqual(status, 1)
+        self.assertEqual([line.partition('!/')[2] for line in out.splitlines()], [
+            'Old.class: the old form, 45 units: 11 15 09 41 22 41 03 02 ..; with the marker, 40 units: 00 10 0a 02 18 02 0a 02 ..',
+            'Facade.class: d1 has the names of the parts of a multi-file class; nothing to convert',
+            'Synthetic.class: d1 is empty, as a synthetic class may have it; nothing to convert'])
+        self.assertRegex(said.splitlines()[1], r'^sheet: 3 looked at \(1 converted, 2 with nothing to convert\), 1 refused \(1 by 6, not a byte\), 1 without Kotlin metadata, 0 not a class')
+
+    def test_long_ones(self):
+        """The most units of both forms that are converted, and one more."""
+        for data, count in ((bytes(28672), 32768), (bytes(32767), 37448)):
+            path = self.put_class('Long.class', made_class.payload(data))
+            o, = objects(sheet('convert', '--old', '--json', path)[1])
+            self.assertEqual((len(o['units']), set(o['units'])), (count, {1}))
+        path = self.put_class('Long.class', made_class.old_payload(bytes(28672)))
+        o, = objects(sheet('convert', '--json', path)[1])
+        self.assertEqual((o['count'], len(o['units']), set(o['units'])), (32768, 28673, {0}))
+        self.assertRegex(sheet('convert', self.put_class('Long.class', made_class.old_payload(bytes(28673))))[2], 'refused, 1: ')
+
+    def test_made_old_payloads(self):
+        """made_class packs as Kotlin does."""
+        self.assertEqual(units(made_class.old_payload(self.MARKED[1:])), list(self.OLD))
+
+
 class Aliases(InFolder):
     """typealias Cents = Long; typealias Sales<T> = List<Cents, T>, whose expanded type has Long for Cents; and one without types."""
     CENTS = b'\x30\1'
@@ -344,13 +449,14 @@ class Refusals(InFolder):
         o, = objects(sheet('read', '--json', path)[1])
         self.assertEqual(o['refusal']['place'], {'offset': 8, 'of': 9, 'byte': 11, 'what': 'the tag there has wire type 3', 'where': 'entry 2 of the type table'})
 
-    def test_the_payload_of_a_class_and_of_the_seven_bit_form(self):
+    def test_the_payload_of_a_class_and_of_the_old_form(self):
         told = lambda k, d1, number, detail: payloads.place(types.SimpleNamespace(k=k, d1=d1), number, detail)
         self.assertEqual(told(1, list(b'\0\0\x42\1\x0b'), 8, 3).where, 'constructor 1')
         self.assertEqual(told(1, list(b'\0\0\x5a\1\x0b'), 8, 3).where, 'type alias 1')
-        self.assertEqual(told(1, [0x80, 0x16], 8, 1), payloads.Place(1, 1, None, 'what stands there cannot be read', payloads.UNKNOWN))
-        self.assertEqual(payloads.decoded([0x80, 0x16, 0]), b'\0\x0b')
-        self.assertEqual(told(1, [0x80, 0x16, 0], 8, 1).where, 'the class itself')
+        self.assertEqual(told(1, [0x81, 0x17], 8, 1), payloads.Place(1, 1, None, 'what stands there cannot be read', payloads.UNKNOWN))
+        self.assertEqual(payloads.decoded([0x81, 0x17, 1]), b'\0\x0b')
+        self.assertEqual(payloads.decoded(units(made_class.old_payload(bytes(range(256))))), bytes(range(256)))
+        self.assertEqual(told(1, [0x81, 0x17, 1], 8, 1).where, 'the class itself')
         self.assertEqual((told(1, [], 5, 0), told(1, [0, 256], 6, 256), told(1, [0], 10, 0), told(1, [0], 7, 9)), (None,) * 4)
 
     def test_every_number_has_a_name_as_in_the_header(self):
@@ -554,9 +660,9 @@ class Statuses(InFolder):
         for words in (['--help'], ['-h'], ['help']):
             status, out, said = sheet(*words)
             self.assertEqual((status, said), (0, ''))
-            for name in ('read', 'check', 'room', 'build'):
+            for name in ('read', 'check', 'room', 'convert', 'build'):
                 self.assertRegex(out, rf'(?m)^  {name} ')
-        for name in ('read', 'check', 'room', 'build'):
+        for name in ('read', 'check', 'room', 'convert', 'build'):
             for words in ([name, '--help'], [name, '-h'], ['help', name]):
                 status, out, said = sheet(*words)
                 self.assertEqual((status, said, out.startswith(f'usage: sheet {name}')), (0, '', True))
@@ -565,6 +671,7 @@ class Statuses(InFolder):
     def test_usage(self):
         for words in ([], ['write'], ['--json'], ['read'], ['read', '--all', 'x'], ['read', '--json', '--line', 'x'], ['check', '--line', 'x'],
                       ['room'], ['room', '--line', 'x'],
+                      ['convert'], ['convert', '--line', 'x'],
                       ['build', 'x'], ['help', 'nothing']):
             status, out, said = sheet(*words)
             self.assertEqual((status, out), (2, ''), words)
@@ -586,7 +693,8 @@ class Statuses(InFolder):
             'sheet: fields, getters and setters by signature: 6, of which 0 not in the class, 0 shared, 0 perhaps of another'])
 
     def test_output_that_cannot_be_written(self):
-        for words in (['read', 'examples'], ['read', '--json', 'examples'], ['check', 'examples'], ['room', 'examples'], ['--help']):
+        for words in (['read', 'examples'], ['read', '--json', 'examples'], ['check', 'examples'], ['room', 'examples'], ['convert', 'examples'],
+                      ['--help']):
             with open('/dev/full', 'wb') as full:
                 done = subprocess.run([SHEET, *words], cwd=ROOT, stdout=full, stderr=subprocess.PIPE)
             self.assertEqual(done.returncode, 4, words)

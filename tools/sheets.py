@@ -3,7 +3,7 @@
 import struct
 
 # the number of the sheets' format: SHEET_FORMAT of include/sheet_reader.h
-FORMAT = 3
+FORMAT = 4
 
 KINDS = {1: 'class', 2: 'file', 3: 'synthetic class', 4: 'facade of a multi-file class', 5: 'part of a multi-file class'}
 
@@ -39,21 +39,30 @@ REFUSALS = {
     4: ('the major metadata version is above 2', 'the class comes from a newer compiler: compile it with an older metadata version'),
     5: ('d1 is empty', 'compile the class again, or leave it out'),
     6: ('a unit of d1 is above 255', 'd1 was damaged on the way: take the class file anew, or compile again'),
-    7: ('the payload is truncated: a varint is cut short by the end of its message', 'd1 is damaged, or has the seven-bit form of an old compiler: take the class file anew, or compile again'),
-    8: ('a field has a wire type that is not read', 'd1 is damaged, or has the seven-bit form of an old compiler: take the class file anew, or compile again'),
-    9: ('a varint is too long', 'd1 is damaged, or has the seven-bit form of an old compiler: take the class file anew, or compile again'),
+    7: ('the payload is truncated: a varint is cut short by the end of its message', 'd1 is damaged: take the class file anew, or compile again'),
+    8: ('a field has a wire type that is not read', 'd1 is damaged: take the class file anew, or compile again'),
+    9: ('a varint is too long', 'd1 is damaged: take the class file anew, or compile again'),
     10: ('the class has more than 2,048 types', 'the class is too large for this reader: split its source file'),
     11: ('the texts are longer than the text area or 65,534 bytes', 'lend a text area of 65,534 bytes; if it was that long, split the source file'),
     12: ('the sheet is longer than its area', 'lend a longer sheet area'),
-    13: ('a length or a fixed number runs past its message', 'd1 is damaged, or has the seven-bit form of an old compiler: take the class file anew, or compile again'),
-    14: ('a field number is too large for 32 bits', 'd1 is damaged, or has the seven-bit form of an old compiler: take the class file anew, or compile again'),
+    13: ('a length or a fixed number runs past its message', 'd1 is damaged: take the class file anew, or compile again'),
+    14: ('a field number is too large for 32 bits', 'd1 is damaged: take the class file anew, or compile again'),
+    15: ('d1 has the wrong form: the one that it would be converted to', 'there is nothing to convert; the reader takes both forms'),
+    16: ('the first unit of the old form would be 0, which is the marker', 'keep the d1 with the marker: these bytes have no old form'),
 }
 DETAILS = {6: 'the unit', **dict.fromkeys((7, 8, 9, 13, 14), 'the offset among the decoded bytes')}
+
+# given by conversions of d1 alone, never by the reader
+OF_CONVERSIONS = {15, 16}
+
+# what the two forms of d1 are called
+MARKER_FORM, OLD_FORM = 'with the marker', 'the old form'
 
 # the names that include/sheet_reader.h gives them, as SHEET_TRUNCATED
 REFUSAL_NAMES = {
     1: 'd1 too long', 2: 'd2 too long', 3: 'string ends', 4: 'newer version', 5: 'empty', 6: 'not a byte', 7: 'truncated', 8: 'wire type',
     9: 'oversized varint', 10: 'too many types', 11: 'text too long', 12: 'sheet too long', 13: 'past message', 14: 'field too large',
+    15: 'wrong form', 16: 'first unit zero',
 }
 
 
@@ -167,7 +176,7 @@ def line_answer(line):
         sheet, text = (b'' if w == '-' else bytes.fromhex(w) for w in words[2:])
     except (ValueError, IndexError):
         raise NotALine('it is not number, detail, sheet and text') from None
-    if number and number not in REFUSALS:
+    if number and number not in REFUSALS or number in OF_CONVERSIONS:
         raise NotALine(f'there is no refusal {number}')
     return number, detail, sheet, text
 

@@ -9,7 +9,7 @@ import importlib.util, pathlib, re, sys
 SPECS = {
     'recordTable': 'sheet/specs/Rows.antt',
     'rows': ['declarations/specs/Payload.antt', 'declaration_rows/specs/Rows.antt', 'descriptors/specs/Defaults.antt'],
-    'refusals': 'inputs/specs/Refusals.antt',
+    'refusals': [('inputs/specs/Refusals.antt', 'numberOf', 'detailOf'), ('converter/specs/Conversions.antt', 'faultNumber', 'faultDetail')],
     'roles': 'declaration_rows/specs/Rows.antt',
     'limits': {'unitLimit': 'encoding/specs/Encoding.antt', 'stringLimit': 'inputs/specs/Inputs.antt', 'allowance': 'schema/specs/Reading.antt',
                'textLimit': 'passes/specs/Answered.antt', 'maxDepth': 'schema/specs/Types.antt'},
@@ -47,6 +47,13 @@ CAUSES = {
     'tooManyTypes': ('TOO_MANY_TYPES', 'types'),
     'textTooLong': ('TEXT_TOO_LONG', 'text'),
     'sheetTooLong': ('SHEET_TOO_LONG', 'sheet'),
+    # of the conversions
+    'tooManyUnits': ('D1_TOO_LONG', 'd1 has more than'),
+    'nothingThere': ('EMPTY', 'd1 is empty'),
+    'wrongForm': ('WRONG_FORM', 'wrong form'),
+    'unitAbove255': ('NOT_A_BYTE', 'above 255'),
+    'firstUnitZero': ('FIRST_UNIT_ZERO', 'would be 0'),
+    'unitsAreaTooShort': ('SHEET_TOO_LONG', 'area'),
 }
 ROLES = {
     'returnRole': ('RETURNED', 'returned'),
@@ -153,11 +160,17 @@ def numbers(text, pattern):
 
 def defined_refusals(root):
     """Number of each cause, and the numbers that have a detail."""
-    text = spec(root, SPECS['refusals'])
-    causes = numbers(text, r'^numberOf \(?(\w+)[^=]*= (\d+)$')
-    details = {causes[c] for c, value in re.findall(r'^detailOf \(?(\w+)[^=]*= (\w+)$', text, re.M) if value != '0'}
+    causes, details = {}, set()
+    for path, number, detail in SPECS['refusals']:
+        text = spec(root, path)
+        causes.update(numbers(text, rf'^{number} \(?(\w+)[^=]*= (\d+)$'))
+        details |= {causes[c] for c, value in re.findall(rf'^{detail} \(?(\w+)[^=]*= (\w+)$', text, re.M) if value != '0'}
     if set(causes) != set(CAUSES):
-        raise NotFound(f'the causes {", ".join(sorted(set(causes) ^ set(CAUSES)))} both here and in inputs')
+        raise NotFound(f'the causes {", ".join(sorted(set(causes) ^ set(CAUSES)))} both here and in the definitions')
+    for name in names(CAUSES, causes):
+        found = {number for cause, number in causes.items() if CAUSES[cause][0] == name}
+        if len(found) > 1:
+            raise NotFound(f'one number for {name}, but {sorted(found)}')
     return causes, details
 
 

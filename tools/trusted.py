@@ -26,6 +26,7 @@ ORDER = [
     ('promises', 'characters: WellFormed; sheet: Reading Refs; schema: Counting; promises: Walk Promises'),
     ('demand 3', 'grammar: Grammar; defaults: Needs Descriptor Demand'),
     ('the room', 'room: Room Exact'),
+    ('conversions of d1', 'converter: Conversions Statements'),
     ('the exported functions', 'sheet_calls: Calls'),
 ]
 # what only the program's line and the examples rest on

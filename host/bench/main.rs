@@ -2,6 +2,7 @@
 
 mod timing;
 
+use harness::forms::{is_old, marked, unpacked};
 use harness::input::Input;
 use harness::limits::{self, AREA};
 use harness::reader::{Reader, LARGEST};
@@ -66,9 +67,17 @@ fn repeat(inputs: &[Input], count: u64, reader: Reader, what: What) {
     }
 }
 
-/// The real classes that the reader's limits let through.
+/// The real classes that the reader's limits let through. Those of the old form are apart: the Rust refuses them.
 fn classes() -> Vec<Input> {
-    corpus::classes().into_iter().filter(|class| class.d1.len() <= limits::UNITS).collect()
+    corpus::classes().into_iter().filter(|class| class.d1.len() <= limits::UNITS && !is_of_old_form(class)).collect()
+}
+
+fn of_old_form() -> Vec<Input> {
+    corpus::classes().into_iter().filter(|class| class.d1.len() <= limits::UNITS && is_of_old_form(class)).collect()
+}
+
+fn is_of_old_form(class: &Input) -> bool {
+    limits::reads_payload(class.k) && is_old(&class.d1)
 }
 
 fn corpus(count: u64, reader: Reader, what: What) {
@@ -117,9 +126,16 @@ fn all(mut timing: Timing) {
     }
     let heads: Vec<Input> = classes.iter().filter(|class| !limits::reads_payload(class.k)).cloned().collect();
     timing.set("real classes of kinds 3 and 4", &heads);
+    let old = of_old_form();
+    timing.set("real classes of the old form, which the Rust refuses", &old);
+    timing.set("the same with the marker", &old.iter().map(with_marker).collect::<Vec<_>>());
     for size in [1, 3, 10, 20, 30] {
         timing.set(&format!("a made class of {size} kB"), &[slow::ordinary(size * 1000)]);
     }
+}
+
+fn with_marker(class: &Input) -> Input {
+    Input { d1: marked(&unpacked(&class.d1)), ..class.clone() }
 }
 
 /// The slowest inputs, those that the type table makes last.

@@ -1,5 +1,6 @@
 //! Holds the reader to the original Rust, in one process, over many inputs. See host/README.md.
 
+mod convert;
 mod once;
 mod options;
 mod run;

@@ -1,5 +1,6 @@
 //! Runs over numbered inputs, what they count, and the differences that they show.
 
+use crate::convert;
 use crate::options::{Mode, Options};
 use harness::answer::{Answer, NUMBERS};
 use harness::comparison::{Basis, Change};
@@ -47,6 +48,7 @@ impl Source {
             }
             Mode::Room => self.classes.get(number as usize).cloned().unwrap_or_else(|| self.made(&mut random)),
             Mode::Slow => self.slow.get(number as usize)?.input.clone(),
+            Mode::Convert => return None,
         })
     }
 
@@ -80,6 +82,7 @@ fn areas(mode: Mode, judge: &Judge) -> Vec<(Areas, Option<u64>)> {
         Mode::Boundaries => around(judge).into_iter().chain([LARGE, Areas::PROGRAM]).collect(),
         Mode::Room => return fitting(&judge.room()).into_iter().map(|(areas, number)| (areas, Some(number))).collect(),
         Mode::Slow => vec![Areas::PROGRAM, LARGE],
+        Mode::Convert => Vec::new(),
     };
     areas.into_iter().map(|areas| (areas, None)).collect()
 }
@@ -198,7 +201,10 @@ pub fn modes(modes: &[Mode], options: &Options) -> bool {
         // Where all modes are run, those with many and long calls get fewer inputs.
         let fewer = modes.len() > 1 && *mode == Mode::Boundaries;
         let count = if fewer { options.count / 20 } else { options.count };
-        fine &= one_mode(&source, *mode, count, options);
+        fine &= match mode {
+            Mode::Convert => convert::mode(count, options),
+            _ => one_mode(&source, *mode, count, options),
+        };
     }
     fine
 }

@@ -1,7 +1,9 @@
 //! Whether the comparison finds mistakes: each is planted in the stand-in by itself.
 
+use crate::convert;
 use crate::options::{Mode, Options};
 use crate::run::{Run, Source};
+use harness::conversion::{self, Converter, Inputs};
 use harness::reader::Reader;
 use harness::second::Mistake;
 
@@ -19,6 +21,20 @@ pub fn run(options: &Options) -> bool {
         println!("{mistake:?} ({}): {shown}", mistake.words());
     }
     println!("{} mistakes, {missed} not found", Mistake::ALL.len());
+    converters(options) && missed == 0
+}
+
+/// The same of mistakes of the conversions.
+fn converters(options: &Options) -> bool {
+    let inputs = Inputs::default();
+    let mut missed = 0;
+    for mistake in conversion::Mistake::ALL {
+        let found = convert::found_after(Converter::StandIn(*mistake), &inputs, options);
+        missed += usize::from(found.is_none());
+        let shown = found.map_or("NOT FOUND".to_string(), |number| format!("convert {}", number + 1));
+        println!("{mistake:?} ({}): {shown}", mistake.words());
+    }
+    println!("{} mistakes of conversions, {missed} not found", conversion::Mistake::ALL.len());
     missed == 0
 }
 

@@ -1,8 +1,10 @@
-//! A libFuzzer target: an input is a program's input, and the reader is held to the original Rust on it.
+//! A libFuzzer target: an input is a program's input, and the reader is held to the original Rust on it; then both conversions of its d1 to their
+//! second implementation.
 //!
 //! What guides the search are the branches of the original, of the second reading and, where host/fuzz/library has
 //! built it so, of the static library. An input that is found wrong can be given to `compare --file`.
 
+use harness::conversion::{convert, length, Converter, Lender, Way};
 use harness::damage::damaged;
 use harness::expected::expected;
 use harness::input::Input;
@@ -18,6 +20,7 @@ extern "C" {
 
 thread_local! {
     static CALLER: RefCell<Caller> = RefCell::new(Caller::default());
+    static LENDER: RefCell<Lender> = RefCell::new(Lender::default());
 }
 
 #[no_mangle]
@@ -30,7 +33,22 @@ pub unsafe extern "C" fn LLVMFuzzerTestOneInput(data: *const u8, size: usize) ->
         check(&input, Areas { sheet, text });
         check(&input, Areas { sheet: sheet - 1, text });
     }
+    Way::BOTH.into_iter().for_each(|way| check_conversion(way, &input.d1));
     0
+}
+
+/// Converts d1 into areas that are a unit short, just enough and longer, and ends the run where an answer isn't what it must be.
+fn check_conversion(way: Way, d1: &[u16]) {
+    let enough = length(way, d1.len());
+    for room in [enough.saturating_sub(1), enough, enough + 3] {
+        let expected = convert(way, d1, room);
+        let converter = Converter::beside(Reader::DEFAULT);
+        let (_, difference) = LENDER.with_borrow_mut(|lender| lender.call(converter, way, d1, room, &expected));
+        if let Some(words) = difference {
+            eprintln!("{}, area of {room} units: {words}", way.words());
+            std::process::abort();
+        }
+    }
 }
 
 /// Reads an input and ends the run where the answer isn't what it must be; gives the lengths of an accepted one.

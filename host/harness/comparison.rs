@@ -13,6 +13,9 @@ pub enum Basis {
     Original,
     /// Refusals 1 to 3, from what is handed in alone.
     Limits,
+    /// The second reading: d1 has the old form, of which the original takes the units without the shift by one. What is refused before its bytes
+    /// are taken, and kinds whose payload isn't read, stay with the original.
+    OldForm,
     /// The second reading: the original has no refusal 10, and can be kept busy for hours by types.
     Types,
     /// The second reading: the specification leaves out ranges that sum to more than 65,536.
@@ -28,9 +31,10 @@ pub enum Basis {
 }
 
 impl Basis {
-    pub const ALL: [Self; 7] = [
+    pub const ALL: [Self; 8] = [
         Self::Original,
         Self::Limits,
+        Self::OldForm,
         Self::Types,
         Self::Ranges,
         Self::Memory,
@@ -42,6 +46,7 @@ impl Basis {
         match self {
             Self::Original => "the Rust",
             Self::Limits => "the limits",
+            Self::OldForm => "the second reading for the old form",
             Self::Types => "the second reading for 10",
             Self::Ranges => "the second reading for ranges",
             Self::Memory => "the second reading for memory",
@@ -85,6 +90,7 @@ const MEMORY: u64 = 1 << 28;
 pub fn basis(reading: &Reading) -> Basis {
     match reading.whole.answer.number {
         1..=3 => Basis::Limits,
+        _ if reading.old_form => Basis::OldForm,
         10 => Basis::Types,
         _ if reading.ranges > RANGES => Basis::Ranges,
         _ if reading.record_bytes + 4 * reading.text_total > MEMORY => Basis::Memory,

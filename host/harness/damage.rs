@@ -90,7 +90,7 @@ fn rest(random: &mut Random, input: &mut Input) {
         }
         _ => {
             if let Some((0, units)) = input.d1.split_first() {
-                input.d1 = crate::made::old_form(&units.iter().map(|unit| *unit as u8).collect::<Vec<_>>());
+                input.d1 = crate::forms::packed(&units.iter().map(|unit| *unit as u8).collect::<Vec<_>>());
             }
         }
     }

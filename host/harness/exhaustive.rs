@@ -1,7 +1,7 @@
 //! Every short content of every message, numbered from 0.
 
+use crate::forms::marked;
 use crate::input::{units, Input};
-use crate::made::marked;
 use crate::shapes::{bytes, function_with, number, payload};
 
 /// A place in a payload, the bytes that matter there, and the input around a content.
@@ -42,9 +42,6 @@ fn record(content: &[u8]) -> Input {
 fn places() -> Vec<Place> {
     vec![
         place(b"\x00\x01\x02\x03\x04\x08\x0a\x10\x12\x18\x1a\x22\x42\x4a\x80\xff", |c| class_of(1, marked(c))),
-        place(b"\x00\x01\x02\x04\x06\x08\x0a\x10\x20\x40\x60\x7f\x80\x81\xff\x30", |c| {
-            class_of(1, c.iter().map(|byte| u16::from(*byte)).collect())
-        }),
         place(b"\x00\x01\x02\x03\x08\x10\x2a\x0d\x18\x1a\x42\x4a\x52\x5a\x80\xff", |c| body(1, c)),
         place(b"\x00\x01\x02\x03\x10\x11\x12\x18\x1a\x2a\x1d\x22\x42\x5a\x80\xff", |c| body(5, c)),
         place(b"\x00\x01\x02\x03\x08\x0a\x10\x12\x13\x15\x18\xa2\x06\x2a\x80\xff", |c| body(1, &bytes(8, c))),
@@ -76,6 +73,10 @@ fn places() -> Vec<Place> {
         place(b"\x24\x2f\x4c\x3b\x61\xc2\xc3\xe0\xed\xef\xf0\xf4\x80\x9f\xa0\xbf", |c| record(&bytes(6, c))),
         place(b"\x00\x01\x02\x03\x04\x05\x06\x07\x08\x09\x0a\x80\x81\x7f\xff\x0b", |c| {
             record(&[bytes(6, b"a\xc3\xa9\xffkL;"), bytes(4, c)].concat())
+        }),
+        // d1 itself, mostly in its old form: last, since it isn't held to the original
+        place(b"\x00\x01\x02\x03\x05\x07\x09\x11\x21\x41\x61\x7f\x80\x81\xff\x31", |c| {
+            class_of(1, c.iter().map(|byte| u16::from(*byte)).collect())
         }),
     ]
 }

@@ -3,6 +3,7 @@
 
 use crate::answer::{records_on, Answer, Room, Whole};
 use crate::comparison::{self, Basis, Change};
+use crate::forms;
 use crate::input::Input;
 use crate::limits::{self, Areas, TEXT};
 use crate::reader::LARGEST;
@@ -112,12 +113,17 @@ impl Judge {
 /// The place of types among the records of each kind.
 const TYPE_KIND: usize = 5;
 
-/// The original's own answer with the program's areas, as it stands; none where it can't be run.
+/// The original's own answer with the program's areas, as it stands; none where it can't be run. Of the old form it takes other bytes: whether
+/// it can be run on them is seen by the same bytes after a marker.
 pub fn original_answer(input: &Input) -> Option<Whole> {
-    let reading = second::read(input);
+    let mut reading = second::read(input);
+    if reading.old_form {
+        let d1 = forms::marked(&second::unshifted(&input.d1));
+        reading = second::read(&Input { d1, ..input.clone() });
+    }
     match comparison::basis(&reading) {
         Basis::Limits | Basis::Types => Some(reading.whole),
-        Basis::Ranges | Basis::Memory => None,
+        Basis::Ranges | Basis::Memory | Basis::OldForm => None,
         Basis::Original | Basis::DescriptorOperation | Basis::Aliases => {
             Some(original_sheet(input).map_or_else(|refused| refused, |sheet| accepted(sheet, Areas::PROGRAM)))
         }

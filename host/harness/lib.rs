@@ -3,10 +3,12 @@
 pub mod answer;
 pub mod areas;
 pub mod comparison;
+pub mod conversion;
 pub mod corpus;
 pub mod damage;
 pub mod exhaustive;
 pub mod expected;
+pub mod forms;
 pub mod input;
 pub mod limits;
 pub mod made;

@@ -219,6 +219,17 @@ impl Default for Caller {
 }
 
 impl Caller {
+    /// What the reader gives.
+    pub fn whole(&mut self, reader: Reader, input: &Input, areas: Areas) -> Whole {
+        let sheet = self.sheet.slice::<u8>(areas.sheet, true);
+        let text = self.text.slice::<u8>(areas.text, true);
+        let mut answer = [0; 5];
+        reader.call(input, sheet, text, &mut answer);
+        let answer = Answer::from_array(answer);
+        let bytes = |area: &[u8], length: u64| area[..area.len().min(length as usize)].to_vec();
+        Whole { answer, sheet: bytes(sheet, answer.sheet), text: bytes(text, answer.text) }
+    }
+
     /// Calls the reader over patterned areas, and tells how answer and areas differ from what they must be.
     pub fn difference(&mut self, reader: Reader, input: &Input, areas: Areas, expected: &Whole) -> Option<String> {
         self.calls += 1;

@@ -1,8 +1,8 @@
 //! Inputs of a certain shape: depths, counts and lengths at which something changes.
 
+use crate::forms::{marked, packed};
 use crate::input::{units, Input};
 use crate::limits::{STRINGS, TEXT, TYPES, UNITS};
-use crate::made::{marked, old_form};
 use crate::random::Random;
 use crate::tree::put_varint;
 
@@ -372,7 +372,7 @@ fn long_chain(random: &mut Random) -> Input {
 fn old_lengths(random: &mut Random) -> Input {
     let body = returns(&number(6, 1 + random.below(4) as u64));
     let bytes: Vec<u8> = payload(&[], &body)[1..].iter().map(|unit| *unit as u8).collect();
-    let mut d1 = old_form(&bytes);
+    let mut d1 = packed(&bytes);
     d1[0] |= 0x80;
     d1.truncate(if random.once_in(2) { d1.len() } else { random.below(d1.len() + 1) });
     for _ in 0..random.below(9) {

@@ -1,8 +1,8 @@
 //! Makes an input that shows a difference smaller, as long as it still shows one.
 
+use crate::forms::{is_old, marked};
 use crate::input::Input;
 use crate::limits;
-use crate::made::marked;
 use crate::second;
 use crate::tree::{Node, Payload, Value};
 use std::time::{Duration, Instant};
@@ -47,7 +47,7 @@ impl Search<'_> {
 
     /// The form with the marker, if d1 is in the old one.
     fn plain_form(&mut self) {
-        if self.best.d1.first().is_some_and(|first| *first != 0) {
+        if is_old(&self.best.d1) {
             if let Ok(bytes) = second::decode(&self.best.d1) {
                 let d1 = marked(&bytes);
                 self.take(Input { d1, ..self.best.clone() });

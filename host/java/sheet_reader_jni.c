@@ -1,4 +1,4 @@
-/* The native method of sheetreader.SheetReader: one call of sheet_read (include/sheet_reader.h).
+/* The native methods of sheetreader.SheetReader: one call of sheet_read, and one of a conversion (include/sheet_reader.h).
  *
  * All that is handed over stands in memory of this call's own: Java's arrays are copied, so that neither the garbage collector nor another
  * thread touches what the reader works on, and no pointer is NULL. Of an array that is longer than its limit, one element more than the
@@ -54,4 +54,29 @@ JNIEXPORT jbyteArray JNICALL Java_sheetreader_SheetReader_call(JNIEnv *env, jcla
     jbyteArray both = sheet_and_text(env, l);
     free(l);
     return both;
+}
+
+struct converted {
+    uint64_t answer[SHEET_CONVERTED_ANSWER];
+    uint16_t d1[SHEET_UNIT_LIMIT + 1], units[SHEET_OLD_LONGEST]; /* the longest of both */
+};
+
+/* The array isn't null and answer has SHEET_CONVERTED_ANSWER numbers: the Java class, which alone can call this, sees to it. */
+JNIEXPORT jcharArray JNICALL Java_sheetreader_SheetReader_convert(JNIEnv *env, jclass self, jboolean to_new, jcharArray d1, jlongArray answer) {
+    (void)self;
+    struct converted *c = malloc(sizeof *c);
+    if (!c) {
+        throw_no_memory(env);
+        return NULL;
+    }
+    jsize d1_count = at_most((*env)->GetArrayLength(env, d1), SHEET_UNIT_LIMIT);
+    (*env)->GetCharArrayRegion(env, d1, 0, d1_count, c->d1);
+    if (to_new) sheet_old_to_new(c->d1, (size_t)d1_count, c->units, SHEET_OLD_LONGEST, c->answer);
+    else sheet_new_to_old(c->d1, (size_t)d1_count, c->units, SHEET_OLD_LONGEST, c->answer);
+    (*env)->SetLongArrayRegion(env, answer, 0, SHEET_CONVERTED_ANSWER, (const jlong *)c->answer);
+    jsize length = (jsize)c->answer[SHEET_CONVERTED_LENGTH];
+    jcharArray units = (*env)->NewCharArray(env, length);
+    if (units) (*env)->SetCharArrayRegion(env, units, 0, length, c->units);
+    free(c);
+    return units;
 }

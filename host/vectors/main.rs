@@ -2,6 +2,7 @@
 
 mod cases;
 mod examples;
+mod published;
 mod sized;
 
 use harness::answer::{Whole, NUMBERS};
@@ -20,7 +21,7 @@ const LONGEST: usize = 400;
 fn main() {
     let Some(folder) = std::env::args().nth(1) else {
         eprintln!(
-            "vectors FOLDER    writes made, limits and classes, each as .bin and .lines, and the files of area_replays"
+            "vectors FOLDER    writes made, limits and classes, each as .bin and .lines, and the files of area_replays and of converter_vectors"
         );
         std::process::exit(2);
     };
@@ -29,6 +30,7 @@ fn main() {
     write(folder, "made", &made_inputs());
     write(folder, "limits", &examples::limits());
     sized::write(&folder.join("area_replays"));
+    published::write(&folder.join("converter_vectors"));
     let classes = corpus::classes();
     if classes.is_empty() {
         println!("classes: none, no file of real classes in {}", corpus::folder().display());
@@ -42,11 +44,17 @@ fn main() {
     println!("classes: the Rust's own lines are those that stand beside them");
 }
 
-/// The answer of an input that a replay may hold: the original's, a limit's, the 2,049th type, one with type aliases or with operation 2.
+/// The answer of an input that a replay may hold: the original's, a limit's, of the old form, the 2,049th type, one with type aliases or with
+/// operation 2.
 fn answer(input: &Input, areas: Areas) -> Option<Whole> {
     let expected = checked(input, areas);
     let settled = match expected.basis {
-        Basis::Original | Basis::Limits | Basis::Types | Basis::DescriptorOperation | Basis::Aliases => true,
+        Basis::Original
+        | Basis::Limits
+        | Basis::OldForm
+        | Basis::Types
+        | Basis::DescriptorOperation
+        | Basis::Aliases => true,
         Basis::Ranges | Basis::Memory => false,
     };
     settled.then_some(expected.whole)

@@ -2,7 +2,7 @@
 -- Assumes nothing.
 use mathlib.Core.List.{List, [], _∷_, map}
 use mathlib.Core.Option.{Option, none, some}
-use Prim.Native.Nat.{ℕ, _*_, _/_, _%_}
+use Prim.Native.Nat.{ℕ, _+_, _*_, _/_, _%_}
 use lib.Dec.{eqb, ltb}
 use lib.ListN.{length}
 use Rattle.foundation.specs.Choices.{if_then_else_, ifSome}
@@ -17,12 +17,11 @@ unitLimit = 32768
 abbrev pub byteStringMarker : ℕ
 byteStringMarker = 0
 
--- what a unit of the old form carries
+-- What a unit of the old form carries, as Kotlin's BitEncoding takes it: 127 is added, and the low 7 bits are kept. So 1 carries 0, and 0 or 128 carries 127.
 abbrev pub lowSeven : ℕ → ℕ
-lowSeven u = u % 128
+lowSeven u = (u + 127) % 128
 
--- The old form: the low 7 bits of each unit strung together, lowest first; n units give 7n/8 bytes, left-over bits are dropped.
--- Departure: Kotlin's BitEncoding shifts each unit by one first; the reader, like the Rust, doesn't.
+-- The old form: what each unit carries, strung together, lowest first; n units give 7n/8 bytes, left-over bits are dropped.
 unfoldable pub unpacked : List ℕ → List ℕ
 unpacked us = digits 256 (7 * length us / 8) (number 128 (map lowSeven us))
 

@@ -3,7 +3,7 @@ ghost use mathlib.Core.Path.{_≡_};
 ghost use mathlib.Core.Bool.{true};
 ghost use mathlib.Core.Option.{none};
 ghost use Prim.Native.Nat.{_*_, _/_, _≤_};
-ghost use lib.ListN.{length};
+ghost use lib.ListN.{length, set};
 ghost use lib.Seq.{sets};
 ghost use Rattle.encoding.specs.Encoding.{lowSeven, unpacked, firstAbove255};
 ghost use Rattle.encoding.specs.told.Outcome.{aboveOf, limited, DecodeTold};
@@ -24,7 +24,8 @@ pub enum Decoded {
     NoRoom,
 }
 
-enum Above {
+// The first, in order, of the units above 255, if there is one.
+pub enum Above {
     Unit(u16),
     Nothing,
 }
@@ -43,7 +44,7 @@ fn all_bytes(units: &[u16]) -> bool
 }
 
 // The first, in order, of the units above 255.
-fn first_above_255(units: &[u16]) -> Above
+pub fn first_above_255(units: &[u16]) -> Above
     ensures { λ r. ⌜ r ≡ aboveOf (firstAbove255 (now (units .entry))) ⌝ }
 {
     if all_bytes(&*units) {
@@ -72,14 +73,16 @@ fn copy_bytes(units: &[u16], area: &mut [u8])
     }
 }
 
+// What a unit of the old form carries.
 fn low_seven(unit: u16) -> u32
     ensures { λ r. ⌜ r ≡ lowSeven unit ⌝ }
 {
-    (unit % 128) as u32
+    (unit as u32 + 127) % 128
 }
 
 // The old form's bytes, to the area's front. `buffer` holds the bits taken and not yet written: it is below `scale`, 2 to their number.
-fn unpack(units: &[u16], area: &mut [u8])
+// Callers show that the area has room: `decode` has tested it, `converter::old_to_new` has an area for as many as the limit allows.
+pub fn unpack(units: &[u16], area: &mut [u8])
     requires { ⌜ 7 * length (now units) / 8 ≤ length (now area) ⌝ }
     ensures { λ _. ⌜ now (area .exit) ≡ sets (now (area .entry)) 0 (unpacked (now (units .entry))) ⌝ }
 {
@@ -99,6 +102,15 @@ fn unpack(units: &[u16], area: &mut [u8])
         at += 1;
         buffer = taken / 256;
         scale = scale / 2;
+    }
+}
+
+// One unit, clipped: a unit past the area's end is left out.
+pub fn put_unit(area: &mut [u16], at: usize, unit: u16)
+    ensures { λ _. ⌜ now (area .exit) ≡ set (now (area .entry)) at unit ⌝ }
+{
+    if at < area.len() {
+        area[at] = unit;
     }
 }
 

@@ -86,7 +86,7 @@ marked =
     ∷ _shows_ "(e) nine 80, then 7F is 2^63" (isVarint (2 ^ 63) (varintIn "8080808080808080807f"))
     ∷ _shows_ "(f) ten 80: truncated" (isRefused 7 (varintIn "80808080808080808080"))
     ∷ _shows_ "(f) eleven 80: oversized" (isRefused 9 (varintIn "8080808080808080808080"))
-    ∷ _shows_ "(g) 8 old units give 7 bytes" (isBytes (hex "01020304050607") (decoded (hex "01040c2050404103")))
+    ∷ _shows_ "(g) 8 old units give 7 bytes" (isBytes (hex "01020304050607") (decoded (hex "02050d2151414204")))
     ∷ _shows_ "(g) 1 old unit gives 0" (isBytes [] (decoded (hex "05")))
     ∷ _shows_ "(h) Array of Int" (holds (inPackage (hex "00001a0c10001a081204120230023001") (ascii "fkotlin/Arraykotlin/Int") (1 ∷ 13 ∷ 23 ∷ [])
     (gives 0 0 2

@@ -3,9 +3,11 @@
 use mathlib.Core.Path.{_≡_}
 use mathlib.Core.List.{List, [], _∷_}
 use Prim.Native.Nat.{ℕ}
+use lib.IntN.{ℤ}
 use lib.ListN.{getD}
 use Rattle.characters.specs.WellFormed.{Units}
-use Rattle.inputs.specs.Inputs.{Input}
+use Rattle.converter.specs.Conversions.{Conversion}
+use Rattle.inputs.specs.Inputs.{Input, input}
 use Rattle.inputs.specs.Outcomes as definition
 use Rattle.metadata.specs.Read.{read}
 use Rattle.defaults.specs.Demand.{Demand}
@@ -40,3 +42,13 @@ roomIn a = record {
   records =
       getD a 5 0 ∷ getD a 6 0 ∷ getD a 7 0 ∷ getD a 8 0 ∷ getD a 9 0 ∷ getD a 10 0 ∷ getD a 11 0 ∷ getD a 12 0 ∷ getD a 13 0 ∷ [];
 }
+
+-- a conversion's answer as three numbers, and what its area holds afterwards
+abbrev pub convertedIn : List ℕ → List ℕ → Conversion
+convertedIn a units = record { number = getD a 0 0; detail = getD a 1 0; size = getD a 2 0; area = units }
+
+-- Two d1's that are read alike: number, detail, both lengths, types and every byte of both areas are the same, whatever else is handed in.
+abbrev pub SameSheets : List ℕ → List ℕ → Type 0
+SameSheets d1 other =
+    (sheet text : List ℕ) (k : ℤ) (mv : List ℤ) (d2 ends : List ℕ)
+    → read sheet text (input k mv d1 d2 ends) ≡ read sheet text (input k mv other d2 ends)

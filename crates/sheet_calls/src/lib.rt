@@ -1,15 +1,20 @@
 // The functions that the static library exports: a slice is a pointer and a length.
 ghost use mathlib.Core.Path.{_≡_};
 ghost use mathlib.Core.List.{[], _∷_};
+ghost use Prim.Native.Nat.{_+_, _≤_};
 ghost use lib.Dec.{T};
-ghost use lib.ListN.{getD};
+ghost use lib.ListN.{length, getD};
 ghost use Rattle.characters.specs.WellFormed.{Units};
 ghost use Rattle.inputs.specs.Inputs.{input};
 ghost use Rattle.metadata.specs.Read.{read};
 ghost use Rattle.promises.specs.Promises.{Promised, Enough, tellsOffset, BrokeAt};
 ghost use Rattle.room.specs.Room.{room};
 ghost use Rattle.room.specs.Exact.{RoomExact};
-ghost use Rattle.sheet_calls.specs.Calls.{toldIn, DemandWithAny, roomIn};
+ghost use Rattle.converter.specs.Conversions.{oldToNew, newToOld};
+ghost use Rattle.converter.specs.Statements.{OldToNewNumber, NewToOldNumber, AnswerKept, oldBytesLimit, longestNew, longestOld, writtenUnits, ComesBackNew, ComesBackOld};
+ghost use Rattle.sheet_calls.specs.Calls.{toldIn, DemandWithAny, roomIn, convertedIn, SameSheets};
+use converter::new_to_old;
+use converter::old_to_new;
 use metadata::read;
 use room::room;
 
@@ -84,4 +89,35 @@ pub extern "C" fn sheet_room(
         records.aliases as u64,
         records.counts as u64,
     ];
+}
+
+// `old_to_new`, with the answer's number, detail and length in units in this order: an old d1 to its form with the marker. Each refusal is given
+// exactly when its cause is the first that applies; an area of 28,673 units is always enough. What is converted is read alike in both forms, and
+// comes back from `sheet_new_to_old` if it was as packing makes it. Nothing is asked of what is handed in.
+#[no_mangle]
+pub extern "C" fn sheet_old_to_new(d1: &[u16], units: &mut [u16], answer: &mut [u64; 3])
+    ensures { λ _. ⌜ oldToNew (now (units .entry)) (now (d1 .entry)) ≡ convertedIn (now (answer .exit)) (now (units .exit)) ⌝ }
+    ensures refusals { λ _. ⌜ OldToNewNumber (now (units .entry)) (now (d1 .entry)) (getD (now (answer .exit)) 0 0) ⌝ }
+    ensures enough { λ _. ⌜ (longestNew ≤ length (now (units .entry)) → getD (now (answer .exit)) 0 0 ≡ 12 → ⊥) ⌝ }
+    ensures kept { λ _. ⌜ AnswerKept (now (units .entry)) (now (d1 .entry)) (convertedIn (now (answer .exit)) (now (units .exit))) ⌝ }
+    ensures back { λ _. ⌜ (getD (now (answer .exit)) 0 0 ≡ 0 → ComesBackOld (now (d1 .entry)) (convertedIn (now (answer .exit)) (now (units .exit)))) ⌝ }
+    ensures sheets { λ _. ⌜ (getD (now (answer .exit)) 0 0 ≡ 0 → SameSheets (now (d1 .entry)) (writtenUnits (convertedIn (now (answer .exit)) (now (units .exit))))) ⌝ }
+{
+    let r = old_to_new(&*d1, units);
+    *answer = [r.number, r.detail, r.length as u64];
+}
+
+// `new_to_old`, with the same answer: a d1 with its marker to the old form. An area of 37,448 units is always enough. What is converted comes back from
+// `sheet_old_to_new`, up to 28,672 bytes, and is read alike in both forms.
+#[no_mangle]
+pub extern "C" fn sheet_new_to_old(d1: &[u16], units: &mut [u16], answer: &mut [u64; 3])
+    ensures { λ _. ⌜ newToOld (now (units .entry)) (now (d1 .entry)) ≡ convertedIn (now (answer .exit)) (now (units .exit)) ⌝ }
+    ensures refusals { λ _. ⌜ NewToOldNumber (now (units .entry)) (now (d1 .entry)) (getD (now (answer .exit)) 0 0) ⌝ }
+    ensures enough { λ _. ⌜ (longestOld ≤ length (now (units .entry)) → getD (now (answer .exit)) 0 0 ≡ 12 → ⊥) ⌝ }
+    ensures kept { λ _. ⌜ AnswerKept (now (units .entry)) (now (d1 .entry)) (convertedIn (now (answer .exit)) (now (units .exit))) ⌝ }
+    ensures back { λ _. ⌜ (getD (now (answer .exit)) 0 0 ≡ 0 → ComesBackNew (now (d1 .entry)) (convertedIn (now (answer .exit)) (now (units .exit)))) ⌝ }
+    ensures sheets { λ _. ⌜ (getD (now (answer .exit)) 0 0 ≡ 0 → length (now (d1 .entry)) ≤ 1 + oldBytesLimit → SameSheets (now (d1 .entry)) (writtenUnits (convertedIn (now (answer .exit)) (now (units .exit))))) ⌝ }
+{
+    let r = new_to_old(&*d1, units);
+    *answer = [r.number, r.detail, r.length as u64];
 }

@@ -5,6 +5,7 @@ mod members;
 mod names;
 mod types;
 
+use crate::forms::{marked, packed};
 use crate::input::{units, Input};
 use crate::random::Random;
 
@@ -76,13 +77,13 @@ impl Maker<'_> {
     }
 
     fn old_form(&mut self, payload: &[u8]) -> Vec<u16> {
-        let mut units = old_form(payload);
+        let mut units = packed(payload);
         for unit in &mut units {
             if self.random.once_in(6) {
                 *unit |= 0x80;
             }
         }
-        // A first unit 0 would be the marker; its bit 7 isn't looked at.
+        // A first unit 0 would be the marker; 128 is the same group.
         if let Some(first) = units.first_mut() {
             *first |= if *first == 0 { 0x80 } else { 0 };
         }
@@ -104,15 +105,3 @@ impl Maker<'_> {
 
 const LETTERS: [u16; 10] = [0x4c, 0x3b, 0x2f, 0x24, 0x2e, 0x61, 0x5b, 0x28, 0xe9, 0x2020];
 const SURROGATES: [u16; 8] = [0xd800, 0xdbff, 0xdc00, 0xdfff, 0xd83d, 0xde00, 0x61, 0xffff];
-
-/// d1 with the marker.
-pub fn marked(payload: &[u8]) -> Vec<u16> {
-    std::iter::once(0).chain(payload.iter().map(|byte| u16::from(*byte))).collect()
-}
-
-/// The fewest units of seven bits that give the payload.
-pub fn old_form(payload: &[u8]) -> Vec<u16> {
-    let bit = |place: usize| payload.get(place / 8).map_or(0, |byte| u16::from(byte >> (place % 8)) & 1);
-    let unit = |number: usize| (0..7).map(|place| bit(7 * number + place) << place).sum();
-    (0..(8 * payload.len()).div_ceil(7)).map(unit).collect()
-}

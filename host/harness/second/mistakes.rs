@@ -25,6 +25,7 @@ macro_rules! mistakes {
 }
 
 mistakes! {
+    OldFormUnshifted: "units of the old form are taken without the shift by one",
     TenthByteWhole: "a tenth byte above 1 refuses as oversized",
     EleventhMissing: "ten continued bytes at the end refuse as oversized",
     FieldAfterType: "the wire type is tested before the field's size",

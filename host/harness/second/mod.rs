@@ -16,6 +16,7 @@ mod wire;
 pub use mistakes::Mistake;
 
 use crate::answer::{Answer, Room, Whole, KINDS, ROOM};
+use crate::forms::{self, is_old};
 use crate::input::Input;
 use crate::limits::{self, Areas};
 use mistakes::planted;
@@ -33,6 +34,8 @@ pub struct Reading {
     pub record_bytes: u64,
     /// What the ranges of the name records sum to.
     pub ranges: u64,
+    /// Whether d1's bytes were taken from the old form.
+    pub old_form: bool,
     /// Whether the body could be cut into its fields and holds a type alias, named or not.
     pub aliases: bool,
     /// Whether a record of the name table that decides its indices has operation 2.
@@ -47,6 +50,7 @@ pub fn read(input: &Input) -> Reading {
         records: [0; KINDS],
         record_bytes: 0,
         ranges: 0,
+        old_form: false,
         aliases: false,
         descriptor_operation: false,
     };
@@ -68,6 +72,7 @@ pub fn read(input: &Input) -> Reading {
             return reading;
         }
     };
+    reading.old_form = is_old(&input.d1);
     if let Err(refused) = payload(&bytes, input, kind, &mut reading) {
         let (number, detail) = refused.number();
         reading.whole = Whole::refused(number, detail);
@@ -128,19 +133,24 @@ impl Reading {
 
 /// The payload's bytes from d1's units.
 pub fn decode(units: &[u16]) -> Result<Vec<u8>, Whole> {
-    let Some(&first) = units.first() else {
+    if units.is_empty() {
         return Err(Whole::refused(5, 0));
-    };
-    let units = if first == 0 { &units[1..] } else { units };
+    }
     if let Some(unit) = units.iter().find(|unit| **unit > 255) {
         return Err(Whole::refused(6, u64::from(*unit)));
     }
-    if first == 0 {
-        return Ok(units.iter().map(|unit| *unit as u8).collect());
+    if !is_old(units) {
+        return Ok(units[1..].iter().map(|unit| *unit as u8).collect());
     }
-    let bit = |place: usize| (units[place / 7] >> (place % 7)) & 1;
-    let byte = |number: usize| (0..8).map(|place| bit(8 * number + place) << place).sum::<u16>() as u8;
-    Ok((0..7 * units.len() / 8).map(byte).collect())
+    if planted(Mistake::OldFormUnshifted) {
+        return Ok(unshifted(units));
+    }
+    Ok(forms::unpacked(units))
+}
+
+/// The bytes of the old form without the shift by one, as the original takes them.
+pub fn unshifted(units: &[u16]) -> Vec<u8> {
+    forms::bytes_of(units.iter().map(|unit| unit % 128).collect())
 }
 
 /// The stand-in: the same call as the library's, with a planted mistake or none.

@@ -19,7 +19,7 @@ import java.util.concurrent.TimeUnit;
  */
 public final class SheetReader {
     /** The number of the sheets' format. It goes up whenever sheets change; who keeps sheets keeps it beside them. */
-    public static final int FORMAT = 3;
+    public static final int FORMAT = 4;
 
     /** More units of d1 or of d2 are refused. */
     public static final int UNIT_LIMIT = 32768;
@@ -77,6 +77,32 @@ public final class SheetReader {
 
     /** Writes number, detail, both lengths and the types into answer, and gives the sheet and after it the text. */
     private static native byte[] call(int k, int major, int minor, int patch, char[] d1, char[] d2, int[] ends, long[] answer);
+
+    /**
+     * d1 from its old form to the one with the marker. {@link #read} takes both forms.
+     *
+     * @param d1 the units of all strings of d1, one after the other
+     * @throws NullPointerException if it is null; nothing else that is handed in leads to an exception
+     */
+    public static Conversion oldToNew(char[] d1) {
+        return converted(true, d1);
+    }
+
+    /** From the form with the marker to the old one. */
+    public static Conversion newToOld(char[] d1) {
+        return converted(false, d1);
+    }
+
+    /** A conversion takes little stack, so it is made on the thread that calls. */
+    private static Conversion converted(boolean toNew, char[] d1) {
+        Objects.requireNonNull(d1, "d1");
+        long[] answer = new long[3];
+        char[] units = convert(toNew, d1, answer);
+        return new Conversion(answer, units);
+    }
+
+    /** Writes number, detail and length into answer, and gives the units. */
+    private static native char[] convert(boolean toNew, char[] d1, long[] answer);
 
     private static int number(int[] version, int at) {
         return at < version.length ? version[at] : 0;

@@ -33,11 +33,38 @@ final class Test {
         lengths();
         longSheet();
         records(Paths.get(args[0]).resolve("Sale.class"));
+        conversions(Paths.get(args[0]));
         interrupted();
         damaged(Paths.get(args[0]));
         nested();
         System.out.println("host/java: " + checks + " checks, " + failed + " failed");
         System.exit(failed == 0 ? 0 : 1);
+    }
+
+    /** Both conversions: what was converted is read alike and comes back; what is refused; the longest. */
+    private static void conversions(Path examples) throws Exception {
+        for (Path path : paths(examples, ".class")) {
+            ClassMetadata metadata = ClassMetadata.of(Files.readAllBytes(path));
+            String d1 = String.join("", metadata.d1);
+            if (d1.isEmpty()) continue;
+            Conversion old = SheetReader.newToOld(d1.toCharArray());
+            same(path + " to the old form", "converted: " + (8 * (d1.length() - 1) + 6) / 7 + " units", old.toString());
+            same(path + " and back", d1, new String(SheetReader.oldToNew(old.units).units));
+            String[] units = {new String(old.units)};
+            same(path + " in the old form", line(metadata.read()), line(SheetReader.read(metadata.k, metadata.mv, units, metadata.d2)));
+        }
+        char[] longest = new char[32768];
+        same("the longest", "converted: 37448 units", SheetReader.newToOld(longest).toString());
+        Arrays.fill(longest, (char) 1);
+        same("the longest of the old form", "converted: 28673 units", SheetReader.oldToNew(longest).toString());
+        same("too long", "refused: 1, detail 0", SheetReader.oldToNew(new char[100000]).toString());
+        same("empty", "refused: 5, detail 0", SheetReader.oldToNew(new char[0]).toString());
+        same("the marker alone", "refused: 5, detail 0", SheetReader.newToOld(new char[1]).toString());
+        same("with the marker", "refused: 15, detail 0", SheetReader.oldToNew(new char[2]).toString());
+        same("without the marker", "refused: 15, detail 0", SheetReader.newToOld(new char[] {1}).toString());
+        same("above 255", "refused: 6, detail 300", SheetReader.oldToNew(new char[] {1, 300, 400}).toString());
+        same("a first unit 0", "refused: 16, detail 0", SheetReader.newToOld(new char[] {0, 255}).toString());
+        same("one unit", "converted: 1 units", SheetReader.oldToNew(new char[] {1}).toString());
     }
 
     /** A call and the line that is right for it. */
@@ -121,6 +148,7 @@ final class Test {
         thrown("d1's units are null", "d1", () -> SheetReader.read(3, 1, 9, 0, null, units, ends));
         thrown("d2's units are null", "d2", () -> SheetReader.read(3, 1, 9, 0, units, null, ends));
         thrown("the ends are null", "ends", () -> SheetReader.read(3, 1, 9, 0, units, units, null));
+        thrown("d1 to convert is null", "d1", () -> SheetReader.oldToNew(null));
     }
 
     private static void lengths() {

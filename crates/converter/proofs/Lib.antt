@@ -1,0 +1,7 @@
+pub mod FaultLaws
+pub mod PackLaws
+pub mod CaseLaws
+pub mod ConversionLaws
+pub mod RoundTrips
+pub mod Refusals
+pub mod ComesBack
