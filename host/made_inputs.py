@@ -36,6 +36,12 @@ def looked_up(filling):
     return b'\0' + function + field(30, field(1, argument)) + (field(200, b'\0' * filling) if filling else b'')
 
 
+def old_form(payload):
+    """The old form of d1: groups of 7 bits, each carried by a unit one larger, mod 128."""
+    bits = int.from_bytes(payload, 'little')
+    return bytes((bits >> 7 * i) % 128 + 1 & 127 for i in range((8 * len(payload) + 6) // 7))
+
+
 def given(k, major, units, strings):
     d2 = ''.join(strings).encode('utf-16-le')
     ends = [sum(len(s) for s in strings[:i + 1]) for i in range(len(strings))]
@@ -100,6 +106,9 @@ MADE = {
     'wire type 3': (given(2, 1, b'\0\0\x1b', []), '8 1 - -'),
     'past its message': (given(2, 1, b'\0\0\x1a\5', []), '13 2 - -'),
     'field too large': (given(2, 1, b'\0\0\x80\x80\x80\x80\x80\1', []), '14 1 - -'),
+    'forbidden field 0': (given(2, 1, b'\0\0\0\0', []), '17 1 - -'),
+    'the least forbidden field above': (given(2, 1, b'\0\0\x80\x80\x80\x80\x10\0', []), '17 1 - -'),
+    'the largest field': (given(2, 1, b'\0\0\xf8\xff\xff\xff\x0f\0', []), head(2)),
     '32,768 units of d1': (given(3, 1, [0] * 32768, []), head(3)),
     '32,769 units of d1': (given(3, 1, [0] * 32769, []), '1 0 - -'),
     '32,768 units of d2': (given(3, 1, b'', ['x' * 32768]), head(3)),
@@ -116,7 +125,8 @@ MADE = {
     '2,048 types deep': (given(2, 1, b'\0' + nested(2048), ['f']), types_line(2048)),
     'a class in the old form': (given(1, 1, OLD, VAT), VAT_LINE),
     'the same class with the marker': (given(1, 1, MARKED, VAT), VAT_LINE),
-    'eight units of the old form': (given(1, 1, b'\1' * 8, []), head(1)),
+    'eight units of the old form': (given(1, 1, old_form(b'\0' + b'\x78\0' * 3), []), head(1)),
+    'zero bytes in the old form': (given(1, 1, b'\1' * 8, []), '17 1 - -'),
     'one unit of the old form': (given(1, 1, b'\1', []), '7 0 - -'),
     'a marker of the old form': (given(1, 1, [65535, 1, 1], []), '6 65535 - -'),
     '2,049 types deep': (given(2, 1, b'\0' + nested(2049), ['f']), '10 0 - -'),

@@ -15,15 +15,16 @@
 extern "C" {
 #endif
 
-/* The number of the sheets' format: 4 for the sheets as they are told below (1 was without type aliases; up to 2 names by operation 2 of the name
- * table had "kotlin.collections." in front; up to 3 a d1 in its old form was refused or misread). It goes up whenever sheets change, so that a
+/* The number of the sheets' format: 5 for the sheets as they are told below (1 was without type aliases; up to 2 names by operation 2 of the name
+ * table had "kotlin.collections." in front; up to 3 a d1 in its old form was refused or misread; up to 4
+ * fields with a forbidden number were passed over). It goes up whenever sheets change, so that a
  * program that keeps sheets can tell by it which of them to make anew. */
-#define SHEET_FORMAT 4
+#define SHEET_FORMAT 5
 
 /* What sheet_read puts into answer. */
 enum {
     SHEET_NUMBER = 0,       /* 0: read; else refused, see below */
-    SHEET_DETAIL = 1,       /* of 6 the unit; of 7, 8, 9, 13 and 14 where it broke, an offset among the payload's bytes; else 0 */
+    SHEET_DETAIL = 1,       /* of 6 the unit; of 7, 8, 9, 13, 14 and 17 where it broke, an offset among the payload's bytes; else 0 */
     SHEET_LENGTH = 2,       /* bytes of the sheet, 0 if refused */
     SHEET_TEXT_LENGTH = 3,  /* bytes of the text, 0 if refused */
     SHEET_TYPES = 4,        /* type records on the sheet, 0 if refused */
@@ -40,7 +41,7 @@ enum {
 
 /* Refusals. All areas are then as they were.
  *
- * sheet_read gives 1 to 14. They are tested in the order of their numbers, but 7 to 10, 13 and 14 as the payload is read: of these the first that is
+ * sheet_read gives 1 to 14 and 17. They are tested in the order of their numbers, but 7 to 10, 13, 14 and 17 as the payload is read: of these the first that is
  * met is given. An offset counts the payload's bytes from 0: where d1 begins with a unit 0, the byte at offset n is its unit n + 1. It is that of
  * the first byte of the varint or fixed number that was read, also where not even that is there.
  *
@@ -63,7 +64,8 @@ enum {
     SHEET_PAST_MESSAGE = 13,       /* a length, or a fixed number, runs past its message; detail: the length's or the number's offset */
     SHEET_FIELD_TOO_LARGE = 14,    /* a field number is above 32 bits; detail: its tag's offset */
     SHEET_WRONG_FORM = 15,         /* conversions: d1 has the other form. It begins with a unit 0 (old to new), or it doesn't (new to old) */
-    SHEET_FIRST_UNIT_ZERO = 16     /* new to old: the first unit would be 0 and pass for the marker. The payload's first byte is 7F or FF hex */
+    SHEET_FIRST_UNIT_ZERO = 16,    /* new to old: the first unit would be 0 and pass for the marker. The payload's first byte is 7F or FF hex */
+    SHEET_FORBIDDEN_FIELD = 17     /* a field number is 0, or above 536870911 and within 32 bits; detail: its tag's offset */
 };
 
 /* Limits. Areas of SHEET_LONGEST and SHEET_TEXT_LIMIT bytes are always enough: with them 12 is never given, and 11 only to a class whose text fits no

@@ -1,11 +1,14 @@
-"""Where a payload breaks, in words. Refusals 7, 8, 9, 13 and 14 tell an offset among the decoded bytes (docs/MANUAL.md, "Refusals"); here the
+"""Where a payload breaks, in words. Refusals 7, 8, 9, 13, 14 and 17 tell an offset among the decoded bytes (docs/MANUAL.md, "Refusals"); here the
 payload is walked down to it: which message it lies in, and what stands there.
 
     p = payloads.place(metadata, number, detail)
     print(p.offset, p.what, p.where)          17, 'the tag there has wire type 3', 'the return type of function 2'"""
 import collections
 
-PLACED = (7, 8, 9, 13, 14)
+PLACED = (7, 8, 9, 13, 14, 17)
+
+# the encoding guide's field numbers are 1 to this
+LARGEST_FIELD = 536_870_911
 
 # offset and how many bytes there are; the byte at the offset, or None at the end; what is wrong with what stands there; the message that it is in
 Place = collections.namedtuple('Place', 'offset of byte what where')
@@ -85,7 +88,7 @@ def fields(data, at, end):
     while at < end:
         tag_at = at
         tag, at = varint(data, at, end, 'tag')
-        if tag >> 3 > 0xffffffff:
+        if not 1 <= tag >> 3 <= LARGEST_FIELD:
             raise Broken(tag_at, f'the tag there has the field number {tag >> 3}')
         if tag & 7 == 0:
             _, at = varint(data, at, end, 'number')

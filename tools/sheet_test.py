@@ -398,6 +398,7 @@ def refused():
         (10, 0, made_class.nested_types(2049)),
         (13, 0, {'k': 2, 'd1': ['\0\1']}),
         (14, 1, {'k': 2, 'd1': ['\0\0\x80\x80\x80\x80\x80\x01\0']}),
+        (17, 1, {'k': 2, 'd1': ['\0\0\0\0']}),
         (11, 0, {**big_class, 'd1': made_class.payload(b'\0' + function * 3), 'd2': [long_text]}),
     ]
 
@@ -430,6 +431,8 @@ class Refusals(InFolder):
                 (b'\x7f\0', 'offset 0 of 2 decoded bytes, byte 7f hex: the length there is 127, and its message has 1 left, in the length of the name table'),
                 (b'\0\x0b', 'offset 1 of 2 decoded bytes, byte 0b hex: the tag there has wire type 3, in the package itself'),
                 (b'\0\x80\x80\x80\x80\x80\x01', 'offset 1 of 7 decoded bytes, byte 80 hex: the tag there has the field number 4294967296, in the package itself'),
+                (b'\0' + function(b'\3'), 'offset 5 of 6 decoded bytes, byte 03 hex: the tag there has the field number 0, in function 1'),
+                (b'\0\x80\x80\x80\x80\x10\0', 'offset 1 of 7 decoded bytes, byte 80 hex: the tag there has the field number 536870912, in the package itself'),
                 (b'\6' + field(1, b'') + field(1, b'\x10\x80'), 'offset 6 of 7 decoded bytes, byte 80 hex: the number there is cut short, in record 2 of the name table'),
                 (b'\4' + field(5, b'\1\x80'), 'offset 4 of 5 decoded bytes, byte 80 hex: the number there is cut short, in the list of local names of the name table'),
                 (b'\0' + function(b'') + function(b'\x08'), 'offset 10 of 10 decoded bytes, at their end: a number is missing there, at the end of its message, in function 2'),

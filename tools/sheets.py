@@ -3,7 +3,7 @@
 import struct
 
 # the number of the sheets' format: SHEET_FORMAT of include/sheet_reader.h
-FORMAT = 4
+FORMAT = 5
 
 KINDS = {1: 'class', 2: 'file', 3: 'synthetic class', 4: 'facade of a multi-file class', 5: 'part of a multi-file class'}
 
@@ -49,8 +49,9 @@ REFUSALS = {
     14: ('a field number is too large for 32 bits', 'd1 is damaged: take the class file anew, or compile again'),
     15: ('d1 has the wrong form: the one that it would be converted to', 'there is nothing to convert; the reader takes both forms'),
     16: ('the first unit of the old form would be 0, which is the marker', 'keep the d1 with the marker: these bytes have no old form'),
+    17: ('a field number is forbidden: 0, or above 536,870,911', 'd1 is damaged: take the class file anew, or compile again'),
 }
-DETAILS = {6: 'the unit', **dict.fromkeys((7, 8, 9, 13, 14), 'the offset among the decoded bytes')}
+DETAILS = {6: 'the unit', **dict.fromkeys((7, 8, 9, 13, 14, 17), 'the offset among the decoded bytes')}
 
 # given by conversions of d1 alone, never by the reader
 OF_CONVERSIONS = {15, 16}
@@ -62,7 +63,7 @@ MARKER_FORM, OLD_FORM = 'with the marker', 'the old form'
 REFUSAL_NAMES = {
     1: 'd1 too long', 2: 'd2 too long', 3: 'string ends', 4: 'newer version', 5: 'empty', 6: 'not a byte', 7: 'truncated', 8: 'wire type',
     9: 'oversized varint', 10: 'too many types', 11: 'text too long', 12: 'sheet too long', 13: 'past message', 14: 'field too large',
-    15: 'wrong form', 16: 'first unit zero',
+    15: 'wrong form', 16: 'first unit zero', 17: 'forbidden field',
 }
 
 

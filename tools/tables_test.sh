@@ -52,7 +52,7 @@ changed $tool 's/^TEXT_LIMIT = 65534/TEXT_LIMIT = 65535/' 'limit TEXT_LIMIT: 655
 changed $tool "s/('receiver', 1), ('parameters', 2)/('parameters', 2), ('receiver', 1)/" "$tool: record 3: at 21 parameters"
 changed $tool "s/^    5: ('d1 is empty'/    5: ('d1 is short'/" 'refusal 5 is told as'
 changed $tool "s/^ROLES = {1: 'returned/ROLES = {0: 'returned/" 'numbers of role'
-changed $tool 's/^DETAILS = {6:/DETAILS = {7:/' 'refusals with a detail: \[7, 8, 9, 13, 14\]'
+changed $tool 's/^DETAILS = {6:/DETAILS = {7:/' 'refusals with a detail: \[7, 8, 9, 13, 14, 17\]'
 changed $tool "s/15: 'wrong form'/15: 'other form'/" 'names of refusals'
 changed $tool "s/9: 'oversized varint'/9: 'long varint'/" 'names of refusals'
 changed $java/Records.java 's/{20, 19, 24, 40/{20, 19, 25, 40/' 'bytes of the records: 20, 19, 25'

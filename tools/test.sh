@@ -48,7 +48,7 @@ refused 'ends in the middle' python3 -B tools/class_input.py "$here/cut.class"
 refused 'does not begin as a class file' python3 -B tools/class_input.py examples/Till.kt
 refused 'no item named' python3 -B tools/class_input.py "$here/till.jar" till/Nothing.class
 say() { echo "$1" | python3 -B tools/sheet_text.py; }
-for number in 1 2 3 4 5 6 7 8 9 10 11 12 13 14; do refused 'What to do: ' say "$number 0 - -"; done
+for number in 1 2 3 4 5 6 7 8 9 10 11 12 13 14 17; do refused 'What to do: ' say "$number 0 - -"; done
 refused 'the unit: 256' say '6 256 - -'
 refused 'ends before what it announces' say input
 refused 'the offset among the decoded bytes: 17' say '13 17 - -'

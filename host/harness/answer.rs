@@ -3,7 +3,7 @@
 use crate::input::hex;
 
 /// 0 and the numbers of refusals, those of the conversions among them.
-pub const NUMBERS: usize = 17;
+pub const NUMBERS: usize = 18;
 
 /// Number, detail, both lengths and the number of types, in the order of the array that the reader fills.
 #[derive(Debug, Clone, Copy, PartialEq, Eq, Default)]

@@ -25,13 +25,16 @@ pub enum Basis {
     /// The second reading: a record that decides its indices has operation 2. The original puts "kotlin.collections." in front there, where
     /// jvm_metadata.proto has DESC_TO_CLASS_ID. On a d2 string no step is taken, so a record that doesn't decide is compared.
     DescriptorOperation,
+    /// The second reading: a message that was cut has a field with a number that the encoding guide forbids, which the original passes over.
+    /// That is so for every refusal 17, and for a backing field in which it is forgiven.
+    Forbidden,
     /// The second reading: the payload has type aliases, which the original doesn't read. What stands before them on an accepted sheet must
     /// still be the original's.
     Aliases,
 }
 
 impl Basis {
-    pub const ALL: [Self; 8] = [
+    pub const ALL: [Self; 9] = [
         Self::Original,
         Self::Limits,
         Self::OldForm,
@@ -39,6 +42,7 @@ impl Basis {
         Self::Ranges,
         Self::Memory,
         Self::DescriptorOperation,
+        Self::Forbidden,
         Self::Aliases,
     ];
 
@@ -51,6 +55,7 @@ impl Basis {
             Self::Ranges => "the second reading for ranges",
             Self::Memory => "the second reading for memory",
             Self::DescriptorOperation => "the second reading for operation 2",
+            Self::Forbidden => "the second reading for forbidden fields",
             Self::Aliases => "the second reading for type aliases",
         }
     }
@@ -95,6 +100,7 @@ pub fn basis(reading: &Reading) -> Basis {
         _ if reading.ranges > RANGES => Basis::Ranges,
         _ if reading.record_bytes + 4 * reading.text_total > MEMORY => Basis::Memory,
         _ if reading.descriptor_operation => Basis::DescriptorOperation,
+        _ if reading.forbidden => Basis::Forbidden,
         _ if reading.aliases => Basis::Aliases,
         _ => Basis::Original,
     }

@@ -124,7 +124,7 @@ pub fn original_answer(input: &Input) -> Option<Whole> {
     match comparison::basis(&reading) {
         Basis::Limits | Basis::Types => Some(reading.whole),
         Basis::Ranges | Basis::Memory | Basis::OldForm => None,
-        Basis::Original | Basis::DescriptorOperation | Basis::Aliases => {
+        Basis::Original | Basis::DescriptorOperation | Basis::Aliases | Basis::Forbidden => {
             Some(original_sheet(input).map_or_else(|refused| refused, |sheet| accepted(sheet, Areas::PROGRAM)))
         }
     }

@@ -12,7 +12,7 @@ use Rattle.foundation.specs.Results.{Res, ok, refused, Part, Got}
 use Rattle.foundation.proofs.ChoiceLaws.{if-ind}
 use Rattle.foundation.proofs.ResultLaws.{Gives, gives-bind, gives-weaken, gives-map, gives-ok}
 use Rattle.fields.specs.Fields.{StringTableTypes·record, StringTableTypes·local-name}
-use Rattle.wire.specs.Wire.{Value, varint, fixed, body, Field, field, Message, readVarint, readValue, readField, cut}
+use Rattle.wire.specs.Wire.{Value, varint, fixed, body, Field, field, Message, readVarint, readValue, isFieldNumber, readField, cut}
 use Rattle.wire.specs.Messages.{values, bytesOf, bodiesOf, cutOption, message, cutAll, messages, varints}
 use Rattle.messages.specs.told.Asked.{bodies}
 use Rattle.names.specs.Records.{Record, recordOf}
@@ -30,7 +30,7 @@ field-two p =
     let value = readValue (p .at) (a .0 % 8) (a .1) in
     let shorter = gives-weaken _ (λ g. length (g .1 .bytes) + 2 ≤ length (p .bytes)) value (value-after (p .at) (a .0 % 8) (a .1)) λ g w.
     omega (arith, after-shorter q, after-shorter (w .1)) in
-    if-ind (Gives P) (ltb (a .0 / 8) (2 ^ 32)) (λ t. gives-map P (field (a .0 / 8)) value shorter) λ t. tt
+    if-ind (Gives P) (isFieldNumber (a .0 / 8)) (λ t. gives-map P (field (a .0 / 8)) value shorter) λ t. tt
 
 cut-halved : (p : Part) → Gives (λ m. 2 * length m ≤ length (p .bytes)) (cut p)
 unfolding cut

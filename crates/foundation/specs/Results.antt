@@ -9,13 +9,14 @@ pub data Cause : Type 0 where
   newerVersion emptyPayload : Cause
   notAByte : ℕ → Cause  -- the unit
   varintCutShort pastItsMessage fieldTooLarge : Cause  -- three causes of 'truncated'
+  forbiddenField : Cause  -- a field number that the encoding guide forbids
   wireType : ℕ → Cause  -- the type
   oversizedVarint : Cause
   tooManyTypes : Cause
   textTooLong sheetTooLong : Cause
 
 -- A refusal has its place: the offset among the decoded bytes of the varint or fixed value being read, of the tag for a wire type
--- or a field too large, of the length for a body past its message; 0 where no bytes are read.
+-- or a field too large or forbidden, of the length for a body past its message; 0 where no bytes are read.
 pub data Res (A : Type 0) : Type 0 where
   ok : A → Res A
   refused : Cause → ℕ → Res A

@@ -12,6 +12,7 @@ use Rattle.foundation.specs.Results.{
   varintCutShort,
   pastItsMessage,
   fieldTooLarge,
+  forbiddenField,
   wireType,
   oversizedVarint,
   tooManyTypes,
@@ -29,13 +30,14 @@ numberOf (notAByte unit) = 6
 numberOf varintCutShort = 7
 numberOf pastItsMessage = 13
 numberOf fieldTooLarge = 14
+numberOf forbiddenField = 17
 numberOf (wireType type) = 8
 numberOf oversizedVarint = 9
 numberOf tooManyTypes = 10
 numberOf textTooLong = 11
 numberOf sheetTooLong = 12
 
--- The unit of 6; of 7, 8, 9, 13 and 14 the place of the refusal, an offset among the decoded bytes; else 0.
+-- The unit of 6; of 7, 8, 9, 13, 14 and 17 the place of the refusal, an offset among the decoded bytes; else 0.
 unfoldable pub detailOf : Cause → ℕ → ℕ
 detailOf d1TooLong place = 0
 detailOf d2TooLong place = 0
@@ -46,6 +48,7 @@ detailOf (notAByte unit) place = unit
 detailOf varintCutShort place = place
 detailOf pastItsMessage place = place
 detailOf fieldTooLarge place = place
+detailOf forbiddenField place = place
 detailOf (wireType type) place = place
 detailOf oversizedVarint place = place
 detailOf tooManyTypes place = 0

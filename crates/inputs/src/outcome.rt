@@ -28,7 +28,7 @@ pub fn refused(number: u64, detail: u64) -> Outcome
     }
 }
 
-// 7, 8, 9, 13 and 14, each with its place.
+// 7, 8, 9, 13, 14 and 17, each with its place.
 fn wire_refusal(error: WireError) -> Outcome
     ensures { λ r. ⌜ RefusedAs (wireCause error) (wirePlace error) r ⌝ }
 {
@@ -37,11 +37,12 @@ fn wire_refusal(error: WireError) -> Outcome
         WireError::OversizedVarint { place } => refused(9, place as u64),
         WireError::PastItsMessage { place } => refused(13, place as u64),
         WireError::FieldTooLarge { place } => refused(14, place as u64),
+        WireError::ForbiddenField { place } => refused(17, place as u64),
         WireError::WireType { kind: _, place } => refused(8, place as u64),
     }
 }
 
-// 7 to 10, 13 and 14.
+// 7 to 10, 13, 14 and 17.
 pub fn stop_refusal(stop: Stop) -> Outcome
     ensures { λ r. ⌜ RefusedAs (stopCause stop) (stopPlace stop) r ⌝ }
 {

@@ -31,6 +31,7 @@ use Rattle.wire.specs.Wire.{
   readDelimited,
   readFixed,
   readValue,
+  isFieldNumber,
   readField,
   Message,
   cut,
@@ -103,7 +104,7 @@ field-end p =
     gives-bind (λ a. Unit {0}) (λ g. Ends (g .0 .value) (g .1)) (readVarint p) _ (gives-any (λ a. Unit {0}) (readVarint p) λ a. tt) λ a q.
     let value = readValue (p .at) (a .0 % 8) (a .1) in
     let P : Got Field → Type 0 = λ g. Ends (g .0 .value) (g .1) in
-    if-ind (Gives P) (ltb (a .0 / 8) (2 ^ 32)) (λ t. gives-map P (field (a .0 / 8)) value (value-end (p .at) (a .0 % 8) (a .1))) λ t. tt
+    if-ind (Gives P) (isFieldNumber (a .0 / 8)) (λ t. gives-map P (field (a .0 / 8)) value (value-end (p .at) (a .0 % 8) (a .1))) λ t. tt
 
 pub body-next : (base : ℕ) (s : List ℕ) (at : ℕ) {r : FieldStep} → FieldTold base s (readField (restOf base s at)) r
     → {n a b : ℕ} (next : ℕ) → r ≡ step.Field n (wire.Body a b) next → b ≡ next

@@ -20,7 +20,7 @@ use Rattle.messages.proofs.FindLaws.{Occur, find-start, find-on, find-w
 use Rattle.messages.proofs.BodyLaws.{Bodies, bodies-start, next-on}
 
 -- such a field, found
-module _ (s : List ℕ) (k at : ℕ) {tag next first start : ℕ} (h : ShortField s at tag next first start) (d : tag / 8 ≡ k) where
+module _ (s : List ℕ) (k at : ℕ) {tag next first start : ℕ} (h : ShortField s at tag next first start) (z : 8 ≤ tag) (d : tag / 8 ≡ k) where
   here : (v : WireValue) (end : ℕ) → ((base : ℕ) → FieldTold base s (readField (restOf base s at)) (step.Field (tag / 8) v end))
       → FoundAt s k at (found.Value v)
   here v end e = (
@@ -30,10 +30,10 @@ module _ (s : List ℕ) (k at : ℕ) {tag next first start : ℕ} (h : ShortFiel
   )
 
   pub found-varint : tag % 8 ≡ 0 → FoundAt s k at (found.Value (wire.Varint first))
-  found-varint e = here (wire.Varint first) start λ base. short-varint s at tag next first start h base e
+  found-varint e = here (wire.Varint first) start λ base. short-varint s at tag next first start h z base e
 
   pub found-body : tag % 8 ≡ 2 → first ≤ length s - start → FoundAt s k at (found.Value (wire.Body start (start + first)))
-  found-body e f = here (wire.Body start (start + first)) (start + first) λ base. short-body s at tag next first start h base e f
+  found-body e f = here (wire.Body start (start + first)) (start + first) λ base. short-body s at tag next first start h z base e f
 
 -- what holds from the place after skipped fields holds from the first
 module _ (base : ℕ) {s : List ℕ} {k at next : ℕ} (t : SkipTold s k at next) where

@@ -89,12 +89,16 @@ pub enum Found {
     Nothing,
 }
 
-// The value of the field at a place, if it has the number `number`, and its tag and the varint after it have one or two bytes each.
+// The value of the field at a place, if it has the number `number`, and its tag and the varint after it have one or two bytes each. A tag below
+// 8 is field 0, which is forbidden.
 fn short_found(s: &[u8], number: u32, at: usize) -> Found
     ensures { λ r. ⌜ FoundAt (now (s .entry)) number at r ⌝ }
 {
     let tag = short_varint(&*s, at);
     if tag.size == 0 {
+        return Found::Nothing;
+    }
+    if tag.value < 8 {
         return Found::Nothing;
     }
     if tag.value / 8 != number as u64 {

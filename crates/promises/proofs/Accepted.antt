@@ -21,6 +21,7 @@ use Rattle.foundation.specs.Results.{
   varintCutShort,
   pastItsMessage,
   fieldTooLarge,
+  forbiddenField,
   wireType,
   oversizedVarint,
   tooManyTypes,
@@ -52,6 +53,7 @@ refusal-numbered (notAByte u) = omega arith
 refusal-numbered varintCutShort = omega arith
 refusal-numbered pastItsMessage = omega arith
 refusal-numbered fieldTooLarge = omega arith
+refusal-numbered forbiddenField = omega arith
 refusal-numbered (wireType t) = omega arith
 refusal-numbered oversizedVarint = omega arith
 refusal-numbered tooManyTypes = omega arith

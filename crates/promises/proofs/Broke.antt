@@ -17,6 +17,7 @@ use Rattle.foundation.specs.Results.{
   varintCutShort,
   pastItsMessage,
   fieldTooLarge,
+  forbiddenField,
   wireType,
   oversizedVarint,
   tooManyTypes,
@@ -54,6 +55,7 @@ module _ (i : Input) (sheet text : List ℕ) where
   placed-broke bytes e varintCutShort place p z = record { bytes = bytes; decodes = e; offset = p; there = λ s m. absurd (s refl) }
   placed-broke bytes e pastItsMessage place p z = record { bytes = bytes; decodes = e; offset = p; there = λ s m. absurd (m refl) }
   placed-broke bytes e fieldTooLarge place p z = record { bytes = bytes; decodes = e; offset = omega arith; there = λ s m. p }
+  placed-broke bytes e forbiddenField place p z = record { bytes = bytes; decodes = e; offset = omega arith; there = λ s m. p }
   placed-broke bytes e (wireType type) place p z = record { bytes = bytes; decodes = e; offset = omega arith; there = λ s m. p }
   placed-broke bytes e oversizedVarint place p z = record { bytes = bytes; decodes = e; offset = omega arith; there = λ s m. p }
   placed-broke bytes e tooManyTypes place p z = absurd z

@@ -22,6 +22,7 @@ use Rattle.foundation.specs.Results.{
   varintCutShort,
   pastItsMessage,
   fieldTooLarge,
+  forbiddenField,
   wireType,
   oversizedVarint,
   tooManyTypes,
@@ -41,7 +42,7 @@ use Rattle.foundation.proofs.ChoiceLaws.{if-ind, some-ind}
 use Rattle.foundation.proofs.EveryLaws.{all-at}
 use Rattle.foundation.proofs.ResultLaws.{Gives, gives-weaken}
 use Rattle.encoding.specs.Encoding.{unitLimit, decoded, firstAbove255}
-use Rattle.wire.specs.Wire.{Value, varint, fixed, body, Message, VARINT, I64, LEN, I32, group, groupsFrom, readVarint, readBytes, readDelimited, readFixed, readValue, readField, isEmpty, repeated, cut, packed}
+use Rattle.wire.specs.Wire.{Value, varint, fixed, body, Message, VARINT, I64, LEN, I32, group, groupsFrom, readVarint, readBytes, readDelimited, readFixed, readValue, isFieldNumber, readField, isEmpty, repeated, cut, packed}
 use Rattle.wire.specs.Messages.{values, asBody, index, cutOption, bytesOf, message, bodiesOf, cutAll, messages, varintsIn, joined, varints}
 use Rattle.wire.proofs.Readers.{After, Within, ReadIn, after-length, after-shorter, within-length, varint-after, delimited-after, field-after}
 use Rattle.wire.proofs.MessageLaws.{Values, values-weaken, values-all, bytesOf-all}
@@ -70,6 +71,7 @@ Placed n (notAByte unit) place = Unit {0}
 Placed n varintCutShort place = place ≤ n
 Placed n pastItsMessage place = place ≤ n
 Placed n fieldTooLarge place = place < n
+Placed n forbiddenField place = place < n
 Placed n (wireType type) place = place < n
 Placed n oversizedVarint place = place < n
 Placed n tooManyTypes place = Unit {0}
@@ -156,8 +158,9 @@ module _ (n : ℕ) where
       placing-both _ (readField p) (gives-weaken _ _ (readField p) (field-after p) λ g a. in-after (a .1) h)
       (placing-bind _ Any (readVarint p) _ (placing-varint p h) λ a q.
       let there : p .at < n = omega (arith, after-shorter q) in
-      if-ind (Placing n Any) (ltb (a .0 / 8) (2 ^ 32))
-      (λ t. placing-map _ (readValue (p .at) (a .0 % 8) (a .1)) (placing-value (p .at) (a .0 % 8) (a .1) there (in-after q h))) λ t. there)
+      if-ind (Placing n Any) (isFieldNumber (a .0 / 8))
+      (λ t. placing-map _ (readValue (p .at) (a .0 % 8) (a .1)) (placing-value (p .at) (a .0 % 8) (a .1) there (in-after q h))) λ t.
+      if-ind (λ c. Placed n c (p .at)) (ltb (a .0 / 8) (2 ^ 32)) (λ t. there) λ t. there)
 
   module _ {A : Type 0} (read : Part → Res (Got A)) (one : (p : Part) → In p → Placing n (λ g. In (g .1)) (read p)) where
     placing-repeated : (k : ℕ) (p : Part) → In p → Placing n Any (repeated read k p)
@@ -504,6 +507,7 @@ placed-early n (notAByte unit) place p h g = omega arith
 placed-early n varintCutShort place p h g = omega arith
 placed-early n pastItsMessage place p h g = omega arith
 placed-early n fieldTooLarge place p h g = omega arith
+placed-early n forbiddenField place p h g = omega arith
 placed-early n (wireType type) place p h g = omega arith
 placed-early n oversizedVarint place p h g = omega arith
 placed-early n tooManyTypes place p h g = omega arith

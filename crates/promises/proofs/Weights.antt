@@ -13,7 +13,7 @@ use Rattle.foundation.specs.Choices.{if_then_else_, ifSome, IfSome}
 use Rattle.foundation.specs.Results.{Part, Got}
 use Rattle.foundation.proofs.ChoiceLaws.{if-ind}
 use Rattle.foundation.proofs.ResultLaws.{Gives, gives-bind, gives-weaken, gives-map}
-use Rattle.wire.specs.Wire.{Value, varint, fixed, body, Field, field, Message, VARINT, I64, LEN, I32, readVarint, readBytes, readDelimited, readFixed, readValue, readField, cut}
+use Rattle.wire.specs.Wire.{Value, varint, fixed, body, Field, field, Message, VARINT, I64, LEN, I32, readVarint, readBytes, readDelimited, readFixed, readValue, isFieldNumber, readField, cut}
 use Rattle.wire.specs.Messages.{values, firstOf, asVarint, as32, varintOf, index, bodiesOf, cutAll, messages}
 use Rattle.wire.proofs.Readers.{after-shorter, varint-after, bytes-after}
 use Rattle.wire.proofs.Progress.{every-gives}
@@ -80,7 +80,7 @@ field-weight p =
     let value = readValue (p .at) (a .0 % 8) (a .1) in
     let weighs = gives-weaken _ (λ g. takes (g .0) + length (g .1 .bytes) ≤ length (p .bytes)) value (value-weight (p .at) (a .0 % 8) (a .1)) λ g w.
     omega (arith, after-shorter q) in
-    if-ind (Gives (FieldWeighs p)) (ltb (a .0 / 8) (2 ^ 32)) (λ t. gives-map (FieldWeighs p) (field (a .0 / 8)) value weighs) λ t. tt
+    if-ind (Gives (FieldWeighs p)) (isFieldNumber (a .0 / 8)) (λ t. gives-map (FieldWeighs p) (field (a .0 / 8)) value weighs) λ t. tt
 
 pub cut-weight : (p : Part) → Gives (λ m. weight m ≤ length (p .bytes)) (cut p)
 unfolding cut

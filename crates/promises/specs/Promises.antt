@@ -65,7 +65,7 @@ pub record Enough (sheet text : List ℕ) (i : Input) (a : Answer) : Type 0 wher
 
 -- The numbers whose detail is an offset among the decoded bytes.
 abbrev pub tellsOffset : ℕ → Bool
-tellsOffset number = eqb number 7 || (eqb number 8 || (eqb number 9 || (eqb number 13 || eqb number 14)))
+tellsOffset number = eqb number 7 || (eqb number 8 || (eqb number 9 || (eqb number 13 || (eqb number 14 || eqb number 17))))
 
 -- Where an answer with such a number says that the payload broke:
 pub record BrokeAt (i : Input) (a : Answer) : Type 0 where
@@ -74,5 +74,5 @@ pub record BrokeAt (i : Input) (a : Answer) : Type 0 where
   pub decodes : decoded (i .d1) ≡ ok bytes
   -- and the detail is an offset among its bytes. It is their number only if a varint (7) or a fixed value (13) is missing at the very end;
   pub offset : a .detail ≤ length bytes
-  -- a tag (8, 14) and an oversized varint (9) are there.
+  -- a tag (8, 14, 17) and an oversized varint (9) are there.
   pub there : (a .number ≡ 7 → ⊥) → (a .number ≡ 13 → ⊥) → a .detail < length bytes

@@ -15,7 +15,7 @@ use Rattle.foundation.specs.Texts.{Text}
 use Rattle.wire.specs.Wire.{groupsFrom, readVarint, varint, field, readField, repeated, Message, cut}
 use Rattle.wire.specs.Messages.{values, firstOf, asBody, varintOf, index, bytesOf, joined, varints}
 use Rattle.messages.specs.told.Asked.{pieceTold, indexTold}
-use Rattle.wire.proofs.FieldLaws.{value-varint, field-value}
+use Rattle.wire.proofs.FieldLaws.{value-varint, number-fine, field-value}
 use Rattle.wire.proofs.WalkLaws.{ok-same}
 use Rattle.characters.specs.told.Places.{partFrom}
 use Rattle.characters.proofs.UnitLaws.{units-ended, units-cons}
@@ -67,12 +67,12 @@ one-byte a v bs h =
     let e : v % 128 + 128 * 0 ≡ v = omega arith in
     rw (lt-ltb v 128 h) (ap (λ (n : ℕ). got n (_from_ (a + 1) bs)) e)
 
-module _ (a n v : ℕ) (h : n < 16) (k : v < 128) where
+module _ (a n v : ℕ) (o : 0 < n) (h : n < 16) (k : v < 128) where
   two-bytes : readField (_from_ a (n * 8 ∷ v ∷ [])) ≡ got (field n (varint v)) (_from_ (a + 1 + 1) [])
   two-bytes =
       let tag : n * 8 / 8 ≡ n = omega arith in
       let kind : n * 8 % 8 ≡ 0 = omega arith in
-      field-value (_from_ a (n * 8 ∷ v ∷ [])) (one-byte a (n * 8) (v ∷ []) (omega arith)) (omega arith)
+      field-value (_from_ a (n * 8 ∷ v ∷ [])) (one-byte a (n * 8) (v ∷ []) (omega arith)) (number-fine (n * 8 / 8) (omega arith) (omega arith))
       ∙ ap (mapGot (field (n * 8 / 8))) (value-varint a (_from_ (a + 1) (v ∷ [])) kind)
       ∙ rw (tag, one-byte (a + 1) v [] k)
 
@@ -128,22 +128,22 @@ module _ (bytes : List ℕ) (start end : ℕ) where
         ∙ ap (λ (l : List ℕ). getD bytes start 0 ∷ getD bytes (start + 1) 0 ∷ l) (units-ended bytes (start + 1 + 1) end (omega arith))
         ∙ rw (← p, ← q)
 
-    module _ (n : ℕ) (f : t ≡ n * 8) (h : n < 16) (m : Message) (w : cut (_from_ start (partFrom start end bytes)) ≡ ok m) where
+    module _ (n : ℕ) (f : t ≡ n * 8) (o : 0 < n) (h : n < 16) (m : Message) (w : cut (_from_ start (partFrom start end bytes)) ≡ ok m) where
       message-is : m ≡ field n (varint v) ∷ []
       message-is =
-          let e = ap (λ (x : ℕ). cut (_from_ start (x ∷ v ∷ []))) f ∙ cut-one start n v h k in
+          let e = ap (λ (x : ℕ). cut (_from_ start (x ∷ v ∷ []))) f ∙ cut-one start n v o h k in
           ok-same (sym w ∙ ap (λ (s : List ℕ). cut (_from_ start s)) are ∙ e)
 
-    pub short-without : (n : ℕ) → t ≡ n * 8 → n < 16 → (n ≡ 2 → ⊥) → NamedTold bytes start end decided.No
-    short-without n f h g = record {
+    pub short-without : (n : ℕ) → t ≡ n * 8 → 0 < n → n < 16 → (n ≡ 2 → ⊥) → NamedTold bytes start end decided.No
+    short-without n f o h g = record {
       made = tt;
-      is = λ m w units. ap (λ (x : Message). decides (recordOf x)) (message-is n f h m w) ∙ without-one n v g;
+      is = λ m w units. ap (λ (x : Message). decides (recordOf x)) (message-is n f o h m w) ∙ without-one n v g;
     }
 
     pub short-predefined : t ≡ 16 → {name : Name} → PredefinedTold v name → NamedTold bytes start end (decided.Yes name)
     short-predefined f l = record {
       made = l .bytes;
       is = λ m w units.
-          let e = message-is 2 f (omega arith) m w in
+          let e = message-is 2 f (omega arith) (omega arith) m w in
           (ap (λ (x : Message). decides (recordOf x)) e ∙ only-decides v k, ap (λ (x : Message). textOf (recordOf x)) e ∙ only-text v k ∙ sym (l .is bytes units));
     }

@@ -1,15 +1,17 @@
 -- Fixed numbers, bodies, values and fields at a place of a slice: what each reading is by the tests that decide it.
 -- Assumes nothing.
-use mathlib.Core.Path.{_≡_, ap, sym, _∙_, subst}
+use mathlib.Core.Path.{_≡_, refl, ap, sym, _∙_, subst}
+use mathlib.Core.Bool.{true, false}
 use mathlib.Core.List.{List}
 use Prim.Native.Nat.{ℕ, zero, suc, _+_, _-_, _*_, _/_, _%_, _^_, _≤_, _<_}
 use native.Mathlib.Nat.{add-assoc, pow-suc, one-le-pow, mul-le-mul-left, mul-le-mul-right, add-sub-cancel-left, pow-le-pow-right}
 use native.Mathlib.Numerals.{sub-one}
 use native.Mathlib.Omega.{arith}
 use borrow.Author.Tests.{lt-ltb, le-ltb, ne-eqb}
+use lib.Dec.{ltb}
 use lib.ListN.{length, take, drop, getD, length-take, length-drop, drop-of-length-le}
 use lib.Seq.{drop-cons, drop-drop, getD-take, getD-drop}
-use Rattle.foundation.specs.Results.{Res, refused, Cause, pastItsMessage, fieldTooLarge, wireType, Part, Got, got, mapGot}
+use Rattle.foundation.specs.Results.{Res, refused, Cause, pastItsMessage, fieldTooLarge, forbiddenField, wireType, Part, Got, got, mapGot}
 use Rattle.foundation.specs.Digits.{number}
 use Rattle.foundation.proofs.ResultLaws.{gives-ok}
 use Rattle.wire.specs.Wire.{
@@ -23,6 +25,7 @@ use Rattle.wire.specs.Wire.{
   fixed,
   body,
   field,
+  isFieldNumber,
 }
 use Rattle.wire.specs.told.WireTold.{wireRefused, restOf, partBetween, varintTold, Inside, valueOf, ValueTold}
 use Rattle.wire.specs.declared.WireError.{WireError}
@@ -134,6 +137,22 @@ module _ (place : ℕ) {kind : ℕ} (p : Part) where
   unfolding readValue
   value-other a b c d = simp (ne-eqb _ _ a, ne-eqb _ _ b, ne-eqb _ _ c, ne-eqb _ _ d)
 
+-- which numbers are field numbers
+pub number-zero : (n : ℕ) → n ≡ 0 → false ≡ isFieldNumber n
+number-zero n e = rw e
+
+pub number-bound : (n : ℕ) → (n ≡ 0 → ⊥) → ltb n (2 ^ 29) ≡ isFieldNumber n
+number-bound zero d = absurd (d refl)
+number-bound (suc n) d = refl
+
+number-large : (n : ℕ) → 536870911 < n → isFieldNumber n ≡ false
+number-large zero h = absurd (omega arith)
+number-large (suc n) h = le-ltb (suc n) (2 ^ 29) (omega arith)
+
+pub number-fine : (n : ℕ) → 0 < n → n ≤ 536870911 → isFieldNumber n ≡ true
+number-fine zero h l = absurd (omega arith)
+number-fine (suc n) h l = lt-ltb (suc n) (2 ^ 29) (omega arith)
+
 -- a field by its tag
 module _ (p : Part) where
   pub field-refused : {c : Cause} {q : ℕ} → readVarint p ≡ refused c q → readField p ≡ refused c q
@@ -143,11 +162,15 @@ module _ (p : Part) where
   module _ {tag : ℕ} {rest : Part} (e : readVarint p ≡ got tag rest) where
     pub field-large : 4294967295 < tag / 8 → readField p ≡ refused fieldTooLarge (p .at)
     unfolding readField
-    field-large h = rw (e, le-ltb (tag / 8) (2 ^ 32) (omega arith))
+    field-large h = rw (e, number-large (tag / 8) (omega arith), le-ltb (tag / 8) (2 ^ 32) (omega arith))
 
-    pub field-value : tag / 8 ≤ 4294967295 → readField p ≡ mapGot (field (tag / 8)) (readValue (p .at) (tag % 8) rest)
+    pub field-forbidden : tag / 8 ≤ 4294967295 → isFieldNumber (tag / 8) ≡ false → readField p ≡ refused forbiddenField (p .at)
     unfolding readField
-    field-value h = rw (e, lt-ltb (tag / 8) (2 ^ 32) (omega arith))
+    field-forbidden h f = rw (e, f, lt-ltb (tag / 8) (2 ^ 32) (omega arith))
+
+    pub field-value : isFieldNumber (tag / 8) ≡ true → readField p ≡ mapGot (field (tag / 8)) (readValue (p .at) (tag % 8) rest)
+    unfolding readField
+    field-value f = rw (e, f)
 
 pub fixed-end : (s : List ℕ) (at width left : ℕ) {value : ℕ} → left ≤ 0 → value ≡ number 256 (drop left (take width (drop at s)))
     → value ≡ number 256 (take width (drop at s))
@@ -168,7 +191,7 @@ value-told base s r {p} {q} e h = subst (λ (x : Res (Got Value)). ValueTold bas
 
 -- a field whose value the code has read
 module _ (base : ℕ) (s : List ℕ) (at : ℕ) {tag : ℕ} (next : ℕ) (e : readVarint (restOf base s at) ≡ got tag (restOf base s next))
-    (h : tag / 8 ≤ 4294967295) {x : ValueStep} (t : ValueTold base s (readValue (base + at) (tag % 8) (restOf base s next)) x) where
+    (h : isFieldNumber (tag / 8) ≡ true) {x : ValueStep} (t : ValueTold base s (readValue (base + at) (tag % 8) (restOf base s next)) x) where
   pub field-not : {error err : WireError} → x ≡ valueStep.Refused error → err ≡ error → readField (restOf base s at) ≡ wireRefused err
   field-not z q = field-value (restOf base s at) e h ∙ ap (mapGot (field (tag / 8))) (value-refused base s t z q)
 

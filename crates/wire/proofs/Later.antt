@@ -24,6 +24,7 @@ use Rattle.wire.specs.Wire.{
   readDelimited,
   readFixed,
   readValue,
+  isFieldNumber,
   readField,
   cut,
 }
@@ -76,7 +77,7 @@ field-later p =
     gives-bind _ P (readVarint p) _ (varint-after p) λ a q.
     let value = readValue (p .at) (a .0 % 8) (a .1) in
     let here = gives-weaken _ (λ g. Later (p .at) (g .0)) value (value-later (p .at) (a .0 % 8) (a .1)) λ g l. later-weaken (after-later q) (g .0) l in
-    if-ind (Gives P) (ltb (a .0 / 8) (2 ^ 32)) (λ t. gives-map P (field (a .0 / 8)) value here) λ t. tt
+    if-ind (Gives P) (isFieldNumber (a .0 / 8)) (λ t. gives-map P (field (a .0 / 8)) value here) λ t. tt
 
 -- every body of a message
 pub cut-later : (p : Part) → Gives (Values (Later (p .at))) (cut p)

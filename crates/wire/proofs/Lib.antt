@@ -8,3 +8,4 @@ pub mod Places
 pub mod Later
 pub mod Bounds
 pub mod SkipLaws
+pub mod Numbers

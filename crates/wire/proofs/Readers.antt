@@ -32,6 +32,7 @@ use Rattle.wire.specs.Wire.{
   I32,
   Field,
   field,
+  isFieldNumber,
   readField,
 }
 
@@ -237,4 +238,4 @@ field-after p =
     let inside = value-after (p .at) (a .0 % 8) (a .1) in
     let here = read-in-within (after-within q) in
     let placed = gives-weaken _ (Placed 1 p) value inside λ g w. (here (g .0) (w .0), after-then q (w .1)) in
-    if-ind (Gives P) (ltb (a .0 / 8) (2 ^ 32)) (λ t. gives-map P (field (a .0 / 8)) value placed) λ t. tt
+    if-ind (Gives P) (isFieldNumber (a .0 / 8)) (λ t. gives-map P (field (a .0 / 8)) value placed) λ t. tt

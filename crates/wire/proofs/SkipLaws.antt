@@ -1,12 +1,13 @@
 -- Fields whose tag and the varint after it have one or two bytes each: read at once, and skipped in a row.
 -- Assumes nothing.
 use mathlib.Core.Path.{_≡_, refl, ap, sym, _∙_}
+use mathlib.Core.Bool.{true}
 use mathlib.Core.List.{List, [], _∷_, _++_, append-assoc}
 use Prim.Native.Nat.{ℕ, _+_, _-_, _*_, _/_, _%_, _≤_, _<_}
 use native.Mathlib.Omega.{arith}
 use lib.ListN.{length, getD}
 use Rattle.foundation.specs.Results.{Res, ok, refused, _>>=_, Part, mapGot}
-use Rattle.wire.specs.Wire.{varint, body, field, readField, Message, cut}
+use Rattle.wire.specs.Wire.{varint, body, field, isFieldNumber, readField, Message, cut}
 use Rattle.wire.specs.Messages.{values}
 use Rattle.wire.specs.told.WireTold.{restOf, valueOf, FieldTold, ShortTold, ShortField, Skips, SkipTold}
 use Rattle.wire.specs.declared.ShortVarint.{ShortVarint}
@@ -15,7 +16,7 @@ use Rattle.wire.specs.declared.WireValue.the-variants as wire
 use Rattle.wire.specs.declared.Varint.the-variants as read
 use Rattle.wire.specs.declared.FieldStep.the-variants as step
 use Rattle.wire.proofs.VarintLaws.{one-byte, two-bytes}
-use Rattle.wire.proofs.FieldLaws.{value-varint, value-body, field-value, delimited-there}
+use Rattle.wire.proofs.FieldLaws.{value-varint, value-body, number-fine, field-value, delimited-there}
 use Rattle.wire.proofs.WalkLaws.{cut-field, field-inside, bind-ok, Leads, values-passed}
 use Rattle.wire.proofs.MessageLaws.{values-append}
 
@@ -45,10 +46,13 @@ short-field s at {t} {v} p h q k = record {
 }
 
 -- A field whose tag and the varint after it are read so.
-module _ (s : List ℕ) (at tag next first start : ℕ) (h : ShortField s at tag next first start) where
+module _ (s : List ℕ) (at tag next first start : ℕ) (h : ShortField s at tag next first start) (z : 8 ≤ tag) where
+  fine : isFieldNumber (tag / 8) ≡ true
+  fine = number-fine (tag / 8) (omega arith) (omega (arith, h .small))
+
   pub short-varint : (base : ℕ) → tag % 8 ≡ 0 → FieldTold base s (readField (restOf base s at)) (step.Field (tag / 8) (wire.Varint first) start)
   short-varint base k = (
-    field-value (restOf base s at) (h .is-tag base) (omega (arith, h .small))
+    field-value (restOf base s at) (h .is-tag base) fine
         ∙ ap (mapGot (field (tag / 8))) (value-varint (base + at) (restOf base s next) k ∙ ap (mapGot varint) (h .is-first base)),
     tt,
   )
@@ -56,7 +60,7 @@ module _ (s : List ℕ) (at tag next first start : ℕ) (h : ShortField s at tag
   pub short-body : (base : ℕ) → tag % 8 ≡ 2 → first ≤ length s - start
       → FieldTold base s (readField (restOf base s at)) (step.Field (tag / 8) (wire.Body start (start + first)) (start + first))
   short-body base k f = (
-    field-value (restOf base s at) (h .is-tag base) (omega (arith, h .small))
+    field-value (restOf base s at) (h .is-tag base) fine
         ∙ ap (mapGot (field (tag / 8)))
         (value-body (base + at) (restOf base s next) k ∙ ap (mapGot body) (delimited-there base s next {r = read.Read first start} (h .is-first base) refl f)),
     (omega arith, omega (arith, h .inside), omega (arith, h .later, h .ends)),
@@ -111,15 +115,15 @@ module _ (s : List ℕ) (k at n : ℕ) (v : WireValue) (next : ℕ)
         };
       }
 
-module _ (s : List ℕ) (k at : ℕ) {tag next first start : ℕ} (h : ShortField s at tag next first start) (d : tag / 8 ≡ k → ⊥) where
+module _ (s : List ℕ) (k at : ℕ) {tag next first start : ℕ} (h : ShortField s at tag next first start) (z : 8 ≤ tag) (d : tag / 8 ≡ k → ⊥) where
   pub skip-varint : tag % 8 ≡ 0 → SkipTold s k at start
   skip-varint e =
-      skip-field s k at (tag / 8) (wire.Varint first) start (λ base. short-varint s at tag next first start h base e)
+      skip-field s k at (tag / 8) (wire.Varint first) start (λ base. short-varint s at tag next first start h z base e)
       (omega (arith, h .later, h .ends, h .inside)) d
 
   pub skip-body : tag % 8 ≡ 2 → first ≤ length s - start → SkipTold s k at (start + first)
   skip-body e f =
-      skip-field s k at (tag / 8) (wire.Body start (start + first)) (start + first) (λ base. short-body s at tag next first start h base e f)
+      skip-field s k at (tag / 8) (wire.Body start (start + first)) (start + first) (λ base. short-body s at tag next first start h z base e f)
       (omega (arith, h .later, h .ends, h .inside)) d
 
 -- what holds from the place after them holds from the first

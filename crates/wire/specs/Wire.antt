@@ -1,12 +1,12 @@
 -- The wire format of Protocol Buffers' encoding guide: varints, fields, and the cutting of a message into fields.
 -- Assumes nothing.
-use mathlib.Core.Bool.{Bool}
+use mathlib.Core.Bool.{Bool, false}
 use mathlib.Core.List.{List, [], _∷_}
 use Prim.Native.Nat.{ℕ, zero, suc, _+_, _/_, _%_, _^_}
 use lib.Dec.{eqb, ltb}
 use lib.ListN.{length, take, drop}
 use Rattle.foundation.specs.Choices.{if_then_else_}
-use Rattle.foundation.specs.Results.{Res, ok, refused, _>>=_, varintCutShort, pastItsMessage, fieldTooLarge, wireType, oversizedVarint, Part, _from_, Got, got, mapGot}
+use Rattle.foundation.specs.Results.{Res, ok, refused, _>>=_, varintCutShort, pastItsMessage, fieldTooLarge, forbiddenField, wireType, oversizedVarint, Cause, Part, _from_, Got, got, mapGot}
 use Rattle.foundation.specs.Digits.{number}
 
 -- What a byte gives to its varint, with k more bytes allowed after it: its low 7 bits, the tenth only its lowest bit.
@@ -77,13 +77,21 @@ pub record Field : Type 0 where
 abbrev pub field : ℕ → Value → Field
 field n v = record { number = n; value = v }
 
--- A field: its tag, field number * 8 + wire type, and its value. The number must fit 32 bits, tested before the wire type.
--- Departure: field 0 and fields above 536,870,911 are accepted.
+-- the encoding guide's field numbers: 1 to 536,870,911
+abbrev pub isFieldNumber : ℕ → Bool
+isFieldNumber zero = false
+isFieldNumber (suc n) = ltb (suc n) (2 ^ 29)
+
+-- why another number is refused: it is above 32 bits, or else the guide forbids it
+abbrev pub wrongNumber : ℕ → Cause
+wrongNumber n = if ltb n (2 ^ 32) then forbiddenField else fieldTooLarge
+
+-- A field: its tag, field number * 8 + wire type, and its value. The number is tested before the wire type.
 unfoldable pub readField : Part → Res (Got Field)
 readField p =
     readVarint p >>= λ (tag, rest).
     let value = mapGot (field (tag / 8)) (readValue (p .at) (tag % 8) rest) in
-    if ltb (tag / 8) (2 ^ 32) then value else refused fieldTooLarge (p .at)
+    if isFieldNumber (tag / 8) then value else refused (wrongNumber (tag / 8)) (p .at)
 
 abbrev pub isEmpty : List ℕ → Bool
 isEmpty [] = Bool.true

@@ -6,7 +6,7 @@ ghost use Prim.Native.Nat.{ℕ, _+_, _-_, _^_, _≤_, _<_};
 ghost use lib.ListN.{length, take, drop};
 ghost use Rattle.foundation.specs.Results.{Res, Part, Got, got, mapGot};
 ghost use Rattle.foundation.specs.Digits.{number};
-ghost use Rattle.wire.specs.Wire.{group, readVarint, readFixed, readValue, readField, varint, body};
+ghost use Rattle.wire.specs.Wire.{group, readVarint, readFixed, readValue, isFieldNumber, readField, varint, body};
 ghost use Rattle.wire.specs.told.WireTold.{restOf, valueNumber, pieceOf, GroupsTold, varintTold, VarintAt, DelimitedTold, DelimitedAt, ValueTold, FieldTold, FieldAt, ShortTold, ShortField, SkipTold};
 
 // The refusals of a reading. Each tells the offset, among the decoded bytes, of what was being read.
@@ -15,6 +15,7 @@ pub enum WireError {
     OversizedVarint { place: usize },
     PastItsMessage { place: usize },
     FieldTooLarge { place: usize },
+    ForbiddenField { place: usize },
     WireType { kind: u8, place: usize },
 }
 
@@ -406,6 +407,16 @@ impl FieldStep {
     }
 }
 
+// The field numbers that the encoding guide allows: 1 to 536,870,911.
+fn is_field_number(number: u64) -> bool
+    ensures { λ r. ⌜ r ≡ isFieldNumber number ⌝ }
+{
+    if number == 0 {
+        return false;
+    }
+    number < 536870912
+}
+
 // The field at a place whose tag ends at `next`. Its number is tested before its wire type.
 fn tagged_at(s: &[u8], base: u32, at: usize, tag: u64, next: usize) -> FieldStep
     requires { ⌜ (at ≤ length (now s)) × (next ≤ length (now s)) ⌝ }
@@ -416,6 +427,11 @@ fn tagged_at(s: &[u8], base: u32, at: usize, tag: u64, next: usize) -> FieldStep
     if 4294967295 < number {
         return FieldStep::Refused {
             error: WireError::FieldTooLarge { place },
+        };
+    }
+    if !is_field_number(number) {
+        return FieldStep::Refused {
+            error: WireError::ForbiddenField { place },
         };
     }
     let step = value_at(&*s, base, place, (tag % 8) as u8, next);
@@ -449,7 +465,8 @@ fn long_field_at(s: &[u8], base: u32, at: usize) -> FieldStep
     tagged_at(&*s, base, at, value, next)
 }
 
-// The field at a place whose tag, which ends at `next`, and the varint after it have one or two bytes each.
+// The field at a place whose tag, which ends at `next`, and the varint after it have one or two bytes each. A tag below 8 is field 0, which is
+// forbidden; no such tag has a number that is too large.
 fn short_field_at(
     s: &[u8],
     base: u32,
@@ -462,6 +479,9 @@ fn short_field_at(
     requires { ⌜ ShortField (now s) at tag next first start ⌝ }
     ensures { λ r. ⌜ FieldTold base (now (s .entry)) (readField (restOf base (now (s .entry)) at)) r ⌝ }
 {
+    if tag < 8 {
+        return tagged_at(&*s, base, at, tag, next);
+    }
     let kind = tag % 8;
     if kind == 0 {
         return FieldStep::Field {
@@ -509,13 +529,16 @@ pub fn field_at(s: &[u8], base: u32, at: usize) -> FieldStep
     )
 }
 
-// Where the field at a place ends, if its tag and the varint after it have one or two bytes each, and its number is neither `one` nor `other`.
-// In all other cases the place itself.
+// Where the field at a place ends, if its tag and the varint after it have one or two bytes each, and its number is neither `one` nor `other`
+// nor 0, which is forbidden. In all other cases the place itself.
 fn short_end(s: &[u8], one: u32, other: u32, at: usize) -> usize
     ensures { λ r. ⌜ SkipTold (now (s .entry)) one at r × SkipTold (now (s .entry)) other at r ⌝ }
 {
     let tag = short_varint(&*s, at);
     if tag.size == 0 {
+        return at;
+    }
+    if tag.value < 8 {
         return at;
     }
     let number = tag.value / 8;

@@ -25,6 +25,10 @@ fn print_refusal(error: WireError) {
         WireError::OversizedVarint { place } => print_number(b"oversized varint at ", place as u64),
         WireError::PastItsMessage { place } => print_number(b"past its message at ", place as u64),
         WireError::FieldTooLarge { place } => print_number(b"field too large at ", place as u64),
+        WireError::ForbiddenField { place } => print_number(
+            b"field number forbidden at ",
+            place as u64,
+        ),
         WireError::WireType { kind, place } => {
             print_number(b"wire type ", kind as u64);
             print_number(b" at ", place as u64);
@@ -204,6 +208,12 @@ fn wire_types() {
 
 fn field_numbers() {
     show(b"field 0", b"\x00\x05", 0);
+    show(b"field 0 with a body", b"\x08\x01\x02\x00", 7);
+    show(b"field 0 with wire type 3", b"\x03", 0);
+    show(b"field 0 in a tag of three bytes", b"\x80\x80\x00\x05", 0);
+    show(b"field 1 in a tag of two bytes", b"\x88\x00\x05", 0);
+    show(b"field 536,870,911", b"\xf8\xff\xff\xff\x0f\x05", 0);
+    show(b"field 536,870,912", b"\x80\x80\x80\x80\x10\x05", 0);
     show(b"field 2^32 - 1", b"\xf8\xff\xff\xff\x7f\x05", 0);
     show(b"field 2^32", b"\x80\x80\x80\x80\x80\x01\x05", 0);
     show(
@@ -217,6 +227,7 @@ fn asked() {
     show_first(b"1 before 2", b"\x08\x01\x08\x02", 1);
     show_first(b"fixed before varint", b"\x0d\x07\x00\x00\x00\x08\x02", 1);
     show_first(b"no field 3", b"\x08\x01\x10\x02", 3);
+    show_first(b"field 0 is never found", b"\x00\x05", 0);
     show_two(b"packed and single", b"\x32\x02\x03\x01\x30\x05", 6);
     show_two(b"one", b"\x30\xff\xff\xff\xff\xff\x01", 6);
     show_two(b"an error after two", b"\x30\x01\x30\x02\x32\x01\x80", 6);

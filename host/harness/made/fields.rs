@@ -105,7 +105,7 @@ impl Maker<'_> {
     /// Joins the fields: mostly in order, with strangers among them, seldom broken.
     pub(super) fn joined(&mut self, mut fields: Fields) -> Vec<u8> {
         if self.random.once_in(8) {
-            let field = *self.random.pick(&[0, 1, 4, 7, 12, 13, 16, 31, 32, 101, 536_870_911, 536_870_912, u32::MAX]);
+            let field = *self.random.pick(&[1, 4, 7, 12, 13, 16, 31, 32, 101, 4096, 536_870_911]);
             let stranger = self.any_field(field);
             fields.push(stranger);
         }
@@ -125,7 +125,7 @@ impl Maker<'_> {
 
     pub(super) fn break_it(&mut self, message: &mut Vec<u8>) {
         let wire_type = *self.random.pick(&[3, 4, 6, 7]);
-        let piece: Vec<u8> = match self.random.below(9) {
+        let piece: Vec<u8> = match self.random.below(10) {
             0 => {
                 let left = message.len().saturating_sub(1 + self.random.below(3));
                 message.truncate(left);
@@ -147,6 +147,10 @@ impl Maker<'_> {
             }
             6 => vec![0x09, 1, 2, 3, 4, 5, 6, 7],
             7 => vec![0x0d, 1, 2, 3],
+            8 => {
+                let forbidden = *self.random.pick(&[0, 536_870_912, u32::MAX]);
+                if self.random.once_in(4) { self.tag(forbidden, wire_type) } else { self.any_field(forbidden) }
+            }
             _ => vec![0x0a, 0xff, 0xff, 0xff, 0xff, 0xff, 0xff, 0xff, 0xff, 0xff, 0x01],
         };
         let at = if self.random.once_in(3) { 0 } else { message.len() };

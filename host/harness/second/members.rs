@@ -203,6 +203,7 @@ fn property<'a>(message: &Message<'a>, names: &Names<'_>, types: &mut Types<'a>)
     let part = |field| recorded.as_ref().map_or(Ok(None), |recorded| recorded.message(field));
     let field = match part(1) {
         Err(refused) if planted(Mistake::FieldRefuses) => return Err(refused),
+        Err(refused @ Refused::ForbiddenField(_)) if planted(Mistake::ForbiddenRefuses) => return Err(refused),
         field => field.ok().flatten(),
     };
     let receiver = types.declared(message, 5, 10)?;

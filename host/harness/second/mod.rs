@@ -40,6 +40,8 @@ pub struct Reading {
     pub aliases: bool,
     /// Whether a record of the name table that decides its indices has operation 2.
     pub descriptor_operation: bool,
+    /// Whether a message that was cut has a field with a number that the encoding guide forbids, also where that is forgiven.
+    pub forbidden: bool,
 }
 
 /// The reading apart from the areas.
@@ -53,7 +55,9 @@ pub fn read(input: &Input) -> Reading {
         old_form: false,
         aliases: false,
         descriptor_operation: false,
+        forbidden: false,
     };
+    wire::met_forbidden();
     if let Some(number) = limits::before_reading(input) {
         reading.whole = Whole::refused(number, 0);
         return reading;
@@ -77,6 +81,7 @@ pub fn read(input: &Input) -> Reading {
         let (number, detail) = refused.number();
         reading.whole = Whole::refused(number, detail);
     }
+    reading.forbidden = wire::met_forbidden();
     reading
 }
 
@@ -171,7 +176,7 @@ pub fn stand_in(mistake: Mistake, input: &Input, sheet: &mut [u8], text: &mut [u
     if planted(Mistake::DetailLeft) && whole.answer.number >= 10 && whole.answer.number <= 12 {
         answer[1] = 1;
     }
-    if planted(Mistake::PlaceWithMarker) && [7, 8, 9, 13, 14].contains(&whole.answer.number) {
+    if planted(Mistake::PlaceWithMarker) && [7, 8, 9, 13, 14, 17].contains(&whole.answer.number) {
         answer[1] += 1;
     }
     if planted(Mistake::PastTruncated) && whole.answer.number == 13 {

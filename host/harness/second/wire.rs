@@ -1,6 +1,7 @@
 //! Fields of a message, by the Protocol Buffers encoding guide and the specification's departures.
 
 use super::mistakes::{planted, Mistake};
+use std::cell::Cell;
 
 /// Why a payload is refused. A place is an offset among the decoded bytes, of the first byte of the varint or fixed value that is read.
 #[derive(Debug, Clone, Copy, PartialEq, Eq)]
@@ -15,6 +16,8 @@ pub enum Refused {
     PastMessage(usize),
     /// Of the tag.
     FieldTooLarge(usize),
+    /// Of the tag, whose field number the encoding guide doesn't allow.
+    ForbiddenField(usize),
 }
 
 impl Refused {
@@ -26,6 +29,7 @@ impl Refused {
             Self::Types => (10, 0),
             Self::PastMessage(place) => (13, place as u64),
             Self::FieldTooLarge(place) => (14, place as u64),
+            Self::ForbiddenField(place) => (17, place as u64),
         }
     }
 }
@@ -105,6 +109,28 @@ pub fn delimited<'a>(part: Part<'a>, at: &mut usize) -> Result<Part<'a>, Refused
     taken(part, at, length, of)
 }
 
+/// The encoding guide's field numbers.
+const LARGEST_FIELD: u32 = (1 << 29) - 1;
+
+thread_local! {
+    static MET_FORBIDDEN: Cell<bool> = const { Cell::new(false) };
+}
+
+/// Whether a message that was cut since the last question has a forbidden field, also where that is forgiven.
+pub fn met_forbidden() -> bool {
+    MET_FORBIDDEN.take()
+}
+
+fn is_allowed(field: u32) -> bool {
+    let smallest = if planted(Mistake::FieldZero) { 0 } else { 1 };
+    let largest = match () {
+        () if planted(Mistake::LargeFields) => u32::MAX,
+        () if planted(Mistake::LargestField) => LARGEST_FIELD - 1,
+        () => LARGEST_FIELD,
+    };
+    (smallest..=largest).contains(&field)
+}
+
 pub fn cut(part: Part<'_>) -> Result<Message<'_>, Refused> {
     let part = if planted(Mistake::PlaceInMessage) { Part::whole(part.bytes) } else { part };
     let mut fields = Vec::new();
@@ -124,6 +150,11 @@ pub fn cut(part: Part<'_>) -> Result<Message<'_>, Refused> {
                 Refused::FieldTooLarge(place)
             });
         };
+        let after_type = planted(Mistake::ForbiddenAfterType) && ![0, 1, 2, 5].contains(&wire_type);
+        if !is_allowed(field) && !after_type {
+            MET_FORBIDDEN.set(true);
+            return Err(Refused::ForbiddenField(place));
+        }
         let value = match wire_type {
             0 => Value::Varint(varint(part, &mut at)?),
             1 => fixed(part, &mut at, 8, place).map(|()| Value::Fixed)?,

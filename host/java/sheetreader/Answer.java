@@ -4,10 +4,10 @@ import java.util.Arrays;
 
 /** What the reader answers for one class (docs/MANUAL.md, "What comes out"). */
 public final class Answer {
-    /** 0: read; 1 to 14: refused, as docs/MANUAL.md tells under "Refusals". 12 doesn't occur: the area is long enough for every sheet. */
+    /** 0: read; 1 to 17: refused, as docs/MANUAL.md tells under "Refusals". 12 doesn't occur: the area is long enough for every sheet. */
     public final int number;
 
-    /** Of 6 the unit; of 7, 8, 9, 13 and 14 the offset, among the payload's bytes, of what broke; else 0. */
+    /** Of 6 the unit; of 7, 8, 9, 13, 14 and 17 the offset, among the payload's bytes, of what broke; else 0. */
     public final int detail;
 
     /** The type records on the sheet, 0 if refused. */

@@ -48,11 +48,11 @@ returns-2 c = let a = c .before .before .before .before .before .before .before 
 
 -- src/lib.rt:182:17
 returns-3 : tie.Need-returns-3
-returns-3 c = let a = c .before .before .before .before .before .before .before .before .before .before .args in short-without (a .bytes .now) (a .start) (a .end) refl (c .before .before .before .before .before .before .before .if2 .taken) (c .before .before .before .before .before .before .before .before .before .before .pre .1) (c .before .before .before .before .before .wide .ensures) (c .before .before .before .wide2 .ensures) (c .before .before .if3 .taken) 1 (c .if5 .taken) (omega arith) (λ e. omega arith)
+returns-3 c = let a = c .before .before .before .before .before .before .before .before .before .before .args in short-without (a .bytes .now) (a .start) (a .end) refl (c .before .before .before .before .before .before .before .if2 .taken) (c .before .before .before .before .before .before .before .before .before .before .pre .1) (c .before .before .before .before .before .wide .ensures) (c .before .before .before .wide2 .ensures) (c .before .before .if3 .taken) 1 (c .if5 .taken) (omega arith) (omega arith) (λ e. omega arith)
 
 -- src/lib.rt:185:17
 returns-4 : tie.Need-returns-4
-returns-4 c = let a = c .before .before .before .before .before .before .before .before .before .before .before .args in short-without (a .bytes .now) (a .start) (a .end) refl (c .before .before .before .before .before .before .before .before .if2 .taken) (c .before .before .before .before .before .before .before .before .before .before .before .pre .1) (c .before .before .before .before .before .before .wide .ensures) (c .before .before .before .before .wide2 .ensures) (c .before .before .before .if3 .taken) 3 (c .if6 .taken) (omega arith) (λ e. omega arith)
+returns-4 c = let a = c .before .before .before .before .before .before .before .before .before .before .before .args in short-without (a .bytes .now) (a .start) (a .end) refl (c .before .before .before .before .before .before .before .before .if2 .taken) (c .before .before .before .before .before .before .before .before .before .before .before .pre .1) (c .before .before .before .before .before .before .wide .ensures) (c .before .before .before .before .wide2 .ensures) (c .before .before .before .if3 .taken) 3 (c .if6 .taken) (omega arith) (omega arith) (λ e. omega arith)
 
 -- src/lib.rt:189:5
 read-record-requires : tie.Need-read-record-requires

@@ -4,11 +4,11 @@ use mathlib.Core.Path.{_≡_}
 use mathlib.Core.List.{List, [], _++_}
 use Prim.Native.Nat.{ℕ, _+_, _-_, _^_, _≤_, _<_}
 use lib.ListN.{length, take, drop}
-use Rattle.foundation.specs.Results.{Res, ok, refused, _>>=_, Cause, varintCutShort, pastItsMessage, fieldTooLarge, wireType, oversizedVarint, Part, _from_, Got, got, mapGot}
+use Rattle.foundation.specs.Results.{Res, ok, refused, _>>=_, Cause, varintCutShort, pastItsMessage, fieldTooLarge, forbiddenField, wireType, oversizedVarint, Part, _from_, Got, got, mapGot}
 use Rattle.wire.specs.Wire.{Value, varint, fixed, body, Field, field, readGroups, readVarint, readDelimited, readField, Message, cut}
 use Rattle.wire.specs.Messages.{values}
 use Rattle.wire.specs.declared.WireError.{WireError}
-use Rattle.wire.specs.declared.WireError.the-variants.{VarintCutShort, OversizedVarint, PastItsMessage, FieldTooLarge, WireType}
+use Rattle.wire.specs.declared.WireError.the-variants.{VarintCutShort, OversizedVarint, PastItsMessage, FieldTooLarge, ForbiddenField, WireType}
 use Rattle.wire.specs.declared.Varint.{Varint}
 use Rattle.wire.specs.declared.Varint.the-variants as read
 use Rattle.wire.specs.declared.Groups.{Groups}
@@ -32,6 +32,7 @@ wireCause (VarintCutShort place) = varintCutShort
 wireCause (OversizedVarint place) = oversizedVarint
 wireCause (PastItsMessage place) = pastItsMessage
 wireCause (FieldTooLarge place) = fieldTooLarge
+wireCause (ForbiddenField place) = forbiddenField
 wireCause (WireType kind place) = wireType kind
 
 abbrev pub wirePlace : WireError → ℕ
@@ -39,6 +40,7 @@ wirePlace (VarintCutShort place) = place
 wirePlace (OversizedVarint place) = place
 wirePlace (PastItsMessage place) = place
 wirePlace (FieldTooLarge place) = place
+wirePlace (ForbiddenField place) = place
 wirePlace (WireType kind place) = place
 
 abbrev pub wireRefused : {A : Type 0} → WireError → Res A

@@ -48,6 +48,14 @@ enum-known-error-5 c = search needs
 refused-requires-5 : tie.Need-refused-requires-5
 refused-requires-5 c κs = search needs
 
+-- src/outcome.rt:41:46
+enum-known-error-6 : tie.Need-enum-known-error-6
+enum-known-error-6 c = search needs
+
+-- src/outcome.rt:41:57
+refused-requires-6 : tie.Need-refused-requires-6
+refused-requires-6 c κs = search needs
+
 -- src/outcome.rt:32:1
 returns : tie.Need-returns
 unfolding numberOf detailOf
@@ -73,6 +81,11 @@ returns-5 : tie.Need-returns-5
 unfolding numberOf detailOf
 returns-5 c = wire-as (c .refused5 .ensures) _ (c .before .before .error5 .given .1) refl refl
 
+-- src/outcome.rt:32:1
+returns-6 : tie.Need-returns-6
+unfolding numberOf detailOf
+returns-6 c = wire-as (c .refused6 .ensures) _ (c .before .before .error6 .given .1) refl refl
+
 pub wire-refusal-spec : {M : Type 1} → statement M
 wire-refusal-spec =
     tie.close
@@ -87,8 +100,11 @@ wire-refusal-spec =
     refused-requires-4
     enum-known-error-5
     refused-requires-5
+    enum-known-error-6
+    refused-requires-6
     returns
     returns-2
     returns-3
     returns-4
-    returns-5)
+    returns-5
+    returns-6)
