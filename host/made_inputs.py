@@ -54,12 +54,35 @@ def ends_apart(ends):
     return struct.pack('<4i', 3, 1, 9, 0) + struct.pack('<I', 0) + struct.pack('<I2H', 2, 97, 98) + struct.pack(f'<I{len(ends)}I', len(ends), *ends)
 
 
+# The head of a package with one function, and the function f.
+FUNCTION = '0102ffffffff0600000000000000' + '000001000000' + '03' + '00000100' + '0600000000000000' + 'ffffffff' * 2 + '00' + '0000'
+
+
 def types_line(types):
     """Of a function whose types stand in one another."""
-    sheet = '0102ffffffff0600000000000000' + '000001000000' + '03' + '00000100' + '0600000000000000' + 'ffffffff' * 2 + '00' + '0000'
+    sheet = FUNCTION
     for i in range(types):
-        sheet += '06' + ('01' if i == 0 else '05') + '00' + 'ffffffff' + ('0000' if i == types - 1 else '0100')
+        sheet += '06' + ('01' if i == 0 else '05') + '00' + 'ffffffff' + ('0000' if i == types - 1 else '0100') + '02'
     return f'0 0 {sheet}07ffffffff090000 66'
+
+
+def argument(projection, *types):
+    """An argument with a projection, and a type or none."""
+    return field(2, bytes([8, projection]) + b''.join(field(2, message) for message in types))
+
+
+def of_arguments(arguments):
+    """A function whose return type has these arguments."""
+    return b'\0\0' + field(3, b'\x10\0' + field(3, arguments))
+
+
+STAR = argument(3)
+
+
+def arguments_line(projections):
+    """Of a function whose return type has arguments without a name, of these projections."""
+    arguments = ''.join(f'060500ffffffff0000{p:02x}' for p in projections)
+    return f"0 0 {FUNCTION}060100ffffffff{struct.pack('<H', len(projections)).hex()}02{arguments}07ffffffff090000 66"
 
 
 def head(kind):
@@ -89,12 +112,12 @@ LONG_TEXTS = {
 }
 
 
-# A class that Kotlin 1.3.31 wrote in the old form, and the same class as it writes it otherwise; the line is the Rust's for the latter, with a count of
-# no type aliases. One class, one sheet.
+# A class that Kotlin 1.3.31 wrote in the old form, and the same class as it writes it otherwise; the line is the Rust's for the latter, with its type
+# invariant and a count of no type aliases. One class, one sheet.
 OLD = bytes.fromhex('111509412241030219052901214201090f1501416139010d0165090114411305110569110167012517511b2101')
 MARKED = bytes.fromhex('00100a0218020a0218020a000a02100e0a0008c6011800320230014a0810021a0230034816a80604')
 VAT = ['Lde/till/app/Vat$FULL;', 'Lde/till/app/Vat;', 'label', '', 'till-app_main']
-VAT_LINE = ('0 0 010100001400c60000000000000000000100000003140005001600000000000000ffffffffffffffff00000006010019000d0000000726001400090000 '
+VAT_LINE = ('0 0 010100001400c60000000000000000000100000003140005001600000000000000ffffffffffffffff00000006010019000d000000020726001400090000 '
             '64652e74696c6c2e6170702e5661742e46554c4c6c6162656c6b6f746c696e2e537472696e6728294c6a6176612f6c616e672f537472696e673b')
 
 MADE = {
@@ -129,6 +152,11 @@ MADE = {
     'zero bytes in the old form': (given(1, 1, b'\1' * 8, []), '17 1 - -'),
     'one unit of the old form': (given(1, 1, b'\1', []), '7 0 - -'),
     'a marker of the old form': (given(1, 1, [65535, 1, 1], []), '6 65535 - -'),
+    'arguments in, out, invariant and a star': (given(2, 1, of_arguments(b''.join(argument(p, b'') for p in (0, 1, 2, 3))), ['f']), arguments_line([0, 1, 2, 3])),
+    'a projection that is none': (given(2, 1, of_arguments(argument(4, b'') + argument(4)), ['f']), arguments_line([2])),
+    'a star with a broken type': (given(2, 1, of_arguments(argument(3, b'\x0b')), ['f']), arguments_line([3])),
+    '2,047 stars': (given(2, 1, of_arguments(STAR * 2047), ['f']), arguments_line([3] * 2047)),
+    '2,048 stars': (given(2, 1, of_arguments(STAR * 2048), ['f']), '10 0 - -'),
     '2,049 types deep': (given(2, 1, b'\0' + nested(2049), ['f']), '10 0 - -'),
 }
 

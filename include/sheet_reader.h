@@ -15,11 +15,11 @@
 extern "C" {
 #endif
 
-/* The number of the sheets' format: 5 for the sheets as they are told below (1 was without type aliases; up to 2 names by operation 2 of the name
+/* The number of the sheets' format: 6 for the sheets as they are told below (1 was without type aliases; up to 2 names by operation 2 of the name
  * table had "kotlin.collections." in front; up to 3 a d1 in its old form was refused or misread; up to 4
- * fields with a forbidden number were passed over). It goes up whenever sheets change, so that a
- * program that keeps sheets can tell by it which of them to make anew. */
-#define SHEET_FORMAT 5
+ * fields with a forbidden number were passed over; up to 5 a type had 9 bytes, without a projection, and stars were dropped). It goes up whenever
+ * sheets change, so that a program that keeps sheets can tell by it which of them to make anew. */
+#define SHEET_FORMAT 6
 
 /* What sheet_read puts into answer. */
 enum {
@@ -75,7 +75,7 @@ enum {
     SHEET_STRING_LIMIT = 4096,
     SHEET_TYPE_LIMIT = 2048,
     SHEET_TEXT_LIMIT = 65534,
-    SHEET_LONGEST = 411647
+    SHEET_LONGEST = 413695
 };
 
 /* How many units a conversion gives at most: with an area of so many 12 is never given. It stands in the contracts of both functions, clause `enough`.
@@ -196,7 +196,7 @@ void sheet_new_to_old(const uint16_t *d1, size_t d1_count, uint16_t *units, size
  *   4 property            40      1 name ref, 5 flags 8, 13 receiver 1, 14 getter default 1, 15 setter default 1, then six refs:
  *                                 16 field, 20 its descriptor, 24 getter, 28 its descriptor, 32 setter, 36 its descriptor
  *   5 parameter            6      1 name ref, 5 default 1
- *   6 type                 9      1 role 1, 2 nullable 1, 3 name ref, 7 arguments 2
+ *   6 type                10      1 role 1, 2 nullable 1, 3 name ref, 7 arguments 2, 9 projection 1
  *   7 default descriptor   5      1 descriptor ref
  *   8 alias               13      1 name ref, 5 flags 8
  *   9 aliases              3      1 aliases 2
@@ -231,6 +231,14 @@ enum {
     SHEET_ARGUMENT = 5,
     SHEET_UNDERLYING = 6, /* what an alias is declared to be */
     SHEET_EXPANDED = 7    /* the same with the aliases in it put in full */
+};
+
+/* projections of arguments; a type of any other role is invariant */
+enum {
+    SHEET_IN = 0,        /* Comparable<in T> */
+    SHEET_OUT = 1,       /* Array<out T> */
+    SHEET_INVARIANT = 2, /* Array<T> */
+    SHEET_STAR = 3       /* Array<*>: the type is blank, without name and arguments and not nullable */
 };
 
 #ifdef __cplusplus

@@ -4,7 +4,7 @@ import array, collections, ctypes
 import library_build
 from sheets import RECORDS, TEXT_LIMIT
 
-SHEET_LONGEST = 411647  # areas of this size and of TEXT_LIMIT are always long enough
+SHEET_LONGEST = 413695  # areas of this size and of TEXT_LIMIT are always long enough
 # of a conversion: its function, and how many units it gives at most
 OLD_TO_NEW, NEW_TO_OLD = ('sheet_old_to_new', 28673), ('sheet_new_to_old', 37448)
 

@@ -46,7 +46,8 @@ def type_json(t):
     left = [(t, whole)]
     while left:
         t, told = left.pop()
-        told.update({'class': t['name'], 'nullable': bool(t['nullable']), 'arguments': [{} for _ in t['of']]})
+        told.update({'class': t['name'], 'nullable': bool(t['nullable']), 'projection': sheets.PROJECTIONS[t['projection']],
+                     'arguments': [{} for _ in t['of']]})
         left += zip(t['of'], told['arguments'])
     return whole
 

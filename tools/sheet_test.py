@@ -80,7 +80,7 @@ class Examples(unittest.TestCase):
         lines = out.splitlines()
         self.assertEqual((status, len(lines)), (0, 22))
         self.assertEqual(lines[1], '  function: name cents, flags 6 (public, final), signature none, descriptor none, receiver 1, parameters 1')
-        self.assertEqual(lines[4], '        type: role argument, nullable 0, name none, arguments 0')
+        self.assertEqual(lines[4], '        type: role argument, nullable 0, name none, arguments 0, projection invariant')
         self.assertEqual(lines[21], '  aliases: aliases 0')
 
 
@@ -126,6 +126,7 @@ class Rebuilt:
             self.put(1, 6, role, told['nullable'])
             self.ref(told['class'])
             self.put(2, len(told['arguments']))
+            self.put(1, ['in', 'out', 'invariant', 'star'].index(told['projection']))
             for inner in told['arguments']:
                 self.type(5, inner)
 
@@ -365,17 +366,57 @@ class Aliases(InFolder):
         self.assertEqual(lines[1:5], [
             '  aliases: aliases 3',
             '    alias: name Cents, flags 6 (public)',
-            '      type: role underlying type of an alias, nullable 0, name kotlin.Long, arguments 0',
-            '      type: role expanded type of an alias, nullable 0, name kotlin.Long, arguments 0'])
-        self.assertEqual(lines[7], '        type: role argument, nullable 1, name none, arguments 0')
+            '      type: role underlying type of an alias, nullable 0, name kotlin.Long, arguments 0, projection invariant',
+            '      type: role expanded type of an alias, nullable 0, name kotlin.Long, arguments 0, projection invariant'])
+        self.assertEqual(lines[7], '        type: role argument, nullable 1, name none, arguments 0, projection invariant')
 
     def test_json(self):
         o, = objects(sheet('read', '--json', self.file)[1])
         self.assertEqual(schema.faults(o, SCHEMA, SCHEMA), [])
         self.assertEqual([(a['name'], a['flags'], a['words']) for a in o['aliases']], [(name, 6, ['public']) for name in ('Cents', 'Sales', 'Nothing$')])
-        long = {'class': 'kotlin.Long', 'nullable': False, 'arguments': []}
+        long = {'class': 'kotlin.Long', 'nullable': False, 'projection': 'invariant', 'arguments': []}
         self.assertEqual((o['aliases'][0]['underlying'], o['aliases'][0]['expanded'], o['aliases'][2]['expanded']), (long, long, None))
         self.assertEqual(o['aliases'][1]['expanded']['arguments'][0], {**long, 'nullable': True})
+        made = Rebuilt(o)
+        self.assertEqual(f'0 0 {made.sheet.hex()} {made.text.hex()}\n', sheet('read', '--line', self.file)[1])
+
+
+class Projections(InFolder):
+    """fun f(p: Array<out Any?>, q: Comparable<in Map<*, out T>>): Array<*>, and a property whose type has an argument that is no projection's and a
+    star that holds a broken type."""
+    OUT, IN, STAR = b'\x08\1', b'\x08\0', b'\x08\3'
+
+    def setUp(self):
+        super().setUp()
+        argument = lambda projection, *message: made_class.field(2, projection + b''.join(made_class.field(2, m) for m in message))
+        array, anything, comparable, mapping = (bytes([0x30, name]) for name in (3, 4, 5, 6))
+        parameter = lambda name, message: made_class.field(6, bytes([0x10, name]) + made_class.field(3, message))
+        function = (parameter(1, array + argument(self.OUT, anything + b'\x18\1'))
+                    + parameter(2, comparable + argument(self.IN, mapping + argument(self.STAR) + argument(self.OUT, b'')))
+                    + made_class.field(3, array + argument(self.STAR)))
+        of_property = made_class.field(3, mapping + argument(b'\x08\4', anything) + argument(self.STAR, b'\x0b'))
+        self.file = self.put('Projections.class', made_class.class_file(made_class.package(
+            made_class.field(3, b'\x10\0' + function) + made_class.field(4, b'\x10\1' + of_property),
+            ['f', 'p', 'q', 'kotlin/Array', 'kotlin/Any', 'kotlin/Comparable', 'kotlin/collections/Map'])))
+
+    def test_words(self):
+        self.assertEqual(sheet('read', self.file)[:2], (0, ''.join(line + '\n' for line in [
+            'file made/Made  flags 6',
+            '  public final fun f(p: kotlin.Array<out kotlin.Any?>, q: kotlin.Comparable<in kotlin.collections.Map<*, out (type parameter)>>):'
+            ' kotlin.Array<*>  flags 6  signature none  default none [no target]',
+            '  public final val p: kotlin.collections.Map<kotlin.Any, *>  flags 6'])))
+
+    def test_records(self):
+        lines = [line.strip() for line in sheet('read', '--records', self.file)[1].splitlines() if 'role argument' in line]
+        self.assertEqual([line.rpartition(' ')[2] for line in lines], ['out', 'in', 'star', 'out', 'star', 'invariant', 'star'])
+        self.assertEqual(lines[2], 'type: role argument, nullable 0, name none, arguments 0, projection star')
+
+    def test_json(self):
+        o, = objects(sheet('read', '--json', self.file)[1])
+        self.assertEqual(schema.faults(o, SCHEMA, SCHEMA), [])
+        star = {'class': None, 'nullable': False, 'projection': 'star', 'arguments': []}
+        self.assertEqual(o['functions'][0]['returns'], {'class': 'kotlin.Array', 'nullable': False, 'projection': 'invariant', 'arguments': [star]})
+        self.assertEqual((o['types'], o['properties'][0]['type']['arguments'][1]), (11, star))
         made = Rebuilt(o)
         self.assertEqual(f'0 0 {made.sheet.hex()} {made.text.hex()}\n', sheet('read', '--line', self.file)[1])
 
@@ -500,7 +541,7 @@ class Room(InFolder):
                              ('measured', sheets.FORMAT, sheet_bytes, text_bytes, True, records[6], list(records.values())), name)
 
     def test_words(self):
-        self.assertEqual(sheet('room', 'examples/TillKt.class')[1], 'sheet 247 bytes, text 263 bytes; 1 head, 0 constructors, 2 functions, 1 property, '
+        self.assertEqual(sheet('room', 'examples/TillKt.class')[1], 'sheet 259 bytes, text 263 bytes; 1 head, 0 constructors, 2 functions, 1 property, '
                          '3 parameters, 12 types, 2 default descriptors, 0 aliases, 1 count of aliases\n')
 
     def test_the_manual_shows_what_is_printed(self):
@@ -527,7 +568,7 @@ class Room(InFolder):
     def test_aliases_and_heads_alone(self):
         aliases = made_class.alias(0, b'\x30\1', b'\x30\1') + made_class.alias(0, None, None)
         path = self.put('Aliases.class', made_class.class_file(made_class.package(aliases, ['Cents', 'kotlin/Long'])))
-        self.assertEqual(sheet('room', path)[1], 'sheet 67 bytes, text 32 bytes; 1 head, 0 constructors, 0 functions, 0 properties, 0 parameters, 2 types, '
+        self.assertEqual(sheet('room', path)[1], 'sheet 69 bytes, text 32 bytes; 1 head, 0 constructors, 0 functions, 0 properties, 0 parameters, 2 types, '
                          '0 default descriptors, 2 aliases, 1 count of aliases\n')
         path = self.put('Facade.class', made_class.class_file({'k': 4, 'mv': [1, 1, 15], 'd1': ['made/F__AKt']}))
         self.assertEqual(sheet('room', path)[1], 'sheet 23 bytes, text 0 bytes; 1 head, 0 constructors, 0 functions, 0 properties, 0 parameters, 0 types, '

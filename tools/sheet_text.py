@@ -7,7 +7,7 @@ import collections, signal, sys
 
 sys.dont_write_bytecode = True
 import flag_words
-from sheets import KINDS, RECORDS, REFUSALS, ROLES, NotALine, Walk, line_answer, records, refusal_text
+from sheets import KINDS, PROJECTIONS, RECORDS, REFUSALS, ROLES, NotALine, Walk, line_answer, records, refusal_text
 
 
 # JVM names that the class file tells: of the class; the parts of a multi-file class's facade; the facade of a part, or None
@@ -25,8 +25,13 @@ def named(name):
     return '(unnamed)' if name is None else shown(name)
 
 
+# what Kotlin writes before an argument
+VARIANCES = {'in': 'in ', 'out': 'out '}
+
+
 def type_text(t, unnamed='(type parameter)'):
-    """A type with its arguments; `unnamed` stands for one without a class name. No recursion: types may be 2,048 deep."""
+    """A type with its arguments as Kotlin writes it: `out` or `in` before an argument, `*` for a star. `unnamed` stands for one without a class
+    name. No recursion: types may be 2,048 deep."""
     if t is None:
         return '(no type)'
     done, left = [], [t]
@@ -35,7 +40,11 @@ def type_text(t, unnamed='(type parameter)'):
         if isinstance(t, str):
             done.append(t)
             continue
-        parts = [unnamed if t['name'] is None else shown(t['name'])]
+        projection = PROJECTIONS.get(t['projection'])
+        if projection == 'star':
+            done.append('*')
+            continue
+        parts = [VARIANCES.get(projection, ''), unnamed if t['name'] is None else shown(t['name'])]
         if t['of']:
             parts += ['<', t['of'][0], *(part for a in t['of'][1:] for part in (', ', a)), '>']
         left += reversed(parts + ['?'] * t['nullable'])
@@ -132,6 +141,8 @@ def cell_text(record, name, value):
         return f'{name} none'
     if name == 'role':
         return f'{name} {ROLES.get(value, value)}'
+    if name == 'projection':
+        return f'{name} {PROJECTIONS.get(value, value)}'
     if name == 'flags' and (record['record'] != 'head' or record['kind'] == 1):
         return f"{name} {value} ({', '.join(flag_words.words(record['record'], value))})"
     return f'{name} {shown(value) if isinstance(value, str) else value}'

@@ -3,7 +3,7 @@
 import struct
 
 # the number of the sheets' format: SHEET_FORMAT of include/sheet_reader.h
-FORMAT = 5
+FORMAT = 6
 
 KINDS = {1: 'class', 2: 'file', 3: 'synthetic class', 4: 'facade of a multi-file class', 5: 'part of a multi-file class'}
 
@@ -16,7 +16,7 @@ RECORDS = {
                      ('field', 'ref'), ('field descriptor', 'ref'), ('getter', 'ref'), ('getter descriptor', 'ref'),
                      ('setter', 'ref'), ('setter descriptor', 'ref')]),
     5: ('parameter', [('name', 'ref'), ('default', 1)]),
-    6: ('type', [('role', 1), ('nullable', 1), ('name', 'ref'), ('arguments', 2)]),
+    6: ('type', [('role', 1), ('nullable', 1), ('name', 'ref'), ('arguments', 2), ('projection', 1)]),
     7: ('default descriptor', [('descriptor', 'ref')]),
     8: ('alias', [('name', 'ref'), ('flags', 8)]),
     9: ('aliases', [('aliases', 2)]),
@@ -30,6 +30,9 @@ TEXT_LIMIT = 65534
 
 ROLES = {1: 'returned or property type', 2: 'receiver', 3: 'parameter', 4: 'vararg element', 5: 'argument',
          6: 'underlying type of an alias', 7: 'expanded type of an alias'}
+
+# of an argument; what is no argument is invariant
+PROJECTIONS = {0: 'in', 1: 'out', 2: 'invariant', 3: 'star'}
 
 # what happened, and what to do
 REFUSALS = {

@@ -2,7 +2,7 @@
 """usage: tables.py [ROOT]
 
 Whether the tables that are repeated for people and programs are those of the definitions: the records (kinds, lengths, cells in their order),
-the numbers of refusals, the roles of types, the limits, and where the records of each kind stand among the room's numbers. The definitions' text is read in crates/*/specs; held to it are docs/MANUAL.md,
+the numbers of refusals, the roles of types, the projections of arguments, the limits, and where the records of each kind stand among the room's numbers. The definitions' text is read in crates/*/specs; held to it are docs/MANUAL.md,
 include/sheet_reader.h, the tools (the file that has RECORDS) and the Java classes. Says each difference; the exit status is then 1."""
 import importlib.util, pathlib, re, sys
 
@@ -11,6 +11,7 @@ SPECS = {
     'rows': ['declarations/specs/Payload.antt', 'declaration_rows/specs/Rows.antt', 'descriptors/specs/Defaults.antt'],
     'refusals': [('inputs/specs/Refusals.antt', 'numberOf', 'detailOf'), ('converter/specs/Conversions.antt', 'faultNumber', 'faultDetail')],
     'roles': 'declaration_rows/specs/Rows.antt',
+    'projections': 'declaration_rows/specs/Declarations.antt',
     'limits': {'unitLimit': 'encoding/specs/Encoding.antt', 'stringLimit': 'inputs/specs/Inputs.antt', 'allowance': 'schema/specs/Reading.antt',
                'textLimit': 'passes/specs/Answered.antt', 'maxDepth': 'schema/specs/Types.antt'},
 }
@@ -65,6 +66,9 @@ ROLES = {
     'underlyingRole': ('UNDERLYING', 'underlying'),
     'expandedRole': ('EXPANDED', 'expanded'),
 }
+# the projections that the definitions don't name, and those that they do
+UNNAMED_PROJECTIONS = {'in': 0, 'out': 1}
+PROJECTIONS = ('invariant', 'star')
 # of a limit: its name in the header, its rows in MANUAL's table of limits
 LIMITS = {
     'unitLimit': ('UNIT_LIMIT', ['units of d1', 'units of d2']),
@@ -173,6 +177,11 @@ def defined_refusals(root):
         if len(found) > 1:
             raise NotFound(f'one number for {name}, but {sorted(found)}')
     return causes, details
+
+
+def defined_projections(root):
+    text = spec(root, SPECS['projections'])
+    return {**UNNAMED_PROJECTIONS, **{name: int(definition(text, name)[1]) for name in PROJECTIONS}}
 
 
 def defined_limits(root):
@@ -309,6 +318,15 @@ def check_manual_room(d, where, text, records):
     d.same(where, "the room's records", kinds, {place: told.get(place) for place in kinds})
 
 
+def check_projections(d, root, module_path, module, projections):
+    """In the header, in MANUAL's table of three columns, and in the tools."""
+    header, manual = ((root / path).read_text(encoding='utf-8') for path in ('include/sheet_reader.h', 'docs/MANUAL.md'))
+    d.named('include/sheet_reader.h', 'projection', {name.upper(): number for name, number in projections.items()}, header)
+    rows = table_rows(manual_section(manual, 'The sheet'))
+    d.worded('docs/MANUAL.md', 'projection', projections, {int(r[0]): r[2] for r in rows if len(r) == 3 and r[0].isdigit()})
+    d.same(module_path, 'projections', {number: name for name, number in projections.items()}, module.PROJECTIONS)
+
+
 def check_manual(d, where, text, records, causes, details, roles, limits):
     d.records(where, records, manual_records(text))
     rows = table_rows(manual_section(text, 'Refusals'))
@@ -361,6 +379,7 @@ def main(args):
     try:
         records, limits = defined_records(root), defined_limits(root)
         causes, details = defined_refusals(root)
+        projections = defined_projections(root)
         roles = {name: int(definition(spec(root, SPECS['roles']), name)[1]) for name in ROLES}
         text = lambda path: (root / path).read_text(encoding='utf-8')
         check_manual(d, 'docs/MANUAL.md', text('docs/MANUAL.md'), records, causes, details, roles, limits)
@@ -368,11 +387,12 @@ def main(args):
         check_room(d, 'include/sheet_reader.h', text('include/sheet_reader.h'), records)
         check_manual_room(d, 'docs/MANUAL.md', text('docs/MANUAL.md'), records)
         check_tool(d, *tool(root), records, causes, details, roles, limits)
+        check_projections(d, root, *tool(root), projections)
         check_java(d, 'host/java/sheetreader', root, records, limits)
     except (NotFound, OSError, AttributeError) as why:
         sys.exit(f'tables: not found: {why}')
     if d.count == 0:
-        print(f'tables: {len(records)} records, {len(set(causes.values()))} refusals, {len(roles)} roles and {len(limits)} limits '
+        print(f'tables: {len(records)} records, {len(set(causes.values()))} refusals, {len(roles)} roles, {len(projections)} projections and {len(limits)} limits '
               'are those of the definitions')
     return 1 if d.count else 0
 

@@ -34,7 +34,7 @@ impl Answer {
 pub const KINDS: usize = 9;
 
 /// How many bytes a record of each kind has, from kind 1 on.
-const LENGTHS: [usize; KINDS] = [20, 19, 24, 40, 6, 9, 5, 13, 3];
+pub const LENGTHS: [usize; KINDS] = [20, 19, 24, 40, 6, 10, 5, 13, 3];
 
 /// How many numbers are told of the room: the five of an answer, and the records of each kind.
 pub const ROOM: usize = 5 + KINDS;
@@ -74,16 +74,25 @@ impl Room {
     }
 }
 
-/// How many records of each kind stand on a sheet, by its bytes alone; none if they aren't whole records.
-pub fn records_on(sheet: &[u8]) -> Option<[u64; KINDS]> {
-    let mut records = [0; KINDS];
-    let mut at = 0;
-    while at < sheet.len() {
-        let kind = usize::from(sheet[at]).checked_sub(1)?;
-        at += LENGTHS.get(kind)?;
-        records[kind] += 1;
+/// The records of a sheet by its bytes alone, if these are whole records of such lengths.
+pub fn records_of<'a>(sheet: &'a [u8], lengths: &[usize; KINDS]) -> Option<Vec<&'a [u8]>> {
+    let mut records = Vec::new();
+    let mut rest = sheet;
+    while let Some(kind) = rest.first() {
+        let length = *lengths.get(usize::from(*kind).checked_sub(1)?)?;
+        records.push(rest.get(..length)?);
+        rest = &rest[length..];
     }
-    (at == sheet.len()).then_some(records)
+    Some(records)
+}
+
+/// How many records of each kind stand on a sheet; none if its bytes aren't whole records.
+pub fn records_on(sheet: &[u8]) -> Option<[u64; KINDS]> {
+    let mut counts = [0; KINDS];
+    for record in records_of(sheet, &LENGTHS)? {
+        counts[usize::from(record[0]) - 1] += 1;
+    }
+    Some(counts)
 }
 
 /// An answer with the bytes of sheet and text, which are empty on a refusal.

@@ -2,7 +2,7 @@
 //! sheets and refusals have gone on since. All that is left out of the comparison with it, and all that is put into its answers, stands here,
 //! each with its reason; a run counts each.
 
-use crate::answer::Answer;
+use crate::answer::{records_of, Answer, KINDS, LENGTHS};
 use crate::second::Reading;
 use original::sheet::Sheet;
 
@@ -28,13 +28,16 @@ pub enum Basis {
     /// The second reading: a message that was cut has a field with a number that the encoding guide forbids, which the original passes over.
     /// That is so for every refusal 17, and for a backing field in which it is forgiven.
     Forbidden,
+    /// The second reading: a star was entered, which the original drops. It is so too where the payload is refused later; a star that nothing
+    /// enters, as in a function that is skipped, is compared.
+    Stars,
     /// The second reading: the payload has type aliases, which the original doesn't read. What stands before them on an accepted sheet must
     /// still be the original's.
     Aliases,
 }
 
 impl Basis {
-    pub const ALL: [Self; 9] = [
+    pub const ALL: [Self; 10] = [
         Self::Original,
         Self::Limits,
         Self::OldForm,
@@ -43,6 +46,7 @@ impl Basis {
         Self::Memory,
         Self::DescriptorOperation,
         Self::Forbidden,
+        Self::Stars,
         Self::Aliases,
     ];
 
@@ -56,6 +60,7 @@ impl Basis {
             Self::Memory => "the second reading for memory",
             Self::DescriptorOperation => "the second reading for operation 2",
             Self::Forbidden => "the second reading for forbidden fields",
+            Self::Stars => "the second reading for stars",
             Self::Aliases => "the second reading for type aliases",
         }
     }
@@ -66,6 +71,8 @@ impl Basis {
 pub enum Change {
     /// The original's sheet has no count of type aliases, and gets one of 0 at its end.
     NoAliases,
+    /// The original's types have no projection: each gets the second reading's. All else of a type is compared.
+    Projections,
     /// 13 is taken for 7: the original has one number for all that is cut short.
     PastMessage,
     /// 14 is taken for 7, for the same reason.
@@ -76,11 +83,13 @@ pub enum Change {
 }
 
 impl Change {
-    pub const ALL: [Self; 4] = [Self::NoAliases, Self::PastMessage, Self::FieldTooLarge, Self::Place];
+    pub const ALL: [Self; 5] =
+        [Self::NoAliases, Self::Projections, Self::PastMessage, Self::FieldTooLarge, Self::Place];
 
     pub fn words(self) -> &'static str {
         match self {
             Self::NoAliases => "count of no type aliases put in",
+            Self::Projections => "projections put in",
             Self::PastMessage => "13 taken for 7",
             Self::FieldTooLarge => "14 taken for 7",
             Self::Place => "place in the detail skipped",
@@ -101,6 +110,7 @@ pub fn basis(reading: &Reading) -> Basis {
         _ if reading.record_bytes + 4 * reading.text_total > MEMORY => Basis::Memory,
         _ if reading.descriptor_operation => Basis::DescriptorOperation,
         _ if reading.forbidden => Basis::Forbidden,
+        _ if reading.star => Basis::Stars,
         _ if reading.aliases => Basis::Aliases,
         _ => Basis::Original,
     }
@@ -109,17 +119,50 @@ pub fn basis(reading: &Reading) -> Basis {
 /// The record of kind 9 of a sheet without type aliases: a count of 0.
 const NO_ALIASES: [u8; 3] = [9, 0, 0];
 
-/// The original's sheet of a payload without type aliases, in the form of the sheets: the count of no aliases is put at its end.
-pub fn in_form(mut sheet: Sheet) -> Sheet {
-    sheet.bytes.extend(NO_ALIASES);
-    sheet
+/// The kind of a type's record, and where the projection stands in it: at its end.
+const TYPE: u8 = 6;
+const PROJECTION: usize = LENGTHS[TYPE as usize - 1] - 1;
+
+/// How many bytes the original's records have: a type's has no projection.
+const ORIGINAL_LENGTHS: [usize; KINDS] = {
+    let mut lengths = LENGTHS;
+    lengths[TYPE as usize - 1] = PROJECTION;
+    lengths
+};
+
+/// The original's sheet of a payload without type aliases and stars, in the form of the sheets: each type gets the projection of the second
+/// reading's type in its place, and the count of no aliases is put at the end.
+pub fn in_form(sheet: &Sheet, reading: &Reading) -> Sheet {
+    let mut projections = projections(&reading.whole.sheet).into_iter();
+    let mut bytes = Vec::new();
+    for record in records_of(&sheet.bytes, &ORIGINAL_LENGTHS).expect("the original's records") {
+        bytes.extend(record);
+        if record[0] == TYPE {
+            bytes.extend(projections.next());
+        }
+    }
+    bytes.extend(NO_ALIASES);
+    Sheet { bytes, ..sheet.clone() }
+}
+
+/// The projections of the types on a sheet, in order.
+fn projections(sheet: &[u8]) -> Vec<u8> {
+    let types = records_of(sheet, &LENGTHS).into_iter().flatten().filter(|record| record[0] == TYPE);
+    types.map(|record| record[PROJECTION]).collect()
+}
+
+/// A sheet without the projections of its types, as the original's is.
+fn without_projections(sheet: &[u8]) -> Vec<u8> {
+    let shown = |record: &[u8]| record[..ORIGINAL_LENGTHS[usize::from(record[0]) - 1]].to_vec();
+    records_of(sheet, &LENGTHS).into_iter().flatten().flat_map(shown).collect()
 }
 
 /// Whether the original's sheet is what stands before the aliases of a sheet that was accepted: the records of kinds 8 and 9 and the aliases'
-/// types, and the texts of these, stand after all else.
+/// types, and the texts of these, stand after all else. Types are compared without their projections.
 pub fn stands_before_aliases(sheet: &Sheet, reading: &Reading) -> bool {
     let whole = &reading.whole;
-    let rest = whole.sheet.strip_prefix(sheet.bytes.as_slice());
+    let comparable = without_projections(&whole.sheet);
+    let rest = comparable.strip_prefix(sheet.bytes.as_slice());
     let begins = rest.is_some_and(|rest| rest.first() == Some(&NO_ALIASES[0]));
     begins
         && whole.text.starts_with(&sheet.text[..sheet.text.len().min(whole.text.len())])

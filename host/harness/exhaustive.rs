@@ -2,7 +2,7 @@
 
 use crate::forms::marked;
 use crate::input::{units, Input};
-use crate::shapes::{bytes, function_with, number, payload};
+use crate::shapes::{bytes, function_with, number, payload, star};
 
 /// A place in a payload, the bytes that matter there, and the input around a content.
 struct Place {
@@ -53,8 +53,13 @@ fn places() -> Vec<Place> {
             function(&bytes(6, &[&number(2, 0), c].concat()))
         }),
         place(b"\x00\x01\x02\x03\x04\x10\x12\x18\x1a\x1d\x30\x32\x33\x80\xff\x05", |c| function(&bytes(3, c))),
-        place(b"\x00\x01\x02\x03\x04\x08\x10\x12\x18\x1a\x1d\x30\x32\x80\xff\x05", |c| {
+        place(b"\x00\x01\x02\x03\x04\x08\x0a\x10\x12\x18\x1a\x1d\x30\x80\xff\x05", |c| {
             let array = [number(6, 2), bytes(2, c)].concat();
+            function(&bytes(3, &array))
+        }),
+        // what else a star holds
+        place(b"\x00\x01\x02\x03\x04\x08\x0a\x0b\x10\x12\x15\x18\x1a\x30\x80\xff", |c| {
+            let array = [number(6, 2), star(c), bytes(2, &bytes(2, &number(6, 0)))].concat();
             function(&bytes(3, &array))
         }),
         place(b"\x00\x01\x02\x03\x04\x06\x08\x0a\x10\x12\x15\x18\x30\x80\xff\x05", |c| {

@@ -68,7 +68,9 @@ impl Judge {
     fn settled(&self, second: &Whole, areas: Areas) -> (Whole, Vec<Change>) {
         match &self.original {
             Some(Ok(sheet)) if self.basis == Basis::Original => {
-                (accepted(comparison::in_form(sheet.clone()), areas), vec![Change::NoAliases])
+                let projections = (sheet.types > 0).then_some(Change::Projections);
+                let changes = [Change::NoAliases].into_iter().chain(projections).collect();
+                (accepted(comparison::in_form(sheet, &self.reading), areas), changes)
             }
             Some(Err(original)) if self.basis == Basis::Original => {
                 if comparison::agrees(second.answer, original.answer, &self.decoded) {
@@ -99,7 +101,7 @@ impl Judge {
         let on_sheet = records_on(&self.reading.whole.sheet);
         let of_original = match &self.original {
             Some(Ok(sheet)) if self.basis == Basis::Original => {
-                let sheet = comparison::in_form(sheet.clone());
+                let sheet = comparison::in_form(sheet, &self.reading);
                 (sheet.bytes.len() as u64, sheet.text.len() as u64, sheet.types)
             }
             _ => (room.answer.sheet, room.answer.text, room.answer.types),
@@ -124,7 +126,7 @@ pub fn original_answer(input: &Input) -> Option<Whole> {
     match comparison::basis(&reading) {
         Basis::Limits | Basis::Types => Some(reading.whole),
         Basis::Ranges | Basis::Memory | Basis::OldForm => None,
-        Basis::Original | Basis::DescriptorOperation | Basis::Aliases | Basis::Forbidden => {
+        Basis::Original | Basis::DescriptorOperation | Basis::Aliases | Basis::Forbidden | Basis::Stars => {
             Some(original_sheet(input).map_or_else(|refused| refused, |sheet| accepted(sheet, Areas::PROGRAM)))
         }
     }

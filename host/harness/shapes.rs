@@ -59,6 +59,24 @@ pub fn looked_up_argument(index: u64) -> Vec<u8> {
     bytes(2, &number(3, index))
 }
 
+/// A star argument, with what else it holds.
+pub fn star(rest: &[u8]) -> Vec<u8> {
+    bytes(2, &[&number(1, 3), rest].concat())
+}
+
+/// A star with nothing else, or with what isn't read of it: a type, broken or not, an index, a second projection.
+fn any_star(random: &mut Random) -> Vec<u8> {
+    match random.below(8) {
+        0 => star(&bytes(2, &[0x0b])),
+        1 => star(&bytes(2, &[0x80])),
+        2 => star(&bytes(2, &number(6, 2))),
+        3 => star(&number(3, random.below(3) as u64)),
+        4 => star(&number(1, 2)),
+        5 => bytes(2, &[bytes(2, &number(6, 2)), number(1, 3)].concat()),
+        _ => star(&[]),
+    }
+}
+
 /// Types one in another, all inline; the innermost holds `inside`.
 fn chain(length: usize, inside: &[u8]) -> Vec<u8> {
     (1..length).fold(inside.to_vec(), |ty, _| inline_argument(&ty))
@@ -68,7 +86,7 @@ const STRINGS_FOR_TYPES: &[&str] = &["f", "kotlin/Array", "kotlin/Int", "p", "ko
 
 /// One input of some shape; most are cheap, some take milliseconds.
 pub fn input(random: &mut Random) -> Input {
-    match random.below(18) {
+    match random.below(21) {
         0 => deep_inline(random),
         1 => deep_by_index(random),
         2 => deep_mixed(random),
@@ -86,6 +104,9 @@ pub fn input(random: &mut Random) -> Input {
         14 => old_lengths(random),
         15 => types_by_aliases(random),
         16 => alias_lists(random),
+        17 => stars_around_limit(random),
+        18 => deep_stars(random),
+        19 => projections(random),
         _ => arrays(random),
     }
 }
@@ -248,6 +269,79 @@ fn types_wide(random: &mut Random) -> Input {
     package(&[], &[returns(&ty)], STRINGS_FOR_TYPES)
 }
 
+/// A number of types around the allowance, stars among them; the last is a star or follows one.
+fn stars_around_limit(random: &mut Random) -> Input {
+    let count = around_limit(random);
+    let stars = *random.pick(&[1, 2, 1000, count - 1]);
+    let others = inline_argument(&number(6, 2)).repeat(count - 1 - stars);
+    let mut before = star(&[]).repeat(stars - 1);
+    if random.once_in(2) {
+        before.extend(others);
+    } else {
+        before = [others, before].concat();
+    }
+    let mut ty = [number(6, *random.pick(&[1, 2])), before, any_star(random)].concat();
+    match random.below(4) {
+        0 => ty.extend(inline_argument(&last_type(random))),
+        1 => ty.extend(any_star(random)),
+        2 => ty.extend(bytes(2, &[0x0b])),
+        _ => {}
+    }
+    if random.once_in(3) {
+        let function = bytes(3, &function_with(0, &number(7, 0)));
+        return package(&[], &[function, type_table(&[ty], None)], STRINGS_FOR_TYPES);
+    }
+    package(&[], &[returns(&ty)], STRINGS_FOR_TYPES)
+}
+
+/// Stars inside inline types around depth 64, or inside entries that are looked up; an argument of the same depth by index may be dropped.
+fn deep_stars(random: &mut Random) -> Input {
+    let mut arguments = vec![any_star(random), looked_up_argument(0)];
+    random.shuffle(&mut arguments);
+    let inside = [number(6, 1), arguments.concat()].concat();
+    if random.once_in(3) {
+        let function = bytes(3, &function_with(0, &number(7, 0)));
+        return package(&[], &[function, type_table(&[inside], Some(random.below(2) as u64))], STRINGS_FOR_TYPES);
+    }
+    let ty = chain(near_64(random), &inside);
+    package(&[], &[returns(&ty), type_table(&[number(6, 2)], None)], STRINGS_FOR_TYPES)
+}
+
+/// Few arguments with every projection: inline, by index, dropped or a star.
+fn projections(random: &mut Random) -> Input {
+    let stars = random.once_in(2);
+    let mut arguments = vec![number(6, 1 + random.below(2) as u64)];
+    for _ in 0..1 + random.below(4) {
+        let mut fields = Vec::new();
+        let projection = *random.pick(&[0, 1, 2, 3, 4, 1 << 32, (1 << 32) + 3, u64::MAX]);
+        match random.below(8) {
+            0 => {}
+            1 => fields.push(bytes(1, &[])),
+            2 => fields.push([&[0x0d][..], &[3, 0, 0, 0]].concat()),
+            3 => fields.push([&[0x09][..], &[3, 0, 0, 0, 0, 0, 0, 0]].concat()),
+            _ => fields.push(number(1, if projection == 3 && !stars { 1 } else { projection })),
+        }
+        if random.once_in(4) {
+            fields.push(number(1, random.below(4) as u64));
+        }
+        match random.below(6) {
+            0..=2 => fields.push(bytes(2, &number(6, 2))),
+            3 => fields.push(number(3, random.below(3) as u64)),
+            4 => fields.push(bytes(2, if stars { &[0x0b] } else { &[] })),
+            _ => {}
+        }
+        if random.once_in(4) {
+            random.shuffle(&mut fields);
+        }
+        arguments.push(bytes(2, &fields.concat()));
+    }
+    random.shuffle(&mut arguments);
+    let ty = arguments.concat();
+    let entries = [number(6, 4), [number(6, 1), looked_up_argument(0)].concat()];
+    let function = function_with(0, &[bytes(6, &[number(2, 3), bytes(3, &ty)].concat()), bytes(3, &ty)].concat());
+    package(&[], &[bytes(3, &function), type_table(&entries, Some(1))], STRINGS_FOR_TYPES)
+}
+
 /// An entry with many lookups past the table, entered some times.
 fn failing_lookups(random: &mut Random) -> Input {
     let entry = [looked_up_argument(9).repeat(1 + random.below(300)), looked_up_argument(1)].concat();
@@ -392,12 +486,21 @@ fn arrays(random: &mut Random) -> Input {
         3 => looked_up_argument(5),
         _ => number(6, 1),
     };
-    let array = |ty: Vec<u8>, dropped: bool| {
-        let before = if dropped { looked_up_argument(7) } else { Vec::new() };
-        [number(6, 1), before, inline_argument(&ty)].concat()
+    let before = match random.below(6) {
+        0 | 1 => looked_up_argument(7),
+        2 => star(&[]),
+        _ => Vec::new(),
     };
-    let dropped = random.once_in(3);
-    let ty = (0..random.below(6)).fold(inside, |ty, _| array(ty, dropped));
+    let projection = if random.once_in(3) { number(1, random.below(3) as u64) } else { Vec::new() };
+    let array = |ty: Vec<u8>, before: &[u8]| {
+        let argument = bytes(2, &[projection.clone(), bytes(2, &ty)].concat());
+        [&number(6, 1), before, &argument].concat()
+    };
+    // What stands before the element stands in each array, or in the innermost alone.
+    let innermost = random.once_in(2);
+    let outer: &[u8] = if innermost { &[] } else { &before };
+    let depth = random.below(6);
+    let ty = (0..depth).fold(inside, |ty, place| array(ty, if place == 0 { &before } else { outer }));
     let parameter = bytes(6, &[number(2, 3), bytes(3, &ty)].concat());
     let receiver = if random.once_in(3) { bytes(5, &ty) } else { Vec::new() };
     let function = function_with(0, &[parameter, receiver, bytes(3, &ty)].concat());

@@ -7,7 +7,7 @@ use harness::limits::Areas;
 pub type Case = (Input, Areas);
 
 /// The files of `cases/`, in the order in which they are run.
-const LISTS: [&str; 16] = [
+const LISTS: [&str; 17] = [
     "host_refusals",
     "kinds_and_versions",
     "fields",
@@ -18,6 +18,7 @@ const LISTS: [&str; 16] = [
     "properties",
     "aliases",
     "types",
+    "projections",
     "descriptors",
     "places",
     "areas",

@@ -44,8 +44,8 @@ fn main() {
     println!("classes: the Rust's own lines are those that stand beside them");
 }
 
-/// The answer of an input that a replay may hold: the original's, a limit's, of the old form, the 2,049th type, a forbidden field, one with type aliases or
-/// with operation 2.
+/// The answer of an input that a replay may hold: the original's, a limit's, of the old form, the 2,049th type, a forbidden field, one with stars, type
+/// aliases or operation 2.
 fn answer(input: &Input, areas: Areas) -> Option<Whole> {
     let expected = checked(input, areas);
     let settled = match expected.basis {
@@ -55,6 +55,7 @@ fn answer(input: &Input, areas: Areas) -> Option<Whole> {
         | Basis::Types
         | Basis::DescriptorOperation
         | Basis::Forbidden
+        | Basis::Stars
         | Basis::Aliases => true,
         Basis::Ranges | Basis::Memory => false,
     };

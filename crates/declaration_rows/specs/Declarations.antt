@@ -1,29 +1,57 @@
 -- The declarations that one class's metadata comes to.
 -- Assumes nothing.
-use mathlib.Core.Bool.{Bool}
+use mathlib.Core.Bool.{Bool, false}
 use mathlib.Core.List.{List, [], _∷_}
-use mathlib.Core.Option.{Option}
+use mathlib.Core.Option.{Option, none}
 use Prim.Native.Nat.{ℕ, suc}
 use Rattle.foundation.specs.Texts.{Text}
 
--- Types one after the other, each with whether it is nullable, its name, and its kept arguments.
+-- A projection, by the numbers of metadata.proto's Type.Argument.Projection: 0 in, 1 out, 2 invariant, 3 star. A type that is no argument is
+-- invariant.
+abbrev pub invariant : ℕ
+invariant = 2
+
+abbrev pub star : ℕ
+star = 3
+
+-- Types one after the other, each with its projection, whether it is nullable, its name, and its kept arguments.
 pub data Types : Type 0 where
   noTypes : Types
-  andType : Bool → Option Text → Types → Types → Types
+  andType : ℕ → Bool → Option Text → Types → Types → Types
 
 pub record Ty : Type 0 where
   pub nullable : Bool
   pub name : Option Text
   pub arguments : Types
 
-abbrev pub typesOf : List Ty → Types
+-- An argument of a type: its projection, and the type that it stands with.
+pub record Argument : Type 0 where
+  pub projection : ℕ
+  pub type : Ty
+
+abbrev pub projected : ℕ → Ty → Argument
+projected projection t = record { projection = projection; type = t }
+
+-- A star is kept, and is blank: it has no name, no arguments, and is not nullable.
+abbrev pub blank : Ty
+blank = record { nullable = false; name = none; arguments = noTypes }
+
+-- the types before some others, the first with its projection
+abbrev pub withType : ℕ → Ty → Types → Types
+withType projection t after = andType projection (t .nullable) (t .name) (t .arguments) after
+
+abbrev pub typesOf : List Argument → Types
 typesOf [] = noTypes
-typesOf (t ∷ ts) = andType (t .nullable) (t .name) (t .arguments) (typesOf ts)
+typesOf (a ∷ more) = withType (a .projection) (a .type) (typesOf more)
+
+-- a type by itself
+abbrev pub single : Ty → Types
+single t = withType invariant t noTypes
 
 -- how many stand side by side
 abbrev pub countOf : Types → ℕ
 countOf noTypes = 0
-countOf (andType nullable name arguments after) = suc (countOf after)
+countOf (andType projection nullable name arguments after) = suc (countOf after)
 
 pub record Signature : Type 0 where
   pub name : Text

@@ -9,7 +9,7 @@ use Rattle.foundation.specs.Choices.{mapOption, concat}
 use Rattle.foundation.specs.Texts.{Text}
 use Rattle.characters.specs.Characters.{utf8}
 use Rattle.sheet.specs.Rows.{Cell, num, ref, bit, Row, row}
-use Rattle.declaration_rows.specs.Declarations.{Types, noTypes, andType, Ty, countOf, Signature, Parameter, Constructor, Function, Property, Alias}
+use Rattle.declaration_rows.specs.Declarations.{Types, noTypes, andType, Ty, single, countOf, Signature, Parameter, Constructor, Function, Property, Alias}
 
 abbrev pub nameCell : Option Text → Cell
 nameCell name = ref (mapOption utf8 name)
@@ -36,20 +36,20 @@ underlyingRole = 6
 abbrev pub expandedRole : ℕ
 expandedRole = 7
 
--- the cells of a type's record: its role, whether it is nullable, its name, and how many arguments follow it
-abbrev pub typeCells : ℕ → Bool → Option Text → ℕ → List Cell
-typeCells role nullable name count = num 1 role ∷ bit nullable ∷ nameCell name ∷ num 2 count ∷ []
+-- the cells of a type's record: its role, whether it is nullable, its name, how many arguments follow it, and its projection
+abbrev pub typeCells : ℕ → Bool → Option Text → ℕ → ℕ → List Cell
+typeCells role nullable name count projection = num 1 role ∷ bit nullable ∷ nameCell name ∷ num 2 count ∷ num 1 projection ∷ []
 
 -- a type's arguments follow it, depth first
 unfoldable pub typesRows : ℕ → Types → List Row
 typesRows role noTypes = []
-typesRows role (andType nullable name arguments after) =
-    row 6 (typeCells role nullable name (countOf arguments))
+typesRows role (andType projection nullable name arguments after) =
+    row 6 (typeCells role nullable name (countOf arguments) projection)
     ∷ (typesRows argumentRole arguments ++ typesRows role after)
 
 abbrev pub typeRows : ℕ → Option Ty → List Row
 typeRows role none = []
-typeRows role (some t) = typesRows role (andType (t .nullable) (t .name) (t .arguments) noTypes)
+typeRows role (some t) = typesRows role (single t)
 
 unfoldable pub parameterRows : Parameter → List Row
 parameterRows p =

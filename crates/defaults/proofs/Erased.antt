@@ -6,12 +6,13 @@ use mathlib.Core.Bool.{Bool, true, false}
 use mathlib.Core.List.{List, [], _∷_, _++_, map}
 use mathlib.Core.Option.{Option, none, some, IsSome}
 use lib.Dec.{T}
+use Prim.Native.Nat.{ℕ}
 use Rattle.foundation.specs.Choices.{if_then_else_, ifSome, mapOption, bothOf, everyOf, All}
 use Rattle.foundation.specs.Texts.{Text, same}
 use Rattle.foundation.proofs.ChoiceLaws.{if-ind, all-append, same-true}
 use Rattle.foundation.proofs.EveryLaws.{all-split}
 use Rattle.defaults.proofs.ChoiceLaws.{some-map, some-both, some-every, same-false}
-use Rattle.declaration_rows.specs.Declarations.{Types, noTypes, andType, Ty, typesOf, Constructor, Function}
+use Rattle.declaration_rows.specs.Declarations.{invariant, Types, noTypes, andType, Ty, single, Constructor, Function}
 use Rattle.erasure.specs.Erasure.{
   Meaning,
   primitive,
@@ -95,33 +96,33 @@ first-erased element ts (ends {name} {arguments} h k) =
 first-erased element ts (through {name} {arguments} e h) =
     rw (meaning-array name e) (some-map arrayOf (firstErased true arguments) .1 (first-erased true arguments h))
 
-has-by : (nullable boxed : Bool) (name : Text) (arguments after : Types) (inner : Option Erased)
+has-by : (projection : ℕ) (nullable boxed : Bool) (name : Text) (arguments after : Types) (inner : Option Erased)
     → (IsSome inner → HasDescriptor arguments)
     → (isArray isNothing : Bool)
     → same (withSlashes name) kotlin·Array ≡ isArray
     → same (withSlashes name) kotlin·Nothing ≡ isNothing
     → IsSome (erasedAs boxed inner (meaningOf name))
-    → HasDescriptor (andType nullable (some name) arguments after)
-has-by nullable boxed name arguments after inner f true b p q h =
+    → HasDescriptor (andType projection nullable (some name) arguments after)
+has-by projection nullable boxed name arguments after inner f true b p q h =
     let e = same-true (withSlashes name) kotlin·Array p in
     through e (f (some-map arrayOf inner .0 (rw (meaning-array name e) at h)))
-has-by nullable boxed name arguments after inner f false true p q h =
+has-by projection nullable boxed name arguments after inner f false true p q h =
     let e = meaning-nothing name (same-true (withSlashes name) kotlin·Nothing q) in
     absurd (subst (λ (m : Meaning). IsSome (erasedAs boxed inner m)) e h)
-has-by nullable boxed name arguments after inner f false false p q h =
+has-by projection nullable boxed name arguments after inner f false false p q h =
     ends (same-false (withSlashes name) kotlin·Nothing q) (same-false (withSlashes name) kotlin·Array p)
 
 first-has : (element : Bool) (ts : Types) → IsSome (firstErased element ts) → HasDescriptor ts
 unfolding firstErased
 first-has element noTypes h = absurd h
-first-has element (andType nullable none arguments after) h = absurd h
-first-has element (andType nullable (some name) arguments after) h =
-    has-by nullable _ name arguments after (firstErased true arguments) (first-has true arguments) _ _ refl refl h
+first-has element (andType projection nullable none arguments after) h = absurd h
+first-has element (andType projection nullable (some name) arguments after) h =
+    has-by projection nullable _ name arguments after (firstErased true arguments) (first-has true arguments) _ _ refl refl h
 
 -- As a parameter,
 erased-iff : (t : Ty) → IsSome (erased t) ↔ HasDescriptorTy t
 unfolding erased
-erased-iff t = (first-has false (typesOf (t ∷ [])), first-erased false (typesOf (t ∷ [])))
+erased-iff t = (first-has false (single t), first-erased false (single t))
 
 -- and as a return: the only one that is special there, Unit, has an erasure in any case.
 returned-as : (boxed : Bool) (inner : Option Erased) (m : Meaning)
@@ -139,7 +140,7 @@ returned-iff t = Iff·trans (go (t .name)) (erased-iff t)
   where
     -- t with that name
     named : Option Text → Option Erased
-    named name = firstErased false (andType (t .nullable) name (t .arguments) noTypes)
+    named name = firstErased false (andType invariant (t .nullable) name (t .arguments) noTypes)
 
     go : (name : Option Text) → IsSome (ifSome name none λ n. returnedAs (meaningOf n) (named name)) ↔ IsSome (named name)
     go none = (λ h. h, λ h. h)

@@ -11,7 +11,7 @@ use Rattle.foundation.specs.Choices.{if_then_else_, concat}
 use Rattle.foundation.specs.Texts.{Text, ascii}
 use Rattle.characters.specs.Characters.{utf8}
 use Rattle.names.specs.Records.{substituted}
-use Rattle.declaration_rows.specs.Declarations.{Types, andType, Ty, typesOf, Constructor, Function}
+use Rattle.declaration_rows.specs.Declarations.{Types, andType, Ty, single, Constructor, Function}
 use Rattle.schema.specs.Members.{bitOf}
 use Rattle.erasure.specs.Erasure.{Erased, base, class, arrayOf, Returned, void, ofType, print, printReturned}
 use Rattle.descriptors.specs.Defaults.{Parts}
@@ -28,19 +28,19 @@ kotlin·Nothing = ascii "kotlin/Nothing"
 
 -- The first of some types has a descriptor: following first arguments through kotlin/Array ends in a named type other than
 -- kotlin/Nothing and kotlin/Array. The arguments are the kept ones. What comes after the first doesn't matter, nor whether it is
--- nullable; where there is none, or it has no name, neither constructor fits.
+-- nullable or what its projection is; where there is none, or it has no name, as a star has none, neither constructor fits.
 pub data HasDescriptor : Types → Type 0 where
-  ends : {nullable : Bool} {name : Text} {arguments after : Types}
+  ends : {projection : ℕ} {nullable : Bool} {name : Text} {arguments after : Types}
       → withSlashes name ≢ kotlin·Nothing
       → withSlashes name ≢ kotlin·Array
-      → HasDescriptor (andType nullable (some name) arguments after)
-  through : {nullable : Bool} {name : Text} {arguments after : Types}
+      → HasDescriptor (andType projection nullable (some name) arguments after)
+  through : {projection : ℕ} {nullable : Bool} {name : Text} {arguments after : Types}
       → withSlashes name ≡ kotlin·Array
       → HasDescriptor arguments
-      → HasDescriptor (andType nullable (some name) arguments after)
+      → HasDescriptor (andType projection nullable (some name) arguments after)
 
 abbrev pub HasDescriptorTy : Ty → Type 0
-HasDescriptorTy t = HasDescriptor (typesOf (t ∷ []))
+HasDescriptorTy t = HasDescriptor (single t)
 
 -- A needed type that isn't there has no descriptor.
 abbrev pub Has : Option Ty → Type 0

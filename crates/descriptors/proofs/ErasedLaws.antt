@@ -36,7 +36,7 @@ use Rattle.names.proofs.NameLaws.{source-units, name-parts}
 use Rattle.names.proofs.PresentLaws.{name-most}
 use Rattle.names.proofs.FittedLaws.{fitted-ind, zeros-first}
 use Rattle.names.proofs.ScalarLaws.{Strings, qualified-characters, d2-characters, substituted-keeps}
-use Rattle.declaration_rows.specs.Declarations.{Ty}
+use Rattle.declaration_rows.specs.Declarations.{invariant, Ty}
 use Rattle.schema.specs.Reading.{pure, lift, Scope, classNameIn}
 use Rattle.schema.specs.told.SchemaTold.{Lent, NamesOf, Scoped, Stands}
 use Rattle.schema.specs.told.TypesTold.{orNullable}
@@ -166,8 +166,8 @@ module _ (payload d2 : List ℕ) (name : Name) {printed : Printed} {at : ℕ} {A
 erased-named : (position : Position) (t : Ty) (n : Text) → t .name ≡ some n
     → erasedAt position t ≡ partAt position (t .nullable) (firstErased true (t .arguments)) (meaningOf n)
 unfolding erased
-erased-named Parameter t n e = rw e (first-at (t .nullable) n (t .arguments) _)
-erased-named Element t n e = rw e (element-at (t .nullable) n (t .arguments) _)
+erased-named Parameter t n e = rw e (first-at invariant (t .nullable) n (t .arguments) _)
+erased-named Element t n e = rw e (element-at invariant (t .nullable) n (t .arguments) _)
 erased-named Return t n e = return-at t n e
 
 erased-nameless : (position : Position) (t : Ty) → t .name ≡ none → erasedAt position t ≡ none

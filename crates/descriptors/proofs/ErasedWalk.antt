@@ -11,12 +11,12 @@ use lib.ListN.{length, length-append}
 use Rattle.foundation.specs.Choices.{mapOption}
 use Rattle.foundation.proofs.OverlayLaws.{sets-then}
 use Rattle.characters.specs.told.Places.{partFrom}
-use Rattle.declaration_rows.specs.Declarations.{Ty, typesOf}
+use Rattle.declaration_rows.specs.Declarations.{Ty, Argument, typesOf}
 use Rattle.schema.specs.Reading.{Scope}
 use Rattle.schema.specs.Types.{maxDepth}
 use Rattle.schema.specs.told.SchemaTold.{Lent, Scoped, EntryAt}
 use Rattle.schema.specs.told.TypesTold.{orNullable}
-use Rattle.schema.specs.told.PlacesTold.{TableOf, TypeFound, FoundTypeTold, FoundTypeInside, reach, FoundTypeFalls, headType, ArgumentFound}
+use Rattle.schema.specs.told.PlacesTold.{TableOf, TypeFound, FoundTypeInside, reach, FoundTypeFalls, headType, Unnamed, ElementTold, ArgumentFound}
 use Rattle.schema.specs.declared.FoundType.{FoundType}
 use Rattle.schema.specs.declared.FoundType.the-variants as found
 use Rattle.schema.proofs.StandsLaws.{part-ends}
@@ -56,19 +56,19 @@ put-then {text} {text′} {at} {next} {r} {n} {A} p e q = record {
 }
 
 -- The first kept argument as an element.
-first-none : (ts : List Ty) → headType ts ≡ none → firstErased true (typesOf ts) ≡ none
+first-none : (ts : List Argument) → Unnamed (headType ts) → firstErased true (typesOf ts) ≡ none
 unfolding firstErased
 first-none [] e = refl
-first-none (t ∷ ts) e = let z : _≡_ {A = ℕ} 0 1 = cc in absurd (omega arith)
+first-none (a ∷ ts) e = rw e
 
-element-text : (ts : List Ty) (t : Ty) → headType ts ≡ some t
+element-text : (ts : List Argument) (t : Ty) → headType ts ≡ some t
     → mapOption (λ e. 0x5b ∷ print e) (firstErased true (typesOf ts)) ≡ after (0x5b ∷ []) (mapOption printReturned (erasedAt Element t))
 unfolding firstErased
 element-text [] t e = let z : _≡_ {A = ℕ} 0 1 = cc in absurd (omega arith)
-element-text (u ∷ ts) t e =
-    let same : u ≡ t = some-same e in
-    subst (λ (x : Ty). mapOption (λ e. 0x5b ∷ print e) (firstErased true (typesOf (u ∷ ts))) ≡ after (0x5b ∷ []) (mapOption printReturned (erasedAt Element x))) same
-    (bracket (firstErased true (typesOf (u ∷ ts))))
+element-text (a ∷ ts) t e =
+    let same : a .type ≡ t = some-same e in
+    subst (λ (x : Ty). mapOption (λ e. 0x5b ∷ print e) (firstErased true (typesOf (a ∷ ts))) ≡ after (0x5b ∷ []) (mapOption printReturned (erasedAt Element x))) same
+    (bracket (firstErased true (typesOf (a ∷ ts))))
   where
     some-same : {A : Type 0} {a b : A} → some a ≡ some b → a ≡ b
     some-same e = cc
@@ -160,12 +160,12 @@ module _ {e : Lent} {start end : ℕ} {nullable : Bool} {left : ℕ} {position :
         given : Entered c (f .depth) (f .message) u
         given = type-entered c (f .depth) (f .message) u (f .before) (f .after) (f .given)
 
-        argument-is : {y : FoundType} → s ≡ y → FoundTypeTold (e .payload) c (headType (given .types)) y
+        argument-is : {y : FoundType} → s ≡ y → ElementTold (e .payload) c (headType (given .types)) y
         argument-is g =
             let table : TableOf (e .payload) (e .notes) (e .tables) c = record { entries = o .entries; nullable = o .nullable } in
             let deeper : less ≡ maxDepth - (f .depth + 1) = omega (arith, f .deep) in
             let at-here = subst (λ (n : ℕ). EntryAt (e .payload) first n (f .message)) (sym here-ends) (f .at) in
-            subst (FoundTypeTold (e .payload) c (headType (given .types))) g
+            subst (ElementTold (e .payload) c (headType (given .types))) g
             (a .is c table (f .message) at-here (given .arguments) (given .cuts) (f .depth + 1) deeper (given .types) (given .before) (given .between) (given .given))
 
         inner-is : firstErased true (u .arguments) ≡ firstErased true (typesOf (given .types))

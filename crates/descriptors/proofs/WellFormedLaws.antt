@@ -15,8 +15,8 @@ use Rattle.characters.specs.told.CharactersTold.{Characters}
 use Rattle.foundation.proofs.EveryLaws.{every, every-all}
 use Rattle.characters.proofs.Utf8Laws.{utf8-well-formed}
 use Rattle.names.proofs.ScalarLaws.{substituted-keeps}
-use Rattle.declaration_rows.specs.Declarations.{Types, noTypes, andType, Ty, Parameter, Constructor, Function}
-use Rattle.schema.proofs.Fine.{FineTypes, FineTy, FineParameter, FineConstructor, FineFunction}
+use Rattle.declaration_rows.specs.Declarations.{Types, noTypes, andType, Ty, single, Parameter, Constructor, Function}
+use Rattle.schema.proofs.Fine.{single-fine, FineTypes, FineTy, FineParameter, FineConstructor, FineFunction}
 use Rattle.erasure.specs.Erasure.{
   Primitive,
   boolean,
@@ -153,9 +153,9 @@ erased-as-fine boxed inner (mapped n) i f = f
 first-erased-fine : (element : Bool) (ts : Types) → FineTypes ts → IfSome FineErased (firstErased element ts)
 unfolding firstErased
 first-erased-fine element noTypes f = tt
-first-erased-fine element (andType nullable none arguments after) f = tt
-first-erased-fine element (andType nullable (some n) arguments after) f =
-    erased-as-fine (nullable || element) (firstErased true arguments) (meaningOf n) (first-erased-fine true arguments (f .2)) (meaning-fine n (f .0))
+first-erased-fine element (andType projection nullable none arguments after) f = tt
+first-erased-fine element (andType projection nullable (some n) arguments after) f =
+    erased-as-fine (nullable || element) (firstErased true arguments) (meaningOf n) (first-erased-fine true arguments (f .4)) (meaning-fine n (f .2))
 
 -- an ASCII byte by itself
 one-byte : (b : ℕ) → T (isScalar b) → utf8 (b ∷ []) ≡ b ∷ [] → WellFormed (b ∷ [])
@@ -205,7 +205,7 @@ descriptor-well-formed p f =
 option-fine : (t : Option Ty) → IfSome FineTy t → IfSome FineErased (erasedOption t)
 unfolding erased
 option-fine none f = tt
-option-fine (some t) f = first-erased-fine false (andType (t .nullable) (t .name) (t .arguments) noTypes) (f .name, f .count, f .arguments, tt)
+option-fine (some t) f = first-erased-fine false (single t) (single-fine f)
 
 both-fine : {A B C : Type 0} (P : A → Type 0) (Q : B → Type 0) (R : C → Type 0) (f : A → B → C) (a : Option A) (b : Option B)
     → IfSome P a → IfSome Q b → ((x : A) (y : B) → P x → Q y → R (f x y)) → IfSome R (bothOf f a b)

@@ -211,15 +211,15 @@ module _ {m : answer.Meaning} (position : Position) (nullable : Bool) where
   prints-itself e n inner = rw e (part-value position nullable inner (mapped n) tt)
 
 -- The erasure of the first of some types, and of a return, by its meaning at its position.
-pub first-at : (nullable : Bool) (n : Text) (arguments after : Types)
-    → mapOption ofType (firstErased false (andType nullable (some n) arguments after)) ≡ partAt Parameter nullable (firstErased true arguments) (meaningOf n)
+pub first-at : (projection : ℕ) (nullable : Bool) (n : Text) (arguments after : Types)
+    → mapOption ofType (firstErased false (andType projection nullable (some n) arguments after)) ≡ partAt Parameter nullable (firstErased true arguments) (meaningOf n)
 unfolding firstErased
-first-at nullable n arguments after = refl
+first-at projection nullable n arguments after = refl
 
-pub element-at : (nullable : Bool) (n : Text) (arguments after : Types)
-    → mapOption ofType (firstErased true (andType nullable (some n) arguments after)) ≡ partAt Element nullable (firstErased true arguments) (meaningOf n)
+pub element-at : (projection : ℕ) (nullable : Bool) (n : Text) (arguments after : Types)
+    → mapOption ofType (firstErased true (andType projection nullable (some n) arguments after)) ≡ partAt Element nullable (firstErased true arguments) (meaningOf n)
 unfolding firstErased
-element-at nullable n arguments after = refl
+element-at projection nullable n arguments after = refl
 
 pub return-at : (t : Ty) (n : Text) → t .name ≡ some n → erasedReturn t ≡ partAt Return (t .nullable) (firstErased true (t .arguments)) (meaningOf n)
 unfolding erasedReturn erased firstErased

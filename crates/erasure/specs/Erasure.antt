@@ -9,7 +9,7 @@ use Rattle.foundation.specs.Choices.{if_then_else_, ifSome, mapOption}
 use Rattle.foundation.specs.Texts.{Text, ascii, same}
 use Rattle.characters.specs.Characters.{utf8}
 use Rattle.names.specs.Records.{substituted}
-use Rattle.declaration_rows.specs.Declarations.{Types, noTypes, andType, Ty}
+use Rattle.declaration_rows.specs.Declarations.{Types, noTypes, andType, Ty, single}
 
 -- JVMS 4.3.2's base types
 pub data Primitive : Type 0 where
@@ -126,14 +126,11 @@ erasedAs boxed inner unit = some (class kotlinUnit)
 erasedAs boxed inner nothing = none
 erasedAs boxed inner (mapped n) = some (class n)
 
--- the erasure of the first of some types; element: it is an array's
+-- The erasure of the first of some types; element: it is an array's. A star has no name, and so none; other projections don't matter.
 unfoldable pub firstErased : Bool → Types → Option Erased
 firstErased element noTypes = none
-firstErased element (andType nullable name arguments after) =
+firstErased element (andType projection nullable name arguments after) =
     ifSome name none λ n. erasedAs (nullable || element) (firstErased true arguments) (meaningOf n)
-
-abbrev pub single : Ty → Types
-single t = andType (t .nullable) (t .name) (t .arguments) noTypes
 
 -- as a parameter
 unfoldable pub erased : Ty → Option Erased

@@ -10,7 +10,7 @@ use Rattle.characters.specs.Splits.{splitAt, substringOf}
 use Rattle.names.specs.Records.{recordOf, predefinedText, baseText, replaceOf, operated, textOf}
 use Rattle.names.specs.Names.{endsFit, recordsOf, recordAt, string, withoutLast, qualifiedName, stringsFrom, d2String}
 use Rattle.schema.specs.Reading.{kept, nameIn, classNameIn}
-use Rattle.schema.specs.Types.{resolveAt, typeIn, argumentIn, parseAt, typeAt, declaredType, typeTableIn}
+use Rattle.schema.specs.Types.{resolveAt, typeIn, projectionIn, argumentIn, parseAt, typeAt, declaredType, typeTableIn}
 use Rattle.schema.specs.Members.{signatureOf, signatureIn, fieldOf, fieldIn, parameterIn, listIn, constructorIn, functionIn, propertyIn, aliasIn, listsIn, afterTable, bodyIn}
 use Rattle.declaration_rows.specs.Rows.{typesRows, parameterRows, constructorRows, functionRows, propertyRows, aliasRows}
 use Rattle.inputs.specs.Refusals.{numberOf, detailOf}
@@ -27,7 +27,7 @@ unfolding
     holds decoded firstAbove255 unpacked groupsFrom readVarint readBytes readDelimited readFixed readValue readField repeated cut packed
     values varintOf index flag bytesOf message bodiesOf cutAll messages joined varints isScalar width utf8Of utf8 leadOf run step fromUtf8After
     fromUtf16 recordOf predefinedText baseText splitAt substringOf replaceOf operated textOf recordsOf recordAt string withoutLast qualifiedName
-    stringsFrom d2String bodyText bodyBytes texts sheetFrom kept nameIn classNameIn resolveAt typeIn argumentIn parseAt typeAt declaredType
+    stringsFrom d2String bodyText bodyBytes texts sheetFrom kept nameIn classNameIn resolveAt typeIn projectionIn argumentIn parseAt typeAt declaredType
     typeTableIn signatureOf signatureIn fieldOf fieldIn parameterIn listIn constructorIn functionIn propertyIn aliasIn listsIn afterTable bodyIn
     typesRows parameterRows constructorRows functionRows propertyRows aliasRows lookUp firstErased erased erasedReturn print functionParts
     constructorParts descriptor closedConstructor closedFunction numberOf detailOf endsFit laterFault faultOf payload reading declarationRows sheetWritten written read

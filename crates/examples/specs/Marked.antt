@@ -1,4 +1,4 @@
--- Document 01's marked examples (a) to (l), with document 02's empty kind 9 at the end of each sheet, as one table of tests.
+-- Document 01's marked examples (a) to (l), with document 02's projection at the end of each type and its empty kind 9 at the end of each sheet, as one table of tests.
 -- Assumes nothing.
 use mathlib.Core.Bool.{Bool, true, false, _&&_}
 use mathlib.Core.List.{List, [], _∷_, _++_}
@@ -71,13 +71,13 @@ lineInput =
 
 abbrev pub wholeLine : String
 wholeLine =
-    "0 0 0102ffffffff060000000000000000000100000003000001000600000000000000ffffffffffffffff00000006010001000b000000070c000300090000 666b6f746c696e2e556e6974282956\n"
+    "0 0 0102ffffffff060000000000000000000100000003000001000600000000000000ffffffffffffffff00000006010001000b00000002070c000300090000 666b6f746c696e2e556e6974282956\n"
 
 abbrev pub marked : List Marked
 marked =
     _shows_ "(a) the whole line, from its bytes" (same (printed zeros zeros (hex lineInput)) (ascii wholeLine))
     ∷ _shows_ "(a) its answer" (holds (unitFunction 1 (gives 0 0 1
-    "0102ffffffff060000000000000000000100000003000001000600000000000000ffffffffffffffff00000006010001000b000000070c000300090000"
+    "0102ffffffff060000000000000000000100000003000001000600000000000000ffffffffffffffff00000006010001000b00000002070c000300090000"
     "666b6f746c696e2e556e6974282956")))
     ∷ _shows_ "(b) d1 00 00: a head of 20 bytes, and kind 9" (holds (inPackage (hex "0000") [] [] (gives 0 0 0
     "0102ffffffff0600000000000000000000000000090000" "")))
@@ -90,12 +90,12 @@ marked =
     ∷ _shows_ "(g) 1 old unit gives 0" (isBytes [] (decoded (hex "05")))
     ∷ _shows_ "(h) Array of Int" (holds (inPackage (hex "00001a0c10001a081204120230023001") (ascii "fkotlin/Arraykotlin/Int") (1 ∷ 13 ∷ 23 ∷ [])
     (gives 0 0 2
-    "0102ffffffff060000000000000000000100000003000001000600000000000000ffffffffffffffff00000006010001000c0001000605000d000a0000000717001600090000"
+    "0102ffffffff060000000000000000000100000003000001000600000000000000ffffffffffffffff00000006010001000c000100020605000d000a000000020717001600090000"
     "666b6f746c696e2e41727261796b6f746c696e2e496e7428295b4c6a6176612f6c616e672f496e74656765723b")))
     ∷ _shows_ "(i) Array without argument" (holds (inPackage (hex "00001a0610001a023001") (ascii "fkotlin/Array") (1 ∷ 13 ∷ []) (gives 0 0 1
-    "0102ffffffff060000000000000000000100000003000001000600000000000000ffffffffffffffff00000006010001000c00000007ffffffff090000"
+    "0102ffffffff060000000000000000000100000003000001000600000000000000ffffffffffffffff00000006010001000c0000000207ffffffff090000"
     "666b6f746c696e2e4172726179")))
-    ∷ _shows_ "(j) an entry holding itself: 32 types" (answers 0 32 (20 + 24 + 32 * 9 + 5 + 3)
+    ∷ _shows_ "(j) an entry holding itself: 32 types" (answers 0 32 (20 + 24 + 32 * 10 + 5 + 3)
     (read (area 65536 []) (area 65536 []) (record {
       k = pos 2;
       mv = version 1;
@@ -103,10 +103,10 @@ marked =
       d2 = ascii "fa/B";
       ends = 1 ∷ 4 ∷ [];
     })))
-    ∷ _shows_ "(k) 2,048 types read" (answers 0 2048 (20 + 40 + 2048 * 9 + 3) (read (area 65536 []) (area 65536 []) (typesInput "8140" "fc3f" 2047)))
+    ∷ _shows_ "(k) 2,048 types read" (answers 0 2048 (20 + 40 + 2048 * 10 + 3) (read (area 65536 []) (area 65536 []) (typesInput "8140" "fc3f" 2047)))
     ∷ _shows_ "(k) 2,049 refuse" (answers 10 0 0 (read (area 65536 []) (area 65536 []) (typesInput "8540" "8040" 2048)))
     ∷ _shows_ "(l) major 2 read" (holds (unitFunction 2 (gives 0 0 1
-    "0102ffffffff060000000000000000000100000003000001000600000000000000ffffffffffffffff00000006010001000b000000070c000300090000"
+    "0102ffffffff060000000000000000000100000003000001000600000000000000ffffffffffffffff00000006010001000b00000002070c000300090000"
     "666b6f746c696e2e556e6974282956")))
     ∷ _shows_ "(l) major 3 refused" (holds (unitFunction 3 (gives 4 0 0 "" "")))
     ∷ []

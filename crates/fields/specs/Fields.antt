@@ -36,6 +36,9 @@ Type·nullable = 3
 abbrev pub Type·class-name : ℕ
 Type·class-name = 6
 
+abbrev pub Type·Argument·projection : ℕ
+Type·Argument·projection = 1
+
 abbrev pub Type·Argument·type : ℕ
 Type·Argument·type = 2
 

@@ -26,6 +26,8 @@ pub const TYPE_NULLABLE: u32 = 3;
 pub const TYPE_CLASS_NAME: u32 = 6;
 
 // Type.Argument
+pub const TYPE_ARGUMENT_PROJECTION: u32 = 1;
+
 pub const TYPE_ARGUMENT_TYPE: u32 = 2;
 
 pub const TYPE_ARGUMENT_TYPE_ID: u32 = 3;

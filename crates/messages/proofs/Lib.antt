@@ -1,5 +1,6 @@
 pub mod CheckLaws
 pub mod FindLaws
+pub mod SeenLaws
 pub mod BodyLaws
 pub mod SkippedLaws
 pub mod RepeatedLaws

@@ -7,7 +7,7 @@ ghost use Rattle.foundation.specs.Results.{ok, _from_};
 ghost use Rattle.wire.specs.Wire.{cut, Message};
 ghost use Rattle.wire.specs.Messages.{varintOf, index, messages};
 ghost use Rattle.wire.specs.told.WireTold.{restOf, partBetween};
-ghost use Rattle.messages.specs.told.Asked.{CheckedTold, FoundTold, FoundFrom, FoundAt, numberTold, numberIn, pieceIn, BytesTold, indexTold, indexIn, EmbeddedTold, pieceIf, NextBodyTold};
+ghost use Rattle.messages.specs.told.Asked.{CheckedTold, FoundTold, FoundFrom, FoundAt, foundOr, numberTold, numberIn, pieceIn, BytesTold, indexTold, indexIn, EmbeddedTold, pieceIf, NextBodyTold};
 
 pub mod repeated; // repeated.rt: repeated numbers, single and packed
 pub mod reader; // reader.rt: a reader over a message
@@ -207,6 +207,55 @@ pub fn find_two(s: &[u8], base: u32, first: u32, second: u32) -> TwoFound
     TwoFound {
         first: find_from(&*s, base, first, at),
         second: find_from(&*s, base, second, at),
+    }
+}
+
+pub struct ThreeFound {
+    pub first: Found,
+    pub second: Found,
+    pub third: Found,
+}
+
+// What was found of a field before a place, if it was found, and else its value, if the field at the place is the one that is asked for.
+fn found_or(seen: Found, asked: u32, number: u32, value: WireValue) -> Found
+    ensures { λ r. ⌜ r ≡ foundOr seen asked number value ⌝ }
+{
+    let Found::Nothing = seen else {
+        return seen;
+    };
+    if number != asked {
+        return Found::Nothing;
+    }
+    Found::Value { value }
+}
+
+// The first occurrences of three fields, by one walk.
+pub fn find_three(s: &[u8], base: u32, first: u32, second: u32, third: u32) -> ThreeFound
+    ensures { λ r. ⌜ FoundTold base (now (s .entry)) first (r .first) × FoundTold base (now (s .entry)) second (r .second) × FoundTold base (now (s .entry)) third (r .third) ⌝ }
+{
+    let mut one = Found::Nothing;
+    let mut two = Found::Nothing;
+    let mut three = Found::Nothing;
+    let mut at = 0;
+    while at < s.len() {
+        let step = field_at(&*s, base, at);
+        let FieldStep::Field {
+            number,
+            value,
+            next,
+        } = step
+        else {
+            break;
+        };
+        one = found_or(one, first, number, value);
+        two = found_or(two, second, number, value);
+        three = found_or(three, third, number, value);
+        at = next;
+    }
+    ThreeFound {
+        first: one,
+        second: two,
+        third: three,
     }
 }
 

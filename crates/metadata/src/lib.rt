@@ -180,7 +180,7 @@ fn in_big(
 {
     let mut bytes = [0u8; 8192];
     let mut notes = [0u64; 14368];
-    let mut scratch_sheet = [0u8; 12288];
+    let mut scratch_sheet = [0u8; 14336];
     let mut scratch_text = [0u8; 45056];
     let passed = decode_in(
         asked,

@@ -17,7 +17,7 @@ use Rattle.wire.specs.Messages.{values, index, message, messages}
 use Rattle.names.specs.Names.{Names}
 use Rattle.sheet.specs.Rows.{Row}
 use Rattle.sheet.proofs.RowLaws.{bodyLength, rowsLength, rows-length-append}
-use Rattle.declaration_rows.specs.Declarations.{Types, noTypes, andType, Ty, Parameter, Constructor, Function, Property, Alias, Declarations}
+use Rattle.declaration_rows.specs.Declarations.{Types, noTypes, andType, Ty, single, Parameter, Constructor, Function, Property, Alias, Declarations}
 use Rattle.declaration_rows.specs.Rows.{argumentRole, typesRows, typeRows, parameterRows, parametersRows, constructorRows, functionRows, propertyRows, aliasRows, aliasesRows}
 use Rattle.schema.specs.Reading.{Read, lift, keep, kept, Scope, scope, nameIn}
 use Rattle.schema.specs.Types.{declaredType, typeTableIn}
@@ -57,17 +57,17 @@ membersCost d =
     sizeOfAll constructorCost (d .constructors) + sizeOfAll functionCost (d .functions) + sizeOfAll propertyCost (d .properties)
     + sizeOfAll aliasCost (d .aliases)
 
--- The rows are as long as that, nine bytes a type, twenty for the head, and three for kind 9.
-module _ {A : Type 0} (rows : A → List Row) (cost size : A → ℕ) (one : (a : A) → rowsLength (rows a) ≡ cost a + 9 * size a) where
-  all-length : (xs : List A) → rowsLength (concat (map rows xs)) ≡ sizeOfAll cost xs + 9 * sizeOfAll size xs
+-- The rows are as long as that, ten bytes a type, twenty for the head, and three for kind 9.
+module _ {A : Type 0} (rows : A → List Row) (cost size : A → ℕ) (one : (a : A) → rowsLength (rows a) ≡ cost a + 10 * size a) where
+  all-length : (xs : List A) → rowsLength (concat (map rows xs)) ≡ sizeOfAll cost xs + 10 * sizeOfAll size xs
   unfolding rowsLength
   all-length [] = refl
   all-length (x ∷ xs) = omega (arith, rows-length-append (rows x) (concat (map rows xs)), one x, all-length xs)
 
-types-length : (role : ℕ) (ts : Types) → rowsLength (typesRows role ts) ≡ 9 * sizeOf ts
+types-length : (role : ℕ) (ts : Types) → rowsLength (typesRows role ts) ≡ 10 * sizeOf ts
 unfolding typesRows rowsLength bodyLength
 types-length role noTypes = refl
-types-length role (andType nullable name arguments after) =
+types-length role (andType projection nullable name arguments after) =
     omega (
       arith,
       rows-length-append (typesRows argumentRole arguments) (typesRows role after),
@@ -75,12 +75,12 @@ types-length role (andType nullable name arguments after) =
       types-length role after,
     )
 
-type-length : (role : ℕ) (t : Option Ty) → rowsLength (typeRows role t) ≡ 9 * sizeIfSome typeSize t
+type-length : (role : ℕ) (t : Option Ty) → rowsLength (typeRows role t) ≡ 10 * sizeIfSome typeSize t
 unfolding rowsLength
 type-length role none = refl
-type-length role (some t) = omega (arith, types-length role (andType (t .nullable) (t .name) (t .arguments) noTypes))
+type-length role (some t) = omega (arith, types-length role (single t))
 
-parameter-length : (p : Parameter) → rowsLength (parameterRows p) ≡ 6 + 9 * parameterSize p
+parameter-length : (p : Parameter) → rowsLength (parameterRows p) ≡ 6 + 10 * parameterSize p
 unfolding parameterRows rowsLength bodyLength
 parameter-length p = simp (rows-length-append, type-length) (omega arith)
 
@@ -88,27 +88,27 @@ six-each : (ps : List Parameter) → sizeOfAll (λ p. 6) ps ≡ 6 * length ps
 six-each [] = refl
 six-each (p ∷ ps) = omega (arith, six-each ps)
 
-parameters-length : (ps : List Parameter) → rowsLength (parametersRows ps) ≡ 6 * length ps + 9 * sizeOfAll parameterSize ps
+parameters-length : (ps : List Parameter) → rowsLength (parametersRows ps) ≡ 6 * length ps + 10 * sizeOfAll parameterSize ps
 parameters-length ps = omega (arith, all-length parameterRows (λ p. 6) parameterSize parameter-length ps, six-each ps)
 
-constructor-length : (c : Constructor) → rowsLength (closedConstructor c) ≡ constructorCost c + 9 * constructorSize c
+constructor-length : (c : Constructor) → rowsLength (closedConstructor c) ≡ constructorCost c + 10 * constructorSize c
 unfolding closedConstructor constructorRows rowsLength bodyLength
 constructor-length c =
     omega (arith, rows-length-append (parametersRows (c .parameters)) (defaultRow (constructorParts c) ∷ []), parameters-length (c .parameters))
 
-function-length : (f : Function) → rowsLength (closedFunction f) ≡ functionCost f + 9 * functionSize f
+function-length : (f : Function) → rowsLength (closedFunction f) ≡ functionCost f + 10 * functionSize f
 unfolding closedFunction functionRows rowsLength bodyLength
 function-length f = simp (rows-length-append, type-length, parameters-length) (omega arith)
 
-property-length : (p : Property) → rowsLength (propertyRows p) ≡ propertyCost p + 9 * propertySize p
+property-length : (p : Property) → rowsLength (propertyRows p) ≡ propertyCost p + 10 * propertySize p
 unfolding propertyRows rowsLength bodyLength
 property-length p = simp (rows-length-append, type-length) (omega arith)
 
-alias-length : (a : Alias) → rowsLength (aliasRows a) ≡ aliasCost a + 9 * aliasSize a
+alias-length : (a : Alias) → rowsLength (aliasRows a) ≡ aliasCost a + 10 * aliasSize a
 unfolding aliasRows rowsLength bodyLength
 alias-length a = simp (rows-length-append, type-length) (omega arith)
 
-pub declarations-length : (kind : ℕ) (d : Declarations) → rowsLength (declarationRows kind d) ≡ 23 + membersCost d + 9 * declarationsSize d
+pub declarations-length : (kind : ℕ) (d : Declarations) → rowsLength (declarationRows kind d) ≡ 23 + membersCost d + 10 * declarationsSize d
 unfolding declarationRows rowsLength bodyLength
 declarations-length kind d =
     let cs = concat (map closedConstructor (d .constructors)) in

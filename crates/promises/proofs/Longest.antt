@@ -27,7 +27,7 @@ use Rattle.promises.proofs.Costs.{membersCost, declarations-length}
 use Rattle.promises.proofs.Places.{Breaks, breaks-early, reading-breaks}
 use Rattle.promises.proofs.Sound.{bodyLimit, reading-costs, reading-enters}
 
--- What is read of any input makes a sheet of 411,647 bytes at most.
+-- What is read of any input makes a sheet of 413,695 bytes at most.
 pub sheet-short : (i : Input) (d : Declarations) (left : ℕ) → reading i ≡ ok (d, left)
     → length (sheetFrom 0 (declarationRows (kindOf (i .k)) d)) ≤ longestSheet
 sheet-short i d left e =

@@ -49,9 +49,9 @@ use Rattle.wire.proofs.MessageLaws.{Values, values-weaken, values-all, bytesOf-
 use Rattle.wire.proofs.Places.{cut-in}
 use Rattle.names.specs.Names.{Names, recordsOf, recordAt, string, qualifiedName, endsFit, stringsFrom, d2String}
 use Rattle.names.specs.Records.{decides}
-use Rattle.declaration_rows.specs.Declarations.{Signature}
+use Rattle.declaration_rows.specs.Declarations.{star, Signature}
 use Rattle.schema.specs.Reading.{Read, pure, _>>=_, lift, enter, kept, TypeTable, Scope, scope, nameIn, classNameIn, allowance}
-use Rattle.schema.specs.Types.{Walk, maxDepth, resolveAt, typeIn, argumentIn, parseAt, typeAt, declaredType, typeTableIn}
+use Rattle.schema.specs.Types.{Walk, maxDepth, resolveAt, typeIn, projectionIn, argumentIn, parseAt, typeAt, declaredType, typeTableIn}
 use Rattle.schema.specs.Members.{named, signatureOf, signatureIn, fieldOf, forgiven, fieldIn, ofSignature, parameterIn, listIn, constructorIn, functionIn, propertyIn, aliasIn, Head, headIn, constructorsIn, functionField, propertyField, aliasField, listsIn, afterTable, bodyIn}
 use Rattle.inputs.specs.Refusals.{numberOf}
 use Rattle.inputs.specs.Inputs.{Input, kindOf, carriesDeclarations, stringLimit, supportedMajor, major, laterFault, faultOf}
@@ -309,7 +309,9 @@ module _ (n : ℕ) where
 
       places-argumentIn : (d : ℕ) (m : Message) → Inside m → Places Any (argumentIn walk s d m)
       unfolding argumentIn
-      places-argumentIn d = places-typeIn d _ _
+      places-argumentIn d m b =
+          if-ind (Places Any) (eqb (projectionIn m) star) (λ t. places-enter (places-pure tt)) λ t.
+          places-then (places-typeIn d _ _ m b) λ o u. places-pure tt
 
       places-parseAt : (d : ℕ) (m : Message) → Inside m → Places Any (parseAt walk s d m)
       unfolding parseAt

@@ -17,7 +17,7 @@ use Rattle.characters.proofs.Utf8Laws.{utf8-well-formed}
 use Rattle.sheet.specs.Rows.{bit, Row}
 use Rattle.sheet.proofs.ReadBack.{InTable, bit-fits}
 use Rattle.sheet.proofs.RefsInOrder.{CellHas, RowHas}
-use Rattle.declaration_rows.specs.Declarations.{Types, noTypes, andType, Ty, Signature, Parameter, Constructor, Function, Property, Alias, Declarations}
+use Rattle.declaration_rows.specs.Declarations.{Types, noTypes, andType, Ty, single, Signature, Parameter, Constructor, Function, Property, Alias, Declarations}
 use Rattle.declaration_rows.specs.Rows.{
   returnRole,
   receiverRole,
@@ -36,7 +36,7 @@ use Rattle.declaration_rows.specs.Rows.{
   aliasRows,
   aliasesRows,
 }
-use Rattle.schema.proofs.Fine.{FineTypes, FineTy, FineParameter, FineSignature, FineConstructor, FineFunction, FineProperty, FineAlias, FineDeclarations}
+use Rattle.schema.proofs.Fine.{FineTypes, FineTy, single-fine, FineParameter, FineSignature, FineConstructor, FineFunction, FineProperty, FineAlias, FineDeclarations}
 use Rattle.descriptors.specs.Defaults.{Parts, functionParts, constructorParts, descriptor, defaultRow, closedConstructor, closedFunction}
 use Rattle.descriptors.proofs.WellFormedLaws.{function-well-formed, constructor-well-formed}
 use Rattle.declarations.specs.Payload.{declarationRows}
@@ -57,15 +57,15 @@ bit-has Bool.false = tt
 types-good : (role : ℕ) (ts : Types) → role < 256 → FineTypes ts → All Good (typesRows role ts)
 unfolding typesRows
 types-good role noTypes r f = tt
-types-good role (andType nullable name arguments after) r f = (
-  (((refl, omega arith), (bit-fits nullable, (tt, ((refl, omega arith), tt)))), (tt, (bit-has nullable, (text-well-formed name (f .0), (tt, tt))))),
-  all-append Good (typesRows argumentRole arguments) (typesRows role after) (types-good argumentRole arguments (omega arith) (f .2))
-      (types-good role after r (f .3)),
+types-good role (andType projection nullable name arguments after) r f = (
+  (((refl, omega arith), (bit-fits nullable, (tt, ((refl, omega arith), ((refl, omega arith), tt))))), (tt, (bit-has nullable, (text-well-formed name (f .2), (tt, (tt, tt)))))),
+  all-append Good (typesRows argumentRole arguments) (typesRows role after) (types-good argumentRole arguments (omega arith) (f .4))
+      (types-good role after r (f .5)),
 )
 
 type-good : (role : ℕ) (t : Option Ty) → role < 256 → IfSome FineTy t → All Good (typeRows role t)
 type-good role none r f = tt
-type-good role (some t) r f = types-good role (andType (t .nullable) (t .name) (t .arguments) noTypes) r (f .name, f .count, f .arguments, tt)
+type-good role (some t) r f = types-good role (single t) r (single-fine f)
 
 parameter-good : (p : Parameter) → FineParameter p → All Good (parameterRows p)
 unfolding parameterRows

@@ -13,11 +13,11 @@ use Rattle.foundation.specs.Choices.{mapOption, bothOf, concat, All, IfSome}
 use Rattle.foundation.specs.Texts.{Text}
 use Rattle.characters.specs.Characters.{utf8, fromUtf8}
 use Rattle.sheet.specs.Rows.{num, bit, Row, row}
-use Rattle.declaration_rows.specs.Declarations.{Types, noTypes, andType, Ty, countOf, Signature, Parameter, Constructor, Function, Property, Alias, Declarations, signed}
+use Rattle.declaration_rows.specs.Declarations.{Types, noTypes, andType, Ty, single, countOf, Signature, Parameter, Constructor, Function, Property, Alias, Declarations, signed}
 use Rattle.declaration_rows.specs.Rows.{returnRole, receiverRole, parameterRole, varargRole, argumentRole, underlyingRole, expandedRole, typesRows, typeRows, parameterRows, parametersRows, constructorRows, functionRows, propertyRows, aliasRows}
 use Rattle.characters.specs.told.CharactersTold.{Characters}
 use Rattle.characters.proofs.Utf8Laws.{utf8-back}
-use Rattle.schema.proofs.Fine.{Named, FineTypes, FineTy, FineParameter, FineSignature, FineConstructor, FineFunction, FineProperty, FineAlias, FineDeclarations}
+use Rattle.schema.proofs.Fine.{Named, FineTypes, FineTy, single-fine, FineParameter, FineSignature, FineConstructor, FineFunction, FineProperty, FineAlias, FineDeclarations}
 use Rattle.descriptors.specs.Defaults.{functionParts, constructorParts, descriptor, defaultRow, closedConstructor, closedFunction}
 use Rattle.declarations.specs.Payload.{declarationRows}
 use Rattle.promises.specs.Walk.{
@@ -53,12 +53,12 @@ types-walked : (k role : ℕ) (ts : Types) (rest : List Row) → FineTypes ts �
 unfolding typesRows walkTypes
 types-walked zero role noTypes rest f h = refl
 types-walked (suc k) role noTypes rest f h = refl
-types-walked zero role (andType nullable name arguments after) rest f h = absurd (omega arith)
-types-walked (suc k) role (andType nullable name arguments after) rest f h =
+types-walked zero role (andType projection nullable name arguments after) rest f h = absurd (omega arith)
+types-walked (suc k) role (andType projection nullable name arguments after) rest f h =
     let lengths = length-append (typesRows argumentRole arguments) (typesRows role after) in
-    let inside = types-walked k argumentRole arguments (typesRows role after ++ rest) (f .2) (omega arith) in
-    let behind = types-walked k role after rest (f .3) (omega arith) in
-    rw (eq-eqb role role refl, append-assoc, inside, behind, one-bit nullable, text-back name (f .0))
+    let inside = types-walked k argumentRole arguments (typesRows role after ++ rest) (f .4) (omega arith) in
+    let behind = types-walked k role after rest (f .5) (omega arith) in
+    rw (eq-eqb role role refl, append-assoc, inside, behind, one-bit nullable, text-back name (f .2))
 
 pub if-named : (name : Option Text) → Named name → IfSome Characters name
 if-named none n = tt
@@ -74,9 +74,9 @@ unfolding walkType typesRows
 type-walked role none [] f h = refl
 type-walked role none (r ∷ rest) f h = rw h
 type-walked role (some t) rest f h =
-    let ts = andType (t .nullable) (t .name) (t .arguments) noTypes in
+    let ts = single t in
     let lengths = length-append (typesRows role ts) rest in
-    rw (eq-eqb role role refl, types-walked (length (typesRows role ts ++ rest)) role ts rest (f .name, f .count, f .arguments, tt) (omega arith))
+    rw (eq-eqb role role refl, types-walked (length (typesRows role ts ++ rest)) role ts rest (single-fine f) (omega arith))
 
 apart-from : (role other : ℕ) (t : Option Ty) (rest : List Row) → eqb other role ≡ false → Apart role rest → Apart role (typeRows other t ++ rest)
 unfolding typesRows

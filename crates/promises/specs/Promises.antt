@@ -29,10 +29,10 @@ sheetBytes a = take (a .sheetLength) (a .sheet)
 abbrev pub textBytes : Answer → List ℕ
 textBytes a = take (a .textLength) (a .text)
 
--- The longest sheet: 20 bytes for the head and 3 for the count of type aliases, 12 for each of at most 32,766 bytes of a body, 9 for each of at most 2,048 types. It is SHEET_LONGEST of
+-- The longest sheet: 20 bytes for the head and 3 for the count of type aliases, 12 for each of at most 32,766 bytes of a body, 10 for each of at most 2,048 types. It is SHEET_LONGEST of
 -- include/sheet_reader.h.
 abbrev pub longestSheet : ℕ
-longestSheet = 411647
+longestSheet = 413695
 
 pub record Promised (i : Input) (a : Answer) : Type 0 where
   -- The input was read as these declarations,
@@ -49,13 +49,13 @@ pub record Promised (i : Input) (a : Answer) : Type 0 where
   pub typesEntered : a .types + left ≡ allowance
   -- The refs on the sheet cut the whole text in order, each into well-formed UTF-8.
   pub textCut : CutInOrder WellFormed (textBytes a) 0 (a .textLength) (refsOf (sheetBytes a))
-  -- Sheet and text are no longer than areas that are always enough: 411,647 bytes and 65,534.
+  -- Sheet and text are no longer than areas that are always enough: 413,695 bytes and 65,534.
   pub sheetShort : a .sheetLength ≤ longestSheet
   pub textShort : a .textLength ≤ textLimit
 
 -- Areas of these sizes are always enough, whatever is handed in: of the answer a of `read` to an input i and two areas,
 pub record Enough (sheet text : List ℕ) (i : Input) (a : Answer) : Type 0 where
-  -- a sheet area of 411,647 bytes is never too short (refusal 12),
+  -- a sheet area of 413,695 bytes is never too short (refusal 12),
   pub sheetEnough : longestSheet ≤ length sheet → a .number ≡ 12 → ⊥
   -- a text that is too long (refusal 11) for a text area of 65,534 bytes is too long for every area,
   pub textEnough : textLimit ≤ length text → a .number ≡ 11 → (sheet′ text′ : List ℕ) → read sheet′ text′ i .number ≡ 11

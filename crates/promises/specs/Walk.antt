@@ -79,7 +79,7 @@ walkStep inner role zero rows = some (takenRows noTypes rows)
 walkStep inner role (suc n) [] = none
 walkStep inner role (suc n) (r ∷ rows) =
     let inside = inner argumentRole (numAt 3 r) >>= λ arguments.
-    inner role n >>= λ after. give (andType (oneAt 1 r) (textAt 2 r) arguments after) in
+    inner role n >>= λ after. give (andType (numAt 4 r) (oneAt 1 r) (textAt 2 r) arguments after) in
     if isType role r then inside rows else none
 
 -- at most k of them nested or side by side
@@ -89,7 +89,7 @@ walkTypes (suc k) role n = walkStep (walkTypes k) role n
 
 abbrev pub firstType : Types → Option Ty
 firstType noTypes = none
-firstType (andType nullable name arguments after) = some (record { nullable = nullable; name = name; arguments = arguments })
+firstType (andType projection nullable name arguments after) = some (record { nullable = nullable; name = name; arguments = arguments })
 
 -- the type of that role, if one stands next; each type takes a row
 unfoldable pub walkType : ℕ → Walker (Option Ty)

@@ -11,7 +11,7 @@ use lib.ListN.{length}
 use Rattle.foundation.specs.Choices.{if_then_else_, concat}
 use Rattle.sheet.specs.Rows.{Row, sheetFrom}
 use Rattle.sheet.proofs.RowLaws.{sheet-length}
-use Rattle.declaration_rows.specs.Declarations.{Types, noTypes, andType, Ty, Parameter, Constructor, Function, Property, Alias, Declarations}
+use Rattle.declaration_rows.specs.Declarations.{Types, noTypes, andType, Ty, single, Parameter, Constructor, Function, Property, Alias, Declarations}
 use Rattle.declaration_rows.specs.Rows.{argumentRole, typesRows, typeRows, parameterRows, parametersRows, constructorRows, functionRows, propertyRows, aliasRows, aliasesRows}
 use Rattle.schema.specs.Counting.{countKind}
 use Rattle.schema.specs.told.TypeSizes.{sizeOfAll, declarationsSize}
@@ -29,7 +29,7 @@ module _ (k : ℕ) (no-type : one 6 k ≡ 0) where
   types-none : (role : ℕ) (ts : Types) → countKind k (typesRows role ts) ≡ 0
   unfolding typesRows
   types-none role noTypes = refl
-  types-none role (andType nullable name arguments after) =
+  types-none role (andType projection nullable name arguments after) =
       omega (
         arith,
         no-type,
@@ -40,7 +40,7 @@ module _ (k : ℕ) (no-type : one 6 k ≡ 0) where
 
   type-none : (role : ℕ) (t : Option Ty) → countKind k (typeRows role t) ≡ 0
   type-none role none = refl
-  type-none role (some t) = types-none role (andType (t .nullable) (t .name) (t .arguments) noTypes)
+  type-none role (some t) = types-none role (single t)
 
   parameter-of : (p : Parameter) → countKind k (parameterRows p) ≡ one 5 k
   unfolding parameterRows
@@ -209,7 +209,7 @@ module _ (kind : ℕ) (d : Declarations) where
 
   -- Every kind has its width, so that the others and six bytes a parameter are the whole sheet.
   pub sheet-by-kinds : length (sheetFrom 0 rows′)
-      ≡ 23 + (24 * length (d .constructors) + 29 * length (d .functions)) + 40 * length (d .properties) + 13 * length (d .aliases) + 9 * declarationsSize d
+      ≡ 23 + (24 * length (d .constructors) + 29 * length (d .functions)) + 40 * length (d .properties) + 13 * length (d .aliases) + 10 * declarationsSize d
       + 6 * countKind 5 rows′
   sheet-by-kinds = omega (arith, sheet-length 0 rows′, declarations-length kind d, members-cost)
 

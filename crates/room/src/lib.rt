@@ -33,7 +33,7 @@ pub struct RoomAnswer {
 }
 
 // The parameters' records. Every kind has a width of its own, so that they take what all the others leave of the sheet: 23 bytes are the head's and
-// kind 9's, 24 a constructor's with its kind 7, 29 a function's with its, 40 a property's, 13 an alias's, 9 a type's, 6 a parameter's.
+// kind 9's, 24 a constructor's with its kind 7, 29 a function's with its, 40 a property's, 13 an alias's, 10 a type's, 6 a parameter's.
 fn parameters_in(outcome: Outcome, sections: Sections) -> usize
     requires { ⌜ (othersBytes outcome sections ≤ outcome .sheet) × (outcome .sheet ≤ longestSheet) ⌝ }
     ensures { λ r. ⌜ r ≡ parametersLeft outcome sections ⌝ }
@@ -43,7 +43,7 @@ fn parameters_in(outcome: Outcome, sections: Sections) -> usize
     let properties = sections.properties;
     let aliases = sections.aliases;
     let closed = 24 * constructors.count + 29 * functions.count;
-    let others = 23 + closed + 40 * properties.count + 13 * aliases.count + 9 * outcome.types;
+    let others = 23 + closed + 40 * properties.count + 13 * aliases.count + 10 * outcome.types;
     let parameters = outcome.sheet - others;
     parameters / 6
 }

@@ -5,7 +5,7 @@ use mathlib.Core.Option.{Option, none, some}
 use Prim.Native.Nat.{ℕ, zero, suc, _+_, _≤_}
 use native.Mathlib.Nat.{le-refl, le-trans}
 use native.Mathlib.Omega.{arith}
-use lib.Dec.{ltb}
+use lib.Dec.{eqb, ltb}
 use lib.ListN.{getElem?}
 use Rattle.foundation.specs.Choices.{ifSome}
 use Rattle.foundation.specs.Results.{Res, ok, refused, tooManyTypes}
@@ -14,8 +14,9 @@ use Rattle.foundation.proofs.ResultLaws.{Gives, gives-bind, gives-weaken}
 use Rattle.wire.specs.Wire.{Message}
 use Rattle.wire.specs.Messages.{index, message, messages}
 use Rattle.names.specs.Names.{string, qualifiedName}
+use Rattle.declaration_rows.specs.Declarations.{star}
 use Rattle.schema.specs.Reading.{Read, pure, _>>=_, lift, enter, kept, Scope, nameIn, classNameIn, allowance}
-use Rattle.schema.specs.Types.{Walk, maxDepth, resolveAt, typeIn, argumentIn, parseAt, typeAt, declaredType, noTable, typeTableIn}
+use Rattle.schema.specs.Types.{Walk, maxDepth, resolveAt, typeIn, projectionIn, argumentIn, parseAt, typeAt, declaredType, noTable, typeTableIn}
 
 pub record Falls {A : Type 0} (m : Read A) : Type 0 where
   pub at : (n : ℕ) → Gives (λ r. r .1 ≤ n) (m n)
@@ -78,7 +79,8 @@ module _ (walk : Walk) (h : (d : ℕ) (m : Message) → Falls (walk d m)) (s : S
 
   pub falls-argumentIn : (d : ℕ) (m : Message) → Falls (argumentIn walk s d m)
   unfolding argumentIn
-  falls-argumentIn d m = falls-typeIn d _ _ m
+  falls-argumentIn d m =
+      if-ind Falls (eqb (projectionIn m) star) (λ t. falls-enter (falls-pure _)) λ t. falls-bind (falls-typeIn d _ _ m) λ t. falls-pure _
 
   pub falls-parseAt : (d : ℕ) (m : Message) → Falls (parseAt walk s d m)
   unfolding parseAt

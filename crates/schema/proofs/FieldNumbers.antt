@@ -12,9 +12,9 @@ use Rattle.foundation.specs.Texts.{Text, ascii}
 use Rattle.wire.specs.Wire.{groupsFrom, readVarint, readBytes, readDelimited, readFixed, readValue, readField, repeated, cut}
 use Rattle.wire.specs.Messages.{values, varintOf, index, flag, bytesOf, message, bodiesOf, cutAll, messages}
 use Rattle.names.specs.Names.{Names, recordAt, string, withoutLast, qualifiedName}
-use Rattle.declaration_rows.specs.Declarations.{noTypes, andType, Ty, Signature, Parameter, Declarations}
+use Rattle.declaration_rows.specs.Declarations.{invariant, noTypes, andType, Ty, Signature, Parameter, Declarations}
 use Rattle.schema.specs.Reading.{kept, nameIn, classNameIn, allowance}
-use Rattle.schema.specs.Types.{resolveAt, typeIn, argumentIn, parseAt, typeAt, declaredType, typeTableIn}
+use Rattle.schema.specs.Types.{resolveAt, typeIn, projectionIn, argumentIn, parseAt, typeAt, declaredType, typeTableIn}
 use Rattle.schema.specs.Members.{
   signatureOf,
   signatureIn,
@@ -50,7 +50,7 @@ plain n = record { nullable = false; name = some n; arguments = noTypes }
 
 -- entry 0 of the table, which holds entry 1, nullable from 1 on
 abbrev entry : Ty
-entry = record { nullable = false; name = some (ascii "T"); arguments = andType true (some (ascii "U")) noTypes noTypes }
+entry = record { nullable = false; name = some (ascii "T"); arguments = andType invariant true (some (ascii "U")) noTypes noTypes }
 
 abbrev signature : Option Signature
 signature = some (record { name = ascii "n"; descriptor = ascii "d" })
@@ -97,7 +97,7 @@ expected = record {
         receiver = some (record {
           nullable = false;
           name = some (ascii "T");
-          arguments = andType false (some (ascii "U")) noTypes noTypes;
+          arguments = andType invariant false (some (ascii "U")) noTypes noTypes;
         });
         type = some (plain (ascii "T"));
       }
@@ -128,8 +128,8 @@ expected = record {
 pub field-numbers : Results._>>=_ (cut (_from_ 0 class)) (λ m. bodyIn true names m allowance) ≡ ok (expected, 2024)
 unfolding
     names class expected groupsFrom readVarint readBytes readDelimited readFixed readValue readField repeated cut values varintOf index flag
-    bytesOf message bodiesOf cutAll messages recordAt string withoutLast qualifiedName kept nameIn classNameIn resolveAt typeIn argumentIn
-    parseAt typeAt declaredType typeTableIn signatureOf signatureIn fieldOf fieldIn parameterIn listIn constructorIn functionIn propertyIn
+    bytesOf message bodiesOf cutAll messages recordAt string withoutLast qualifiedName kept nameIn classNameIn resolveAt typeIn projectionIn
+    argumentIn parseAt typeAt declaredType typeTableIn signatureOf signatureIn fieldOf fieldIn parameterIn listIn constructorIn functionIn propertyIn
     aliasIn listsIn afterTable bodyIn
 field-numbers = refl
 
@@ -174,6 +174,6 @@ pub package-field-numbers : Results._>>=_ (cut (_from_ 0 file)) (λ m. bodyIn fa
 unfolding
     names file expectedOfPackage groupsFrom readVarint readBytes readDelimited readFixed readValue readField repeated cut values varintOf
     index flag bytesOf message bodiesOf cutAll messages recordAt string withoutLast qualifiedName kept nameIn classNameIn resolveAt typeIn
-    argumentIn parseAt typeAt declaredType typeTableIn signatureOf signatureIn fieldOf fieldIn parameterIn listIn constructorIn functionIn
+    projectionIn argumentIn parseAt typeAt declaredType typeTableIn signatureOf signatureIn fieldOf fieldIn parameterIn listIn constructorIn functionIn
     propertyIn aliasIn listsIn afterTable bodyIn
 package-field-numbers = refl

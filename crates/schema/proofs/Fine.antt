@@ -7,7 +7,8 @@ use mathlib.Core.Option.{Option, none, some}
 use Prim.Native.Nat.{ℕ, zero, suc, _+_, _^_, _≤_, _<_}
 use native.Mathlib.Nat.{lt-of-le-of-lt}
 use native.Mathlib.Omega.{arith}
-use lib.Dec.{ltb}
+use borrow.Author.Tests.{leb-true, eqb-false}
+use lib.Dec.{eqb, ltb, leb}
 use lib.ListN.{length, getElem?}
 use Rattle.foundation.specs.Choices.{ifSome, mapOption, orElse, bothOf, All, IfSome}
 use Rattle.foundation.specs.Results.{Res, ok, refused}
@@ -15,28 +16,43 @@ use Rattle.foundation.specs.Texts.{Text, ascii}
 use Rattle.foundation.proofs.EveryLaws.{all-at}
 use Rattle.foundation.proofs.ChoiceLaws.{if-ind}
 use Rattle.foundation.proofs.ResultLaws.{Gives, gives-bind, gives-weaken}
+use Rattle.fields.specs.Fields.{Type·Argument·projection}
 use Rattle.wire.specs.Wire.{Message}
 use Rattle.wire.specs.Messages.{varintOf, index, message, messages}
 use Rattle.wire.proofs.Bounds.{Bounded, varintOf-below, message-bounded, messages-bounded}
 use Rattle.characters.specs.Characters.{isScalar}
 use Rattle.characters.specs.told.CharactersTold.{Characters}
 use Rattle.names.specs.Names.{Names, string, qualifiedName}
-use Rattle.declaration_rows.specs.Declarations.{Types, noTypes, andType, Ty, typesOf, countOf, Signature, Parameter, Constructor, Function, Property, Alias, Declarations, signed}
+use Rattle.declaration_rows.specs.Declarations.{star, Types, noTypes, andType, Ty, Argument, projected, blank, typesOf, single, countOf, Signature, Parameter, Constructor, Function, Property, Alias, Declarations, signed}
 use Rattle.schema.specs.Reading.{Read, pure, _>>=_, lift, enter, keep, kept, Scope, scope, nameIn, classNameIn, allowance}
-use Rattle.schema.specs.Types.{Walk, maxDepth, resolveAt, typeIn, argumentIn, parseAt, typeAt, declaredType, typeTableIn}
+use Rattle.schema.specs.Types.{Walk, maxDepth, resolveAt, typeIn, projectionOf, projectionIn, argumentIn, parseAt, typeAt, declaredType, typeTableIn}
+use Rattle.schema.proofs.ArgumentLaws.{types-many}
 use Rattle.schema.specs.Members.{flagsIn, named, signatureOf, signatureIn, fieldOf, forgiven, fieldIn, ofSignature, parameterIn, listIn, constructorIn, functionIn, propertyIn, aliasIn, Head, headIn, constructorsIn, functionField, propertyField, aliasField, listsIn, afterTable, bodyIn}
 
 -- each of them a Unicode scalar value
--- Fine is what its row can say: names of characters, flags of 64 bits, counts of 16.
+-- A star is blank.
+abbrev pub BlankStar : ℕ → Bool → Option Text → Types → Type 0
+BlankStar projection nullable name arguments = projection ≡ star → (nullable ≡ false) × (name ≡ none) × (arguments ≡ noTypes)
+
+-- Fine is what its row can say: names of characters, flags of 64 bits, counts of 16, one of the four projections.
 abbrev pub FineTypes : Types → Type 0
 FineTypes noTypes = Unit {0}
-FineTypes (andType nullable name arguments after) =
-    IfSome Characters name × (countOf arguments < 2 ^ 16) × FineTypes arguments × FineTypes after
+FineTypes (andType projection nullable name arguments after) =
+    (projection ≤ star) × BlankStar projection nullable name arguments × IfSome Characters name × (countOf arguments < 2 ^ 16) × FineTypes arguments × FineTypes after
 
 pub record FineTy (t : Ty) : Type 0 where
   pub name : IfSome Characters (t .name)
   pub count : countOf (t .arguments) < 2 ^ 16
   pub arguments : FineTypes (t .arguments)
+
+-- by itself
+pub single-fine : {t : Ty} → FineTy t → FineTypes (single t)
+single-fine f = (omega arith, (λ e. absurd (omega arith)), f .name, f .count, f .arguments, tt)
+
+pub record FineArgument (a : Argument) : Type 0 where
+  pub projection : a .projection ≤ star
+  pub blank : BlankStar (a .projection) (a .type .nullable) (a .type .name) (a .type .arguments)
+  pub type : FineTy (a .type)
 
 pub record FineSignature (s : Signature) : Type 0 where
   pub name : Characters (s .name)
@@ -170,13 +186,23 @@ module _ {n : ℕ} {s : Scope} (f : ScopeFine n s) (k : ℕ) (m : Message) where
   reads-classNameIn = reads-any (index k m) (reads-pure tt) λ i. reads-lift (qualifiedName (s .names) i) (f .names .qualifiedNames i)
 
 -- types, for a walk that gives fine ones
-countOf-typesOf : (ts : List Ty) → countOf (typesOf ts) ≡ length ts
-countOf-typesOf [] = refl
-countOf-typesOf (t ∷ ts) = ap suc (countOf-typesOf ts)
-
-typesOf-fine : (ts : List Ty) → All FineTy ts → FineTypes (typesOf ts)
+typesOf-fine : (ts : List Argument) → All FineArgument ts → FineTypes (typesOf ts)
 typesOf-fine [] p = tt
-typesOf-fine (t ∷ ts) p = (p .0 .name, p .0 .count, p .0 .arguments, typesOf-fine ts (p .1))
+typesOf-fine (a ∷ ts) p =
+    (p .0 .projection, p .0 .blank, p .0 .type .name, p .0 .type .count, p .0 .type .arguments, typesOf-fine ts (p .1))
+
+-- a projection is one of the four
+projection-few : (o : Option ℕ) → projectionOf o ≤ star
+projection-few none = omega arith
+projection-few (some p) = if-ind (λ (n : ℕ). n ≤ star) (leb p star) (λ t. leb-true p star t) λ t. omega arith
+
+star-fine : FineArgument (projected star blank)
+star-fine = record { projection = omega arith; blank = λ e. (refl, refl, refl); type = record { name = tt; count = omega arith; arguments = tt } }
+
+-- one that is no star, of a type that may not be there
+some-fine : {p : ℕ} → p ≤ star → (p ≡ star → ⊥) → (o : Option Ty) → IfSome FineTy o → IfSome FineArgument (mapOption (projected p) o)
+some-fine few other none q = tt
+some-fine few other (some t) q = record { projection = few; blank = λ e. absurd (other e); type = q }
 
 module _ {n : ℕ} (few : n < 2 ^ 16) {s : Scope} (f : ScopeFine n s) where
   module _ (walk : Walk) (h : (d : ℕ) (m : Message) → Bounded n m → Reads FineTy (walk d m)) where
@@ -195,9 +221,11 @@ module _ {n : ℕ} (few : n < 2 ^ 16) {s : Scope} (f : ScopeFine n s) where
         reads-ifSome t p (reads-any (index indexed m) (reads-pure tt) (reads-resolveAt d)) λ inner b.
         reads-bind (h d inner b) λ it p. reads-pure p
 
-    pub reads-argumentIn : (d : ℕ) (m : Message) → Bounded n m → Reads (IfSome FineTy) (argumentIn walk s d m)
-    unfolding argumentIn
-    reads-argumentIn d = reads-typeIn d _ _
+    pub reads-argumentIn : (d : ℕ) (m : Message) → Bounded n m → Reads (IfSome FineArgument) (argumentIn walk s d m)
+    unfolding argumentIn projectionIn
+    reads-argumentIn d m b =
+        if-ind (Reads (IfSome FineArgument)) (eqb (projectionIn m) star) (λ t. reads-enter (reads-pure star-fine)) λ t.
+        reads-bind (reads-typeIn d _ _ m b) λ o p. reads-pure (some-fine (projection-few (varintOf Type·Argument·projection m)) (eqb-false (projectionIn m) star t) o p)
 
     pub reads-parseAt : (d : ℕ) (m : Message) → Bounded n m → Reads FineTy (parseAt walk s d m)
     unfolding parseAt
@@ -206,7 +234,7 @@ module _ {n : ℕ} (few : n < 2 ^ 16) {s : Scope} (f : ScopeFine n s) where
         reads-bind (reads-lift (messages _ m) (messages-bounded _ m b)) λ arguments p.
         reads-bind (reads-kept (reads-argumentIn (d + 1)) arguments (p .0)) λ ts q.
         reads-bind (reads-classNameIn f _ m) λ name c.
-        reads-pure (record { name = c; count = omega (arith, countOf-typesOf ts, p .1, q .1); arguments = typesOf-fine ts (q .0) }))
+        reads-pure (record { name = c; count = omega (arith, types-many ts, p .1, q .1); arguments = typesOf-fine ts (q .0) }))
 
   pub reads-typeAt : (k d : ℕ) (m : Message) → Bounded n m → Reads FineTy (typeAt k s d m)
   unfolding typeAt

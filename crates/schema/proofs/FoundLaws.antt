@@ -4,10 +4,11 @@ use mathlib.Core.Path.{_≡_, refl, ap, sym, subst, _∙_}
 use mathlib.Core.Bool.{Bool, false}
 use mathlib.Core.List.{List, [], _∷_}
 use mathlib.Core.Option.{Option, none, some}
-use Prim.Native.Nat.{ℕ, _+_, _-_, _^_, _≤_, _<_}
+use Prim.Native.Nat.{ℕ, zero, suc, _+_, _-_, _^_, _≤_, _<_}
 use native.Mathlib.Omega.{arith}
 use lib.Dec.{leb}
 use lib.ListN.{length, take, drop, getElem?}
+use Rattle.foundation.specs.Choices.{mapOption}
 use Rattle.foundation.specs.Results as Results
 use Rattle.foundation.specs.Results.{Res, ok, refused, Part, _from_}
 use Rattle.fields.specs.Fields.{Type·argument, Type·Argument·type, Type·Argument·type-id}
@@ -20,15 +21,16 @@ use Rattle.wire.specs.declared.Piece.the-variants as piece
 use Rattle.messages.specs.declared.Indexed.{Indexed}
 use Rattle.messages.specs.declared.Indexed.the-variants as indexed
 use Rattle.wire.proofs.WalkLaws.{whole, ok-same}
-use Rattle.declaration_rows.specs.Declarations.{Ty}
-use Rattle.schema.specs.Reading.{Read, pure, keep, kept, Scope, allowance}
-use Rattle.schema.specs.Types.{maxDepth, typeIn, argumentIn, typeAt, declaredType}
+use Rattle.declaration_rows.specs.Declarations.{star, Ty, Argument, projected, blank}
+use Rattle.schema.specs.Reading.{Read, pure, enter, keep, kept, Scope, allowance}
+use Rattle.schema.specs.Types.{maxDepth, typeIn, projectionIn, argumentIn, typeAt, declaredType}
 use Rattle.schema.specs.told.SchemaTold.{EntryAt, Stands, entriesIn}
 use Rattle.schema.specs.told.TypesTold.{orNullable, EntryIs, EntryInside, EntryTold}
-use Rattle.schema.specs.told.PlacesTold.{TableOf, FoundTypeTold, FoundTypeFalls, EntryFound, PlaceFound, headType, DeclaredFound, ArgumentFound}
+use Rattle.schema.specs.told.PlacesTold.{TableOf, FoundTypeTold, FoundTypeFalls, EntryFound, PlaceFound, headType, Unnamed, ElementTold, DeclaredFound, ArgumentFound}
 use Rattle.schema.specs.declared.Tables.{Tables}
 use Rattle.schema.specs.declared.FoundType.{FoundType}
 use Rattle.schema.specs.declared.FoundType.the-variants as found
+use Rattle.schema.proofs.ArgumentLaws.{Typed, argument-star, argument-typed}
 use Rattle.schema.proofs.TypeLaws.{resolve-nothing, resolve-deep, resolve-entry}
 use Rattle.schema.proofs.ListLaws.{First, cut-first}
 use Rattle.schema.proofs.StandsLaws.{stands-cut, stands-entry, body-ends, body-stands, body-entry}
@@ -115,18 +117,19 @@ module _ (payload notes : List ℕ) (tables : Tables) (msg : List ℕ) (base inl
   pub place-in : {a b : ℕ} → x ≡ piece.Body a b → (a ≤ b) × (b ≤ length msg) × (0 < a)
   place-in g = subst (PieceInside msg) g (t .inside)
 
-  pub place-inline : {a b : ℕ} → x ≡ piece.Body a b
-      → PlaceFound payload notes tables base (base + length msg) inline byIndex left (found.Type (base + a) (base + b) false left)
-  place-inline {a} {b} g =
+  pub place-inline : {a b : ℕ} → x ≡ piece.Body a b → {r : FoundType} → r ≡ found.Type (base + a) (base + b) false left
+      → PlaceFound payload notes tables base (base + length msg) inline byIndex left r
+  place-inline {a} {b} g {r} q =
       let i = place-in g in
       let body = partBetween base msg a b in
-      record {
+      let told : PlaceFound payload notes tables base (base + length msg) inline byIndex left (found.Type (base + a) (base + b) false left) = record {
         inside = (omega arith, omega (arith, st .inside));
         falls = (omega arith, omega arith);
         is = λ c s m at d deep o l n e.
             given-inline payload c (base + a) (base + b) inline byIndex body (λ inner. body-entry st a b (i .0) (i .1)) m
             (cut body) refl (here g m at) d deep o l n e;
-      }
+      } in
+      subst (PlaceFound payload notes tables base (base + length msg) inline byIndex left) (sym q) told
 
   module _ (g : x ≡ piece.Nothing) {y : Indexed} (i : (m : Message) → cut (_from_ base msg) ≡ ok m → index byIndex m ≡ indexTold y) where
     pub place-nowhere : y ≡ indexed.Nothing → PlaceFound payload notes tables base (base + length msg) inline byIndex left found.Nothing
@@ -153,16 +156,16 @@ unfolding declaredType
 declared-found p = record { inside = p .inside; falls = p .falls; is = λ c s m at o l n e. p .is c s m at 0 refl o l n e }
 
 -- What is kept of a message and of those after it, where it is given.
-pub record Kept (f : Message → Read (Option Ty)) (m : Message) (ms : List Message) (n : ℕ) (ts : List Ty) : Type 0 where
-  pub it : Option Ty
+pub record Kept (f : Message → Read (Option Argument)) (m : Message) (ms : List Message) (n : ℕ) (ts : List Argument) : Type 0 where
+  pub it : Option Argument
   pub between : ℕ
-  pub others : List Ty
+  pub others : List Argument
   pub after : ℕ
   pub first : f m n ≡ ok (it, between)
   pub later : kept f ms between ≡ ok (others, after)
   pub are : ts ≡ keep it others
 
-pub kept-given : (f : Message → Read (Option Ty)) (m : Message) (ms : List Message) (n : ℕ) (ts : List Ty) (b : ℕ) → kept f (m ∷ ms) n ≡ ok (ts, b) → Kept f m ms n ts
+pub kept-given : (f : Message → Read (Option Argument)) (m : Message) (ms : List Message) (n : ℕ) (ts : List Argument) (b : ℕ) → kept f (m ∷ ms) n ≡ ok (ts, b) → Kept f m ms n ts
 unfolding kept
 kept-given f m ms n ts b e =
     let p = bind-given (f m n) (λ r. Results._>>=_ (kept f ms (r .1)) λ q. pure (keep (r .0) (q .0)) (q .1)) e in
@@ -178,7 +181,7 @@ kept-given f m ms n ts b e =
     }
 
 -- The walk over the arguments: none before the place is kept, so that what is kept from here on is what is kept of all.
-pub record Passed (f : Message → Read (Option Ty)) (base : ℕ) (msg : List ℕ) (at : ℕ) (ts : List Ty) : Type 0 where
+pub record Passed (f : Message → Read (Option Argument)) (base : ℕ) (msg : List ℕ) (at : ℕ) (ts : List Argument) : Type 0 where
   pub rest : Message
   pub others : List Message
   pub cuts : cut (restOf base msg at) ≡ ok rest
@@ -187,7 +190,7 @@ pub record Passed (f : Message → Read (Option Ty)) (base : ℕ) (msg : List �
   pub after : ℕ
   pub given : kept f others before ≡ ok (ts, after)
 
-module _ (f : Message → Read (Option Ty)) (base : ℕ) (msg : List ℕ) (at : ℕ) (ts : List Ty) (g : Passed f base msg at ts) {x : Piece}
+module _ (f : Message → Read (Option Argument)) (base : ℕ) (msg : List ℕ) (at : ℕ) (ts : List Argument) (g : Passed f base msg at ts) {x : Piece}
     (t : NextBodyTold base msg Type·argument at x) where
   pub next-is : {y : Piece} → x ≡ y → NextIs base msg Type·argument (g .rest) y
   next-is e = subst (NextIs base msg Type·argument (g .rest)) e (t .is (g .rest) (g .cuts))
@@ -207,12 +210,12 @@ module _ (f : Message → Read (Option Ty)) (base : ℕ) (msg : List ℕ) (at : 
         kept-given f (next .first) (next .others) (g .before) ts (g .after)
         (ap (λ (ms : List Message). kept f ms (g .before)) (sym (next .are)) ∙ g .given)
 
-    passed-kept : {ty : Ty} → next-given .it ≡ some ty → headType ts ≡ some ty
-    passed-kept h = ap headType (next-given .are) ∙ ap (λ (o : Option Ty). headType (keep o (next-given .others))) h
+    passed-kept : {x : Argument} → next-given .it ≡ some x → headType ts ≡ some (x .type)
+    passed-kept h = ap headType (next-given .are) ∙ ap (λ (o : Option Argument). headType (keep o (next-given .others))) h
 
     passed-dropped : next-given .it ≡ none → Passed f base msg b ts
     passed-dropped h =
-        let same : next-given .others ≡ ts = sym (next-given .are ∙ ap (λ (o : Option Ty). keep o (next-given .others)) h) in
+        let same : next-given .others ≡ ts = sym (next-given .are ∙ ap (λ (o : Option Argument). keep o (next-given .others)) h) in
         record {
           rest = next-is e .0;
           others = next .others;
@@ -220,13 +223,18 @@ module _ (f : Message → Read (Option Ty)) (base : ℕ) (msg : List ℕ) (at : 
           many = next .many;
           before = next-given .between;
           after = next-given .after;
-          given = next-given .later ∙ ap (λ (l : List Ty). ok (l, next-given .after)) same;
+          given = next-given .later ∙ ap (λ (l : List Argument). ok (l, next-given .after)) same;
         }
+
+-- A star, where it is given.
+star-given : (l : ℕ) {o : Option Argument} {n : ℕ} → enter (pure (some (projected star blank))) l ≡ ok (o, n) → o ≡ some (projected star blank)
+star-given zero e = never-given e
+star-given (suc l) e = sym (first-same e)
 
 -- The loop over the arguments.
 pub record Seeking (payload notes : List ℕ) (tables : Tables) (msg : List ℕ) (base left at : ℕ) : Type 0 where
   pub passed : (c : Scope) → TableOf payload notes tables c → (m : Message) → EntryAt payload base (base + length msg) m → (ms : List Message)
-      → messages Type·argument m ≡ ok ms → (d : ℕ) → left ≡ maxDepth - d → (ts : List Ty) (l b : ℕ)
+      → messages Type·argument m ≡ ok ms → (d : ℕ) → left ≡ maxDepth - d → (ts : List Argument) (l b : ℕ)
       → kept (argumentIn (typeAt allowance c) c d) ms l ≡ ok (ts, b)
       → Passed (argumentIn (typeAt allowance c) c d) base msg at ts
 
@@ -251,7 +259,8 @@ module _ (payload notes : List ℕ) (tables : Tables) (msg : List ℕ) (base lef
       inside = tt;
       falls = tt;
       is = λ c s m a ms h d deep ts l b e.
-          ap headType (passed-all (argumentIn (typeAt allowance c) c d) base msg at ts (g .passed c s m a ms h d deep ts l b e) t q);
+          subst (λ (ts : List Argument). Unnamed (headType ts))
+          (sym (passed-all (argumentIn (typeAt allowance c) c d) base msg at ts (g .passed c s m a ms h d deep ts l b e) t q)) tt;
     }
 
     module _ {a b : ℕ} (q : x ≡ piece.Body a b) where
@@ -261,18 +270,42 @@ module _ (payload notes : List ℕ) (tables : Tables) (msg : List ℕ) (base lef
       pub argument-stands : Stands payload (take (b - a) (drop a msg)) (base + a)
       argument-stands = body-stands st a b (seeking-in .0) (seeking-in .1)
 
-      module _ {r : FoundType}
+      -- A star is the first kept argument, and has no name.
+      pub seeking-star : ((m : Message) → cut (_from_ (base + a) (take (b - a) (drop a msg))) ≡ ok m → projectionIn m ≡ star)
+          → ArgumentFound payload notes tables base (base + length msg) left found.Nothing
+      seeking-star star-at = record {
+        inside = tt;
+        falls = tt;
+        is = λ c s m h ms i d deep ts l n j.
+            let f = argumentIn (typeAt allowance c) c d in
+            let k = g .passed c s m h ms i d deep ts l n j in
+            let x = next f base msg at ts k t q in
+            let it = next-given f base msg at ts k t q in
+            let is-star = star-at (x .first) (x .cuts) in
+            let same = star-given (k .before) (sym (ap (λ (r : Read (Option Argument)). r (k .before)) (argument-star (typeAt allowance c) c d (x .first) is-star)) ∙ it .first) in
+            subst Unnamed (sym (passed-kept f base msg at ts k t q same)) refl;
+      }
+
+      module _ (typed : Typed (base + a) (take (b - a) (drop a msg))) {r : FoundType}
           (p : PlaceFound payload notes tables (base + a) (base + a + length (take (b - a) (drop a msg))) Type·Argument·type Type·Argument·type-id left r) where
         -- what the place says of the next argument
-        argument-found : (c : Scope) → TableOf payload notes tables c → (d : ℕ) → left ≡ maxDepth - d → (ts : List Ty)
+        argument-found : (c : Scope) → TableOf payload notes tables c → (d : ℕ) → left ≡ maxDepth - d → (ts : List Argument)
             (k : Passed (argumentIn (typeAt allowance c) c d) base msg at ts)
-            → FoundTypeTold payload c (next-given (argumentIn (typeAt allowance c) c d) base msg at ts k t q .it) r
-        unfolding argumentIn
+            → (o : Option Ty) × (projection : ℕ) × FoundTypeTold payload c o r
+            × (next-given (argumentIn (typeAt allowance c) c d) base msg at ts k t q .it ≡ mapOption (projected projection) o)
         argument-found c s d deep ts k =
             let f = argumentIn (typeAt allowance c) c d in
             let n = next f base msg at ts k t q in
             let i = next-given f base msg at ts k t q in
-            p .is c s (n .first) (stands-entry argument-stands (n .cuts)) d deep (i .it) (k .before) (i .between) (i .first)
+            let projection = typed (n .first) (n .cuts) .0 in
+            let as-type = ap (λ (r : Read (Option Argument)). r (k .before)) (argument-typed (typeAt allowance c) c d (n .first) (typed (n .first) (n .cuts) .1)) in
+            let it = bind-given (typeIn (typeAt allowance c) c d Type·Argument·type Type·Argument·type-id (n .first) (k .before))
+            (λ x. pure (mapOption (projected projection) (x .0)) (x .1)) (sym as-type ∙ i .first) in (
+              it .0 .0,
+              projection,
+              p .is c s (n .first) (stands-entry argument-stands (n .cuts)) d deep (it .0 .0) (k .before) (it .0 .1) (it .1),
+              sym (first-same (it .2)),
+            )
 
         pub seeking-kept : {u v : ℕ} {nullable : Bool} {w : ℕ} → r ≡ found.Type u v nullable w → ArgumentFound payload notes tables base (base + length msg) left r
         seeking-kept {u} {v} {nullable} {w} e = record {
@@ -283,9 +316,11 @@ module _ (payload notes : List ℕ) (tables : Tables) (msg : List ℕ) (base lef
           is = λ c s m h ms i d deep ts l n j.
               let f = argumentIn (typeAt allowance c) c d in
               let k = g .passed c s m h ms i d deep ts l n j in
-              let it = subst (FoundTypeTold payload c (next-given f base msg at ts k t q .it)) e (argument-found c s d deep ts k) in
-              let told : FoundTypeTold payload c (headType ts) (found.Type u v nullable w) = (it .0, it .1, passed-kept f base msg at ts k t q (it .2)) in
-              subst (FoundTypeTold payload c (headType ts)) (sym e) told;
+              let x = argument-found c s d deep ts k in
+              let it = subst (FoundTypeTold payload c (x .0)) e (x .2) in
+              let kept-it = passed-kept f base msg at ts k t q (x .3 ∙ ap (mapOption (projected (x .1))) (it .2)) in
+              let told : FoundTypeTold payload c (headType ts) (found.Type u v nullable w) = (it .0, it .1, kept-it) in
+              subst (ElementTold payload c (headType ts)) (sym e) told;
         }
 
         pub seeking-on : r ≡ found.Nothing → Seeking payload notes tables msg base left b
@@ -293,6 +328,7 @@ module _ (payload notes : List ℕ) (tables : Tables) (msg : List ℕ) (base lef
           passed = λ c s m h ms i d deep ts l n j.
               let f = argumentIn (typeAt allowance c) c d in
               let k = g .passed c s m h ms i d deep ts l n j in
-              passed-dropped f base msg at ts k t q
-              (subst (FoundTypeTold payload c (next-given f base msg at ts k t q .it)) e (argument-found c s d deep ts k));
+              let x = argument-found c s d deep ts k in
+              let it = subst (FoundTypeTold payload c (x .0)) e (x .2) in
+              passed-dropped f base msg at ts k t q (x .3 ∙ ap (mapOption (projected (x .1))) it);
         }

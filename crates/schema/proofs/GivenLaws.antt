@@ -5,7 +5,7 @@ use mathlib.Core.Bool.{Bool, true, false}
 use mathlib.Core.List.{List, [], _∷_}
 use mathlib.Core.Option.{Option, none, some}
 use Prim.Native.Nat.{ℕ, zero, suc, _+_}
-use lib.Dec.{ltb}
+use lib.Dec.{eqb, ltb}
 use lib.ListN.{getElem?}
 use Rattle.foundation.specs.Choices.{if_then_else_, ifSome}
 use Rattle.foundation.specs.Results.{Res, ok, refused}
@@ -13,9 +13,9 @@ use Rattle.foundation.specs.Texts.{Text}
 use Rattle.fields.specs.Fields.{Type·argument, Type·nullable, Type·class-name}
 use Rattle.wire.specs.Wire.{Message}
 use Rattle.wire.specs.Messages.{index, flag, message, messages}
-use Rattle.declaration_rows.specs.Declarations.{Ty, typesOf}
+use Rattle.declaration_rows.specs.Declarations.{star, Ty, Argument, typesOf}
 use Rattle.schema.specs.Reading.{Read, pure, _>>=_, lift, enter, kept, Scope, classNameIn, allowance}
-use Rattle.schema.specs.Types.{Walk, maxDepth, resolveAt, typeIn, argumentIn, parseAt, typeAt}
+use Rattle.schema.specs.Types.{Walk, maxDepth, resolveAt, typeIn, projectionIn, argumentIn, parseAt, typeAt}
 use Rattle.schema.proofs.FoundLaws.{never-given, bind-given, first-same}
 
 -- What a reading gives, another gives too.
@@ -61,8 +61,10 @@ module _ (w w′ : Walk) (h : (d : ℕ) (m : Message) → Upto (w d m) (w′ d m
   upto-argumentIn : (d : ℕ) (m : Message) → Upto (argumentIn w s d m) (argumentIn w′ s d m)
   unfolding argumentIn typeIn
   upto-argumentIn d m =
+      upto-if (eqb (projectionIn m) star) (upto-refl _) (
+      upto-bind (
       upto-bind (upto-refl (lift (message _ m))) λ t.
-      upto-ifSome t (upto-ifSome (index _ m) (upto-refl (pure none)) (upto-resolveAt d)) λ i. upto-bind (h d i) λ it. upto-refl _
+      upto-ifSome t (upto-ifSome (index _ m) (upto-refl (pure none)) (upto-resolveAt d)) λ i. upto-bind (h d i) λ it. upto-refl _) λ t. upto-refl _)
 
   upto-parseAt : (d : ℕ) (m : Message) → Upto (parseAt w s d m) (parseAt w′ s d m)
   unfolding parseAt
@@ -84,7 +86,7 @@ lift-given (refused c p) f l e = never-given e
 pub record Entered (c : Scope) (d : ℕ) (m : Message) (t : Ty) : Type 0 where
   pub arguments : List Message
   pub cuts : messages Type·argument m ≡ ok arguments
-  pub types : List Ty
+  pub types : List Argument
   pub before : ℕ
   pub between : ℕ
   pub given : kept (argumentIn (typeAt allowance c) c (d + 1)) arguments before ≡ ok (types, between)
@@ -97,8 +99,8 @@ parsed : (c : Scope) (d : ℕ) (m : Message) (t : Ty) (l b : ℕ) → parseAt (t
 unfolding parseAt
 parsed c d m t zero b e = never-given e
 parsed c d m t (suc l) b e =
-    let typed : List Ty → Option Text → Ty = λ ts name. record { nullable = flag Type·nullable m; name = name; arguments = typesOf ts } in
-    let named : List Ty → Read Ty = λ ts. classNameIn c Type·class-name m >>= λ name. pure (typed ts name) in
+    let typed : List Argument → Option Text → Ty = λ ts name. record { nullable = flag Type·nullable m; name = name; arguments = typesOf ts } in
+    let named : List Argument → Read Ty = λ ts. classNameIn c Type·class-name m >>= λ name. pure (typed ts name) in
     let p = lift-given (messages Type·argument m) (λ ms. kept (argumentIn (typeAt allowance c) c (d + 1)) ms >>= named) l e in
     let q = bind-given (kept (argumentIn (typeAt allowance c) c (d + 1)) (p .0) l) (λ r. named (r .0) (r .1)) (p .2) in
     let r = bind-given (classNameIn c Type·class-name m (q .0 .1)) (λ r. pure (typed (q .0 .0) (r .0)) (r .1)) (q .2) in

@@ -13,11 +13,11 @@ use Rattle.fields.specs.Fields.{Type·argument, Type·nullable, Type·class-nam
 use Rattle.wire.specs.Wire.{Message}
 use Rattle.wire.specs.Messages.{flag, messages}
 use Rattle.wire.specs.declared.WireError.{WireError}
-use Rattle.sheet.specs.Rows.{num, bit, row}
-use Rattle.declaration_rows.specs.Declarations.{noTypes, andType, Ty, typesOf}
+use Rattle.sheet.specs.Rows.{row}
+use Rattle.declaration_rows.specs.Declarations.{noTypes, andType, Ty, Argument, typesOf}
 use Rattle.schema.specs.Reading.{pure, _>>=_, lift, kept, Scope, classNameIn, allowance}
 use Rattle.schema.specs.Types.{argumentIn, parseAt, typeAt}
-use Rattle.declaration_rows.specs.Rows.{nameCell, argumentRole, typesRows}
+use Rattle.declaration_rows.specs.Rows.{argumentRole, typeCells, typesRows}
 use Rattle.schema.specs.told.SchemaTold.{stopRefused}
 use Rattle.schema.specs.declared.Stop.the-variants as stop
 use Rattle.schema.proofs.TypeNext.{type-next}
@@ -39,7 +39,7 @@ unfolding parseAt
 type-none c d m n h = ap (typeAt allowance c d m) h ∙ type-next allowance c d m 0 (omega arith)
 
 -- a type is entered
-unfoldable pub ofFields : Message → Option Text → List Ty → Ty
+unfoldable pub ofFields : Message → Option Text → List Argument → Ty
 ofFields m name ts = record { nullable = flag Type·nullable m; name = name; arguments = typesOf ts }
 
 pub type-entered : (c : Scope) (d : ℕ) (m : Message) (n : ℕ) → 1 ≤ n → n ≤ allowance → typeAt allowance c d m n
@@ -54,13 +54,13 @@ module _ (c : Scope) (d : ℕ) (m : Message) (n : ℕ) (h : 1 ≤ n) (l : n ≤ 
   type-uncut error e = type-entered c d m n h l ∙ rw e
 
   module _ {ms : List Message} (e : messages Type·argument m ≡ ok ms) {k : ℕ} (f : k ≡ n - 1) where
-    pub type-done : {ts : List Ty} {b : ℕ} {name : Option Text} → kept (argumentIn (typeAt allowance c) c (d + 1)) ms k ≡ ok (ts, b)
+    pub type-done : {ts : List Argument} {b : ℕ} {name : Option Text} → kept (argumentIn (typeAt allowance c) c (d + 1)) ms k ≡ ok (ts, b)
         → classNameIn c Type·class-name m b ≡ ok (name, b) → typeAt allowance c d m n ≡ ok (ofFields m name ts, b)
     type-done g p = type-entered c d m n h l ∙ rw (e, ← f, g, p)
 
 -- a type's record, with its count, and its arguments' after it
-pub type-rows : (role : ℕ) (nullable : Bool) (name : Option Text) (ts : List Ty) (count : ℕ) → count ≡ length ts
-    → row 6 ((num 1 role ∷ bit nullable ∷ nameCell name ∷ []) ++ (num 2 count ∷ [])) ∷ typesRows argumentRole (typesOf ts)
-    ≡ typesRows role (andType nullable name (typesOf ts) noTypes)
+pub type-rows : (role projection : ℕ) (nullable : Bool) (name : Option Text) (ts : List Argument) (count : ℕ) → count ≡ length ts
+    → row 6 (typeCells role nullable name count projection) ∷ typesRows argumentRole (typesOf ts)
+    ≡ typesRows role (andType projection nullable name (typesOf ts) noTypes)
 unfolding typesRows
-type-rows role nullable name ts count e = rw (append-nil, e, types-many ts)
+type-rows role projection nullable name ts count e = rw (append-nil, e, types-many ts)

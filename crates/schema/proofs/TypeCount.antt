@@ -7,9 +7,9 @@ use mathlib.Core.Option.{Option, none, some}
 use Prim.Native.Nat.{ℕ, zero, suc, _+_}
 use native.Mathlib.Nat.{add-zero, zero-add}
 use native.Mathlib.Omega.{arith}
-use lib.Dec.{ltb}
+use lib.Dec.{eqb, ltb}
 use lib.ListN.{getElem?}
-use Rattle.foundation.specs.Choices.{ifSome, orElse, concat}
+use Rattle.foundation.specs.Choices.{ifSome, mapOption, orElse, concat}
 use Rattle.foundation.specs.Results.{Res, ok, refused}
 use Rattle.foundation.specs.Texts.{Text}
 use Rattle.foundation.proofs.ChoiceLaws.{if-ind}
@@ -18,9 +18,9 @@ use Rattle.wire.specs.Wire.{Message}
 use Rattle.wire.specs.Messages.{index, message, messages}
 use Rattle.names.specs.Names.{Names, string, qualifiedName}
 use Rattle.sheet.specs.Rows.{Row}
-use Rattle.declaration_rows.specs.Declarations.{Types, noTypes, andType, Ty, typesOf, Signature, Parameter, Constructor, Function, Property, Alias}
+use Rattle.declaration_rows.specs.Declarations.{star, Types, noTypes, andType, Ty, Argument, projected, typesOf, single, Signature, Parameter, Constructor, Function, Property, Alias}
 use Rattle.schema.specs.Reading.{Read, pure, _>>=_, lift, enter, keep, kept, Scope, scope, nameIn, classNameIn, allowance}
-use Rattle.schema.specs.Types.{Walk, maxDepth, resolveAt, typeIn, argumentIn, parseAt, typeAt, declaredType, noTable, typeTableIn}
+use Rattle.schema.specs.Types.{Walk, maxDepth, resolveAt, typeIn, projectionIn, argumentIn, parseAt, typeAt, declaredType, noTable, typeTableIn}
 use Rattle.schema.specs.Members.{
   named,
   signatureOf,
@@ -62,6 +62,7 @@ use Rattle.schema.specs.told.TypeSizes.{
   sizeOfAll,
   sizeOf,
   typeSize,
+  argumentSize,
   parameterSize,
   constructorSize,
   functionSize,
@@ -132,9 +133,13 @@ module _ (s : Scope) (n : ℕ) (m : Message) where
   quiet-classNameIn = enters-ifSome (index n m) (enters-pure none refl) λ i. quiet-lift (qualifiedName (s .names) i)
 
 -- types, for a walk that enters those that it gives
-typesOf-size : (ts : List Ty) → sizeOf (typesOf ts) ≡ sizeOfAll typeSize ts
+typesOf-size : (ts : List Argument) → sizeOf (typesOf ts) ≡ sizeOfAll argumentSize ts
 typesOf-size [] = refl
-typesOf-size (t ∷ ts) = omega (arith, typesOf-size ts)
+typesOf-size (a ∷ ts) = omega (arith, typesOf-size ts)
+
+projected-size : (p : ℕ) (o : Option Ty) → sizeIfSome argumentSize (mapOption (projected p) o) ≡ 0 + sizeIfSome typeSize o
+projected-size p none = refl
+projected-size p (some t) = omega arith
 
 module _ (walk : Walk) (h : (d : ℕ) (m : Message) → Enters 0 typeSize (walk d m)) (s : Scope) where
   pub enters-resolveAt : (d i : ℕ) → Enters 0 (sizeIfSome typeSize) (resolveAt walk s d i)
@@ -151,9 +156,11 @@ module _ (walk : Walk) (h : (d : ℕ) (m : Message) → Enters 0 typeSize (walk 
       enters-ifSome t (enters-ifSome (index indexed m) (enters-pure none refl) (enters-resolveAt d)) λ inner.
       enters-bind (h d inner) λ it. enters-pure _ (omega arith)
 
-  pub enters-argumentIn : (d : ℕ) (m : Message) → Enters 0 (sizeIfSome typeSize) (argumentIn walk s d m)
+  pub enters-argumentIn : (d : ℕ) (m : Message) → Enters 0 (sizeIfSome argumentSize) (argumentIn walk s d m)
   unfolding argumentIn
-  enters-argumentIn d = enters-typeIn d _ _
+  enters-argumentIn d m =
+      if-ind (Enters 0 (sizeIfSome argumentSize)) (eqb (projectionIn m) star) (λ t. enters-enter (enters-pure _ refl)) λ t.
+      enters-bind (enters-typeIn d _ _ m) λ o. enters-pure _ (projected-size (projectionIn m) o)
 
   pub enters-parseAt : (d : ℕ) (m : Message) → Enters 0 typeSize (parseAt walk s d m)
   unfolding parseAt
@@ -312,7 +319,7 @@ count-all k rows size h (x ∷ xs) = omega (arith, count-append k (rows x) (conc
 pub types-count : (role : ℕ) (ts : Types) → countKind 6 (typesRows role ts) ≡ sizeOf ts
 unfolding typesRows
 types-count role noTypes = refl
-types-count role (andType nullable name arguments after) =
+types-count role (andType projection nullable name arguments after) =
     omega (
       arith,
       count-append 6 (typesRows argumentRole arguments) (typesRows role after),
@@ -322,7 +329,7 @@ types-count role (andType nullable name arguments after) =
 
 pub type-count : (role : ℕ) (t : Option Ty) → countKind 6 (typeRows role t) ≡ sizeIfSome typeSize t
 type-count role none = refl
-type-count role (some t) = omega (arith, types-count role (andType (t .nullable) (t .name) (t .arguments) noTypes))
+type-count role (some t) = omega (arith, types-count role (single t))
 
 pub parameter-count : (p : Parameter) → countKind 6 (parameterRows p) ≡ parameterSize p
 unfolding parameterRows

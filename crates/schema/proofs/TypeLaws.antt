@@ -24,7 +24,7 @@ use Rattle.messages.specs.declared.Embedded.{Embedded}
 use Rattle.messages.specs.declared.Embedded.the-variants as embedded
 use Rattle.sheet.specs.Rows.{Row}
 use Rattle.sheet.specs.declared.State.{State}
-use Rattle.declaration_rows.specs.Declarations.{Ty}
+use Rattle.declaration_rows.specs.Declarations.{invariant, Ty}
 use Rattle.schema.specs.Reading.{Read, pure, _>>=_, Scope, allowance}
 use Rattle.schema.specs.Types.{maxDepth, resolveAt, typeIn, typeAt, declaredType}
 use Rattle.schema.specs.told.SchemaTold.{Lent, entriesIn, Scoped, Ready, Spends, WalkedSpends, PickedSpends, WalkedTold, PickedTold}
@@ -78,7 +78,7 @@ module _ (e : Lent) (msg : List ℕ) (base inline byIndex left role : ℕ) (s : 
   here g m k = subst (EmbeddedIs base msg inline m) g (t .is m k)
 
   pub type-inline : {a b : ℕ} → x ≡ embedded.Inline a b → {w : Walked} {r : Picked} {S S′ T T′ : List ℕ}
-      → ParseTold e (take (b - a) (drop a msg)) (base + a) left role false s w S S′ T T′ → r ≡ pickedOf w
+      → ParseTold e (take (b - a) (drop a msg)) (base + a) left role invariant false s w S S′ T T′ → r ≡ pickedOf w
       → TypeInTold e msg base inline byIndex left role s r S S′ T T′
   unfolding typeIn
   type-inline g {w} {r} {S} {S′} {T} {T′} p q =
@@ -86,7 +86,7 @@ module _ (e : Lent) (msg : List ℕ) (base inline byIndex left role : ℕ) (s : 
         spends = picked-spends s w (p .spends);
         is = λ c o m k d l.
             let i = here g m k in
-            picked-told _ _ (rowsIn role) (orNullable false) s w S S′ T T′ (rw (i .2)) (p .is c o (i .0) (i .1) d l);
+            picked-told _ _ (rowsIn role invariant) (orNullable false) s w S S′ T T′ (rw (i .2)) (p .is c o (i .0) (i .1) d l);
       } in
       subst (λ (y : Picked). TypeInTold e msg base inline byIndex left role s y S S′ T T′) (sym q) told
 
@@ -100,14 +100,14 @@ module _ (e : Lent) (msg : List ℕ) (base inline byIndex left role : ℕ) (s : 
     unfolding typeIn
     type-nowhere h = record { spends = tt; is = λ c o m k d l. (rw (here g m k, i m k, h), refl, refl) }
 
-    pub type-indexed : {n : ℕ} → y ≡ indexed.At n → {r : Picked} {S S′ T T′ : List ℕ} → ResolveTold e n left role s r S S′ T T′
+    pub type-indexed : {n : ℕ} → y ≡ indexed.At n → {r : Picked} {S S′ T T′ : List ℕ} → ResolveTold e n left role invariant s r S S′ T T′
         → TypeInTold e msg base inline byIndex left role s r S S′ T T′
     unfolding typeIn
     type-indexed {n} h {r} {S} {S′} {T} {T′} p = record {
       spends = p .spends;
       is = λ c o m k d l.
           let f : typeIn (typeAt allowance c) c d inline byIndex m (s .types) ≡ resolveAt (typeAt allowance c) c d n (s .types) = rw (here g m k, i m k, h) in
-          subst (λ (q : Res (Option Ty × ℕ)). PickedTold q (rowsIn role) s r S S′ T T′) (sym f) (p .is c o d l);
+          subst (λ (q : Res (Option Ty × ℕ)). PickedTold q (rowsIn role invariant) s r S S′ T T′) (sym f) (p .is c o d l);
     }
 
 -- A declaration's own type, at depth 0.
@@ -146,23 +146,23 @@ pub resolve-entry : (c : Scope) (first : ℕ) → c .table .firstNullable ≡ as
 unfolding resolveAt
 resolve-entry c first f d i n m h k g = rw (lt-ltb d maxDepth h, g, f, from-first first i k)
 
-module _ (e : Lent) (i left role : ℕ) (s : State) where
-  pub resolve-none-left : left ≡ 0 → {S T : List ℕ} → ResolveTold e i left role s picked.Dropped S S T T
+module _ (e : Lent) (i left role projection : ℕ) (s : State) where
+  pub resolve-none-left : left ≡ 0 → {S T : List ℕ} → ResolveTold e i left role projection s picked.Dropped S S T T
   resolve-none-left h = record { spends = tt; is = λ c o d l. (resolve-deep c d i (s .types) (omega arith), refl, refl) }
 
   module _ {x : Piece} (t : EntryTold (e .payload) (entriesIn (e .tables) (e .notes)) (e .tables .types) i x) where
     found : {y : Piece} → x ≡ y → (c : Scope) → Scoped e c → EntryIs (e .payload) (getElem? (c .table .types) i) y
     found g c o = subst (EntryIs (e .payload) (getElem? (c .table .types) i)) g (t .is (c .table .types) (o .entries))
 
-    pub resolve-nowhere : x ≡ piece.Nothing → {S T : List ℕ} → ResolveTold e i left role s picked.Dropped S S T T
+    pub resolve-nowhere : x ≡ piece.Nothing → {S T : List ℕ} → ResolveTold e i left role projection s picked.Dropped S S T T
     resolve-nowhere g = record { spends = tt; is = λ c o d l. (resolve-nothing c d i (s .types) (found g c o), refl, refl) }
 
     pub resolve-found : {a b : ℕ} → x ≡ piece.Body a b → (left ≡ 0 → ⊥) → i < 2 ^ 32
         → {n : Bool} → n ≡ leb (e .tables .«first_nullable») i → {w : Walked} {r : Picked} {S S′ T T′ : List ℕ}
-        → ParseTold e (take (b - a) (drop a (e .payload))) a (left - 1) role n s w S S′ T T′ → r ≡ pickedOf w
-        → ResolveTold e i left role s r S S′ T T′
+        → ParseTold e (take (b - a) (drop a (e .payload))) a (left - 1) role projection n s w S S′ T T′ → r ≡ pickedOf w
+        → ResolveTold e i left role projection s r S S′ T T′
     resolve-found g h k {n} f {w} {r} {S} {S′} {T} {T′} p q =
-        let told : ResolveTold e i left role s (pickedOf w) S S′ T T′ = record {
+        let told : ResolveTold e i left role projection s (pickedOf w) S S′ T T′ = record {
           spends = picked-spends s w (p .spends);
           is = λ c o d l.
               let j = found g c o in
@@ -170,6 +170,6 @@ module _ (e : Lent) (i left role : ℕ) (s : State) where
               let at : resolveAt (typeAt allowance c) c d i (s .types)
               ≡ Results._>>=_ (typeAt allowance c (d + 1) (j .0) (s .types)) (λ q. pure (some (orNullable n (q .0))) (q .1)) =
               rw f (resolve-entry c (e .tables .«first_nullable») (o .nullable) d i (s .types) (j .0) deep k (j .1)) in
-              picked-told _ _ (rowsIn role) (orNullable n) s w S S′ T T′ at (p .is c o (j .0) (j .2) (d + 1) (omega arith));
+              picked-told _ _ (rowsIn role projection) (orNullable n) s w S S′ T T′ at (p .is c o (j .0) (j .2) (d + 1) (omega arith));
         } in
-        subst (λ (y : Picked). ResolveTold e i left role s y S S′ T T′) (sym q) told
+        subst (λ (y : Picked). ResolveTold e i left role projection s y S S′ T T′) (sym q) told

@@ -7,7 +7,7 @@ use mathlib.Core.Option.{Option, none, some}
 use Prim.Native.Nat.{ℕ, zero, suc, _+_, _≤_}
 use native.Mathlib.Nat.{le-refl, le-trans, le-step, le-of-suc-le-suc}
 use native.Mathlib.Omega.{arith}
-use lib.Dec.{ltb}
+use lib.Dec.{eqb, ltb}
 use lib.ListN.{getElem?}
 use Rattle.foundation.specs.Choices.{if_then_else_, ifSome}
 use Rattle.foundation.specs.Results as Results
@@ -15,9 +15,10 @@ use Rattle.foundation.specs.Results.{refused, tooManyTypes}
 use Rattle.foundation.proofs.ResultLaws.{gives-weaken, bind-same}
 use Rattle.wire.specs.Wire.{Message}
 use Rattle.wire.specs.Messages.{index, message, messages}
+use Rattle.declaration_rows.specs.Declarations.{star}
 use Rattle.schema.specs.Reading.{Read, pure, _>>=_, enter, kept, Scope}
-use Rattle.schema.specs.Types.{Walk, maxDepth, resolveAt, typeIn, argumentIn, parseAt, typeAt}
-use Rattle.schema.proofs.Falls.{Falls, falls-lift, falls-kept, falls-argumentIn, falls-typeAt}
+use Rattle.schema.specs.Types.{Walk, maxDepth, resolveAt, typeIn, projectionIn, argumentIn, parseAt, typeAt}
+use Rattle.schema.proofs.Falls.{Falls, falls-lift, falls-kept, falls-typeIn, falls-argumentIn, falls-typeAt}
 
 -- Two readings agree where at most n types are left.
 pub record Same {A : Type 0} (n : ℕ) (m m′ : Read A) : Type 0 where
@@ -76,7 +77,8 @@ module _ (n : ℕ) (w w′ : Walk) (h : (d : ℕ) (m : Message) → Falls (w d m
 
   pub same-argumentIn : (d : ℕ) (m : Message) → Same n (argumentIn w s d m) (argumentIn w′ s d m)
   unfolding argumentIn
-  same-argumentIn d = same-typeIn d _ _
+  same-argumentIn d m =
+      same-if (eqb (projectionIn m) star) (same-refl _) (same-bind (falls-typeIn w h s d _ _ m) (same-typeIn d _ _ m) λ t. same-refl _)
 
   pub same-parseAt : (d : ℕ) (m : Message) → Same (suc n) (parseAt w s d m) (parseAt w′ s d m)
   unfolding parseAt

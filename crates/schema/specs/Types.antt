@@ -4,14 +4,14 @@ use mathlib.Core.Bool.{false, _||_}
 use mathlib.Core.List.{[]}
 use mathlib.Core.Option.{Option, none, some}
 use Prim.Native.Nat.{ℕ, zero, suc, _+_}
-use lib.Dec.{ltb, leb}
+use lib.Dec.{eqb, ltb, leb}
 use lib.ListN.{getElem?}
-use Rattle.foundation.specs.Choices.{if_then_else_, ifSome}
+use Rattle.foundation.specs.Choices.{if_then_else_, ifSome, mapOption}
 use Rattle.foundation.specs.Results.{refused, tooManyTypes}
-use Rattle.fields.specs.Fields.{Type·argument, Type·nullable, Type·class-name, Type·Argument·type, Type·Argument·type-id, TypeTable·type, TypeTable·first-nullable}
+use Rattle.fields.specs.Fields.{Type·argument, Type·nullable, Type·class-name, Type·Argument·projection, Type·Argument·type, Type·Argument·type-id, TypeTable·type, TypeTable·first-nullable}
 use Rattle.wire.specs.Wire.{Message}
-use Rattle.wire.specs.Messages.{index, flag, message, messages}
-use Rattle.declaration_rows.specs.Declarations.{Ty, typesOf}
+use Rattle.wire.specs.Messages.{varintOf, index, flag, message, messages}
+use Rattle.declaration_rows.specs.Declarations.{invariant, star, Ty, Argument, projected, blank, typesOf}
 use Rattle.schema.specs.Reading.{Read, pure, _>>=_, lift, enter, kept, TypeTable, Scope, classNameIn, allowance}
 
 -- lookups at this depth or deeper yield no type
@@ -41,9 +41,21 @@ typeIn walk s d inline indexed m =
     lift (message inline m) >>= λ t.
     ifSome t (ifSome (index indexed m) (pure none) (resolveAt walk s d)) λ inner. walk d inner >>= λ it. pure (some it)
 
--- An argument is kept if its type is there; so a star, which has none, is dropped.
-unfoldable pub argumentIn : Walk → Scope → ℕ → Message → Read (Option Ty)
-argumentIn walk s d m = typeIn walk s d Type·Argument·type Type·Argument·type-id m
+-- An argument's projection: its number if that is one of the four, with all its 64 bits, and else invariant.
+abbrev pub projectionOf : Option ℕ → ℕ
+projectionOf number = ifSome number invariant λ p. if leb p star then p else invariant
+
+unfoldable pub projectionIn : Message → ℕ
+projectionIn m = projectionOf (varintOf Type·Argument·projection m)
+
+-- An argument that is no star is kept if its type is there.
+abbrev pub typeArgument : Walk → Scope → ℕ → Message → Read (Option Argument)
+typeArgument walk s d m =
+    typeIn walk s d Type·Argument·type Type·Argument·type-id m >>= λ t. pure (mapOption (projected (projectionIn m)) t)
+
+-- A star is entered as a type is, and kept. Its type is unread: a broken one refuses nothing, and no index is looked up.
+unfoldable pub argumentIn : Walk → Scope → ℕ → Message → Read (Option Argument)
+argumentIn walk s d m = if eqb (projectionIn m) star then enter (pure (some (projected star blank))) else typeArgument walk s d m
 
 -- A type: entered once its own fields are cut, then its arguments, then its name.
 unfoldable pub parseAt : Walk → Scope → Walk

@@ -5,5 +5,6 @@ pub mod MembersTold
 pub mod PlacesTold
 pub mod ListsTold
 pub mod HeadTold
+pub mod ArgumentTold
 pub mod ReceiversTold
 pub mod TypeSizes

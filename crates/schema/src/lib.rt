@@ -6,6 +6,7 @@ use wire::WireError;
 
 pub mod name; // name.rt: names by the index in a field
 pub mod head; // head.rt: a type's own fields by one walk
+pub mod argument; // argument.rt: an argument's own fields by one walk
 pub mod table; // table.rt: where the entries of the type table stand
 pub mod types; // types.rt: an entry of the type table, a nullable bit
 pub mod places; // places.rt: where the messages of types stand

@@ -33,7 +33,7 @@ pub data Form : Type 0 where
   wide : ℕ → Form  -- a number of that width
   text : Form  -- a ref
 
--- document 01's table, kinds 1 to 7, and document 02's type aliases, kinds 8 and 9
+-- document 01's table, kinds 1 to 7, and of document 02 a type's projection, kind 6, and type aliases, kinds 8 and 9
 abbrev pub recordTable : List (List Form)
 recordTable =
     -- 1 head: metadata kind, class name, flags, counts of constructors, functions, properties
@@ -46,8 +46,8 @@ recordTable =
     ∷ (text ∷ wide 8 ∷ wide 1 ∷ wide 1 ∷ wide 1 ∷ text ∷ text ∷ text ∷ text ∷ text ∷ text ∷ [])
     -- 5 parameter: name, default
     ∷ (text ∷ wide 1 ∷ [])
-    -- 6 type: role, nullable, name, argument count
-    ∷ (wide 1 ∷ wide 1 ∷ text ∷ wide 2 ∷ [])
+    -- 6 type: role, nullable, name, argument count, projection
+    ∷ (wide 1 ∷ wide 1 ∷ text ∷ wide 2 ∷ wide 1 ∷ [])
     -- 7 default descriptor
     ∷ (text ∷ [])
     -- 8 type alias: name, flags

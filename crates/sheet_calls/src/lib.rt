@@ -18,7 +18,7 @@ use converter::old_to_new;
 use metadata::read;
 use room::room;
 
-// `read`, with the answer's number, detail, sheet length, text length and types in this order. Areas of 411,647 and 65,534 bytes are always enough.
+// `read`, with the answer's number, detail, sheet length, text length and types in this order. Areas of 413,695 and 65,534 bytes are always enough.
 // The detail of a 7, 8, 9, 13, 14 or 17 is an offset among the decoded bytes. Of an accepted answer (number 0) it ensures what is promised of every sheet
 // and, with any second one, demand 3. Nothing is asked of what is handed in.
 #[no_mangle]

@@ -115,15 +115,15 @@ walked-spends (walked.Done s′) h k = spends-then h k
 walked-spends (walked.Refused stop) h k = tt
 
 -- A type is entered, or refused; then its arguments.
-module _ {e : Lent} {msg : List ℕ} {base left role : ℕ} {nullable : Bool} {s : State} {w : Walked} {S S₁ T T₁ : List ℕ}
-    (n : EnterTold e msg base left role nullable s w S S₁ T T₁) where
-  pub parse-unentered : {stop : Stop} → w ≡ walked.Refused stop → ParseTold e msg base left role nullable s w S S₁ T T₁
+module _ {e : Lent} {msg : List ℕ} {base left role projection : ℕ} {nullable : Bool} {s : State} {w : Walked} {S S₁ T T₁ : List ℕ}
+    (n : EnterTold e msg base left role projection nullable s w S S₁ T T₁) where
+  pub parse-unentered : {stop : Stop} → w ≡ walked.Refused stop → ParseTold e msg base left role projection nullable s w S S₁ T T₁
   parse-unentered {stop} q =
-      let told : ParseTold e msg base left role nullable s (walked.Refused stop) S S₁ T T₁ = record {
+      let told : ParseTold e msg base left role projection nullable s (walked.Refused stop) S S₁ T T₁ = record {
         spends = tt;
-        is = λ c o m k d l. subst (λ (x : Walked). EnteredIs c d m role nullable s x S S₁ T T₁) q (n .is c o m k d l);
+        is = λ c o m k d l. subst (λ (x : Walked). EnteredIs c d m role projection nullable s x S S₁ T T₁) q (n .is c o m k d l);
       } in
-      subst (λ (x : Walked). ParseTold e msg base left role nullable s x S S₁ T T₁) (sym q) told
+      subst (λ (x : Walked). ParseTold e msg base left role projection nullable s x S S₁ T T₁) (sym q) told
 
   module _ {s₁ : State} (q : w ≡ walked.Done s₁) {less : ℕ} (f : less ≡ left - 1) where
     entered-fits : {tables : Tables} {bytes room : ℕ} → WaitingRoom tables (s .types) bytes room → WaitingRoom tables (s₁ .types) bytes room
@@ -145,19 +145,19 @@ module _ {e : Lent} {msg : List ℕ} {base left role : ℕ} {nullable : Bool} {s
           room = entered-area (h .room) k;
         }
 
-    pub parse-entered : {r : Walked} {S₂ T₂ : List ℕ} → ArgumentsTold e msg base less s₁ r S₁ S₂ T₁ T₂ → ParseTold e msg base left role nullable s r S S₂ T T₂
+    pub parse-entered : {r : Walked} {S₂ T₂ : List ℕ} → ArgumentsTold e msg base less s₁ r S₁ S₂ T₁ T₂ → ParseTold e msg base left role projection nullable s r S S₂ T T₂
     parse-entered {r} {S₂} {T₂} u = record {
       spends = walked-spends r (subst (WalkedSpends s) q (n .spends)) (u .spends);
       is = λ c o m k d l.
-          let entered = subst (λ (x : Walked). EnteredIs c d m role nullable s x S S₁ T T₁) q (n .is c o m k d l) in
+          let entered = subst (λ (x : Walked). EnteredIs c d m role projection nullable s x S S₁ T T₁) q (n .is c o m k d l) in
           let ms = entered .0 in
-          walked-then (λ t. rowsIn role (orNullable nullable t)) argumentRows (typeAt allowance c d m (s .types))
+          walked-then (λ t. rowsIn role projection (orNullable nullable t)) argumentRows (typeAt allowance c d m (s .types))
           (kept (argumentIn (typeAt allowance c) c (d + 1)) ms (s₁ .types)) (entered .1) (entered .4) (entered .3) r S₂ T₂
           (u .is c o m k ms (entered .2) (d + 1) (omega arith));
     }
 
     -- a type with no argument
-    parse-alone : Alone e base msg → ParseTold e msg base left role nullable s (walked.Done s₁) S S₁ T T₁
+    parse-alone : Alone e base msg → ParseTold e msg base left role projection nullable s (walked.Done s₁) S S₁ T T₁
     parse-alone h = parse-entered (record { spends = spends-none s₁; is = λ c o. none c o .is c o })
       where
         next : (c : Scope) → Scoped e c → NextBodyTold base (take (length msg) msg) Type·argument 0 piece.Nothing
@@ -167,10 +167,10 @@ module _ {e : Lent} {msg : List ℕ} {base left role : ℕ} {nullable : Bool} {s
         none : (c : Scope) → Scoped e c → ArgumentsTold e msg base less s₁ (walked.Done s₁) S₁ S₁ T₁ T₁
         none c o = loop-end (loop-start {nest = []}) (next c o) refl refl
 
-    stops : {room : ℕ} → FitsType e base msg (s .types) room → room ≡ 0 → ParseTold e msg base left role nullable s (walked.Done s₁) S S₁ T T₁
+    stops : {room : ℕ} → FitsType e base msg (s .types) room → room ≡ 0 → ParseTold e msg base left role projection nullable s (walked.Done s₁) S S₁ T T₁
     stops (lentArea h z) k = let one = subst (EnteredOne s) q (n .one) in absurd (omega (arith, z k, one))
     stops (noArea z h) k = parse-alone h
 
     pub parse-stops : {nest : List ℕ} → ParseRoom e msg nest base left s → length nest ≡ 0
-        → ParseTold e msg base left role nullable s (walked.Done s₁) S S₁ T T₁
+        → ParseTold e msg base left role projection nullable s (walked.Done s₁) S S₁ T T₁
     parse-stops h k = stops (h .room) k

@@ -10,6 +10,7 @@ use Rattle.sheet.specs.Rows.{sheetFrom, texts}
 use Rattle.sheet.specs.told.Put.{PutRows}
 use Rattle.sheet.specs.declared.State.{State}
 use Rattle.sheet.proofs.PutLaws.{put-none}
+use Rattle.declaration_rows.specs.Declarations.{invariant}
 use Rattle.schema.specs.Reading.{Scope}
 use Rattle.schema.specs.Types.{declaredType}
 use Rattle.declaration_rows.specs.Rows.{typeRows}
@@ -30,8 +31,8 @@ none-put role s S T = put-none s S T
 module _ {e : Lent} {msg : List ℕ} {base inline byIndex role : ℕ} {s : State} {r : Picked} {S S′ T T′ : List ℕ}
     (t : DeclaredTold e msg base inline byIndex role s r S S′ T T′) where
   here : {y : Picked} → r ≡ y → (c : Scope) → Scoped e c → (m : Message) → cut (_from_ base msg) ≡ ok m
-      → PickedTold (declaredType c inline byIndex m (s .types)) (rowsIn role) s y S S′ T T′
-  here g c o m k = subst (λ (y : Picked). PickedTold (declaredType c inline byIndex m (s .types)) (rowsIn role) s y S S′ T T′) g (t .is c o m k)
+      → PickedTold (declaredType c inline byIndex m (s .types)) (rowsIn role invariant) s y S S′ T T′
+  here g c o m k = subst (λ (y : Picked). PickedTold (declaredType c inline byIndex m (s .types)) (rowsIn role invariant) s y S S′ T T′) g (t .is c o m k)
 
   optional-kept : {s′ : State} → r ≡ picked.Kept s′ → OptionalTold e msg base inline byIndex role s (walked.Done s′) S S′ T T′
   optional-kept g = record {
@@ -71,6 +72,6 @@ walked-optional s (walked.Done s′) = refl
 walked-optional s (walked.Refused stop) = refl
 
 pub looked : {e : Lent} {index role : ℕ} {s : State} (p : Picked) {w : Walked} {S S′ T T′ : List ℕ}
-    → ResolveTold e index 64 role s p S S′ T T′ → w ≡ optionalOf s p
+    → ResolveTold e index 64 role invariant s p S S′ T T′ → w ≡ optionalOf s p
     → LookedTold e index role s w S S′ T T′
 looked p t q = record { found = p; told = t; is = q }

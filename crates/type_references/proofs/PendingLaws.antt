@@ -4,8 +4,9 @@ use mathlib.Core.Path.{_≡_, refl, ap, sym, subst, _∙_}
 use mathlib.Core.Bool.{false}
 use mathlib.Core.List.{List, [], _∷_, _++_, append-nil, append-assoc}
 use mathlib.Core.Option.{Option, none, some}
-use Prim.Native.Nat.{ℕ, _+_}
+use Prim.Native.Nat.{ℕ, zero, suc, _+_}
 use native.Mathlib.Omega.{arith}
+use Rattle.foundation.specs.Choices.{mapOption}
 use Rattle.foundation.specs.Results as Results
 use Rattle.foundation.specs.Results.{Res, ok, refused, Cause}
 use Rattle.fields.specs.Fields.{Type·Argument·type, Type·Argument·type-id}
@@ -16,16 +17,19 @@ use Rattle.sheet.specs.Rows.{Row, sheetFrom, texts}
 use Rattle.sheet.specs.told.Put.{PutRows}
 use Rattle.sheet.specs.declared.State.{State}
 use Rattle.sheet.proofs.PutLaws.{put-none, rows-then}
-use Rattle.declaration_rows.specs.Declarations.{Ty}
-use Rattle.schema.specs.Reading.{Read, pure, keep, kept, Scope, allowance}
-use Rattle.schema.specs.Types.{resolveAt, typeIn, argumentIn, typeAt}
-use Rattle.declaration_rows.specs.Rows.{argumentRole, typesRows, typeRows}
-use Rattle.schema.specs.told.SchemaTold.{WalkedTold}
+use Rattle.declaration_rows.specs.Declarations.{star, Ty, Argument, projected, blank}
+use Rattle.schema.specs.Reading.{Read, pure, enter, keep, kept, Scope, allowance}
+use Rattle.schema.specs.Types.{resolveAt, typeIn, projectionIn, argumentIn, typeAt}
+use Rattle.declaration_rows.specs.Rows.{argumentRole, typesRows}
+use Rattle.schema.specs.told.ArgumentTold.{NoStar}
+use Rattle.schema.specs.told.SchemaTold.{WalkedTold, PickedTold}
 use Rattle.schema.specs.told.TypesTold.{orNullable, rowsIn}
 use Rattle.schema.specs.declared.Walked.{Walked}
 use Rattle.schema.specs.declared.Walked.the-variants as walked
-use Rattle.schema.proofs.ArgumentLaws.{types-cons}
-use Rattle.type_references.specs.told.Pending.{rowsRead, prefixed, argumentRows, Wait, waits, pending}
+use Rattle.schema.specs.declared.Picked.{Picked}
+use Rattle.schema.specs.declared.Picked.the-variants as picked
+use Rattle.schema.proofs.ArgumentLaws.{types-cons, argument-star, argument-typed}
+use Rattle.type_references.specs.told.Pending.{rowsRead, prefixed, shownRows, keptRows, argumentRows, Wait, waits, pending}
 
 -- Some rows, then those that are read.
 pub prefixed-none : (r : Res (List Row × ℕ)) → prefixed [] r ≡ r
@@ -75,21 +79,28 @@ followed-both : (r : Res (List Row × ℕ)) (f g : Read (List Row)) → followed
 followed-both (ok r) f g = followed-prefixed (r .0) (f (r .1)) g
 followed-both (refused k p) f g = refl
 
+-- the type of an argument, and the argument that a type makes
+abbrev pub argumentType : Scope → ℕ → Message → Read (Option Ty)
+argumentType c d m = typeIn (typeAt allowance c) c d Type·Argument·type Type·Argument·type-id m
+
+abbrev pub withProjection : ℕ → Res (Option Ty × ℕ) → Res (Option Argument × ℕ)
+withProjection p r = Results._>>=_ r λ q. pure (mapOption (projected p) (q .0)) (q .1)
+
 -- of an argument, and of those after it
-kept-rows : (f : Message → Read (Option Ty)) (m : Message) (ms : List Message) (l : ℕ)
-    → rowsRead argumentRows (kept f (m ∷ ms) l) ≡ followed (rowsRead (typeRows argumentRole) (f m l)) λ b. rowsRead argumentRows (kept f ms b)
+kept-rows : (f : Message → Read (Option Argument)) (m : Message) (ms : List Message) (l : ℕ)
+    → rowsRead argumentRows (kept f (m ∷ ms) l) ≡ followed (rowsRead keptRows (f m l)) λ b. rowsRead argumentRows (kept f ms b)
 unfolding kept
 kept-rows f m ms l = go (f m l)
   where
-    one : (o : Option Ty) (r : Res (List Ty × ℕ))
-        → rowsRead argumentRows (Results._>>=_ r λ q. pure (keep o (q .0)) (q .1)) ≡ prefixed (typeRows argumentRole o) (rowsRead argumentRows r)
+    one : (o : Option Argument) (r : Res (List Argument × ℕ))
+        → rowsRead argumentRows (Results._>>=_ r λ q. pure (keep o (q .0)) (q .1)) ≡ prefixed (keptRows o) (rowsRead argumentRows r)
     one none (ok q) = refl
     one (some t) (ok q) = ap (λ (rs : List Row). ok (rs, q .1)) (sym (types-cons argumentRole t (q .0)))
     one o (refused k p) = refl
 
-    go : (r : Res (Option Ty × ℕ))
+    go : (r : Res (Option Argument × ℕ))
         → rowsRead argumentRows (Results._>>=_ r λ a. Results._>>=_ (kept f ms (a .1)) λ q. pure (keep (a .0) (q .0)) (q .1))
-        ≡ followed (rowsRead (typeRows argumentRole) r) λ b. rowsRead argumentRows (kept f ms b)
+        ≡ followed (rowsRead keptRows r) λ b. rowsRead argumentRows (kept f ms b)
     go (ok a) = one (a .0) (kept f ms (a .1))
     go (refused k p) = refl
 
@@ -103,7 +114,7 @@ module _ (c : Scope) (d : ℕ) (ws : List Wait) (l : ℕ) where
       one rs (ok q) = refl
       one rs (refused k p) = refl
 
-      go : (r : Res (List Ty × ℕ))
+      go : (r : Res (List Argument × ℕ))
           → Results._>>=_ r (λ a. Results._>>=_ (pending c ws (a .1)) λ q. pure (argumentRows (a .0) ++ q .0) (q .1)) ≡ followed (rowsRead argumentRows r) (pending c ws)
       go (ok a) = one (argumentRows (a .0)) (pending c ws (a .1))
       go (refused k p) = refl
@@ -114,12 +125,12 @@ module _ (c : Scope) (d : ℕ) (ws : List Wait) (l : ℕ) where
 
 module _ (c : Scope) (d : ℕ) (ws : List Wait) (l : ℕ) (m : Message) (ms : List Message) where
   pending-first : pending c (waits d (m ∷ ms) ∷ ws) l
-      ≡ followed (rowsRead (typeRows argumentRole) (argumentIn (typeAt allowance c) c d m l)) (pending c (waits d ms ∷ ws))
+      ≡ followed (rowsRead keptRows (argumentIn (typeAt allowance c) c d m l)) (pending c (waits d ms ∷ ws))
   pending-first =
       pending-is c d ws l (m ∷ ms)
       ∙ ap (λ (r : Res (List Row × ℕ)). followed r (pending c ws)) (kept-rows (argumentIn (typeAt allowance c) c d) m ms l)
-      ∙ followed-both (rowsRead (typeRows argumentRole) (argumentIn (typeAt allowance c) c d m l)) (λ b. rowsRead argumentRows (kept (argumentIn (typeAt allowance c) c d) ms b)) (pending c ws)
-      ∙ go (rowsRead (typeRows argumentRole) (argumentIn (typeAt allowance c) c d m l))
+      ∙ followed-both (rowsRead keptRows (argumentIn (typeAt allowance c) c d m l)) (λ b. rowsRead argumentRows (kept (argumentIn (typeAt allowance c) c d) ms b)) (pending c ws)
+      ∙ go (rowsRead keptRows (argumentIn (typeAt allowance c) c d m l))
     where
       go : (r : Res (List Row × ℕ))
           → followed r (λ b. followed (rowsRead argumentRows (kept (argumentIn (typeAt allowance c) c d) ms b)) (pending c ws)) ≡ followed r (pending c (waits d ms ∷ ws))
@@ -129,55 +140,93 @@ module _ (c : Scope) (d : ℕ) (ws : List Wait) (l : ℕ) (m : Message) (ms : Li
   pub pending-dropped : argumentIn (typeAt allowance c) c d m l ≡ ok (none, l) → pending c (waits d (m ∷ ms) ∷ ws) l ≡ pending c (waits d ms ∷ ws) l
   pending-dropped e = pending-first ∙ rw e (prefixed-none (pending c (waits d ms ∷ ws) l))
 
-  pub pending-kept : {t : Ty} {b : ℕ} → argumentIn (typeAt allowance c) c d m l ≡ ok (some t, b)
-      → pending c (waits d (m ∷ ms) ∷ ws) l ≡ prefixed (rowsIn argumentRole t) (pending c (waits d ms ∷ ws) b)
+  pub pending-kept : {a : Argument} {b : ℕ} → argumentIn (typeAt allowance c) c d m l ≡ ok (some a, b)
+      → pending c (waits d (m ∷ ms) ∷ ws) l ≡ prefixed (shownRows a) (pending c (waits d ms ∷ ws) b)
   pending-kept e = pending-first ∙ rw e
 
   pub pending-refused : {k : Cause} {p : ℕ} → argumentIn (typeAt allowance c) c d m l ≡ refused k p → pending c (waits d (m ∷ ms) ∷ ws) l ≡ refused k p
   pending-refused e = pending-first ∙ rw e
 
   -- a type inline
-  inline-rows : {inner : Message} → message Type·Argument·type m ≡ ok (some inner)
-      → rowsRead (typeRows argumentRole) (argumentIn (typeAt allowance c) c d m l)
-      ≡ rowsRead (λ t. rowsIn argumentRole (orNullable false t)) (typeAt allowance c d inner l)
-  unfolding argumentIn typeIn
-  inline-rows {inner} e = rw e (go (typeAt allowance c d inner l))
+  inline-rows : {p : ℕ} → NoStar p m → {inner : Message} → message Type·Argument·type m ≡ ok (some inner)
+      → rowsRead keptRows (argumentIn (typeAt allowance c) c d m l)
+      ≡ rowsRead (λ t. rowsIn argumentRole p (orNullable false t)) (typeAt allowance c d inner l)
+  unfolding typeIn
+  inline-rows {p} n {inner} e =
+      ap (λ (r : Read (Option Argument)). rowsRead keptRows (r l)) (argument-typed (typeAt allowance c) c d m n)
+      ∙ rw e (go (typeAt allowance c d inner l))
     where
-      go : (r : Res (Ty × ℕ)) → rowsRead (typeRows argumentRole) (Results._>>=_ r λ q. pure (some (q .0)) (q .1)) ≡ rowsRead (λ t. rowsIn argumentRole (orNullable false t)) r
+      go : (r : Res (Ty × ℕ))
+          → rowsRead keptRows (withProjection p (Results._>>=_ r λ q. pure (some (q .0)) (q .1))) ≡ rowsRead (λ t. rowsIn argumentRole p (orNullable false t)) r
       go (ok r) = refl
       go (refused k p) = refl
 
-  pub pending-entered : {inner : Message} → message Type·Argument·type m ≡ ok (some inner) → (own : List Row) (ms′ : List Message) (l′ : ℕ)
-      → rowsRead (λ t. rowsIn argumentRole (orNullable false t)) (typeAt allowance c d inner l)
+  pub pending-entered : {p : ℕ} → NoStar p m → {inner : Message} → message Type·Argument·type m ≡ ok (some inner) → (own : List Row) (ms′ : List Message) (l′ : ℕ)
+      → rowsRead (λ t. rowsIn argumentRole p (orNullable false t)) (typeAt allowance c d inner l)
       ≡ prefixed own (rowsRead argumentRows (kept (argumentIn (typeAt allowance c) c (d + 1)) ms′ l′))
       → pending c (waits d (m ∷ ms) ∷ ws) l ≡ prefixed own (pending c (waits (d + 1) ms′ ∷ (waits d ms ∷ ws)) l′)
-  pending-entered {inner} e own ms′ l′ f =
+  pending-entered n {inner} e own ms′ l′ f =
       let inside = rowsRead argumentRows (kept (argumentIn (typeAt allowance c) c (d + 1)) ms′ l′) in
       pending-first
-      ∙ ap (λ (r : Res (List Row × ℕ)). followed r (pending c (waits d ms ∷ ws))) (inline-rows e ∙ f)
+      ∙ ap (λ (r : Res (List Row × ℕ)). followed r (pending c (waits d ms ∷ ws))) (inline-rows n e ∙ f)
       ∙ followed-prefixed own inside (pending c (waits d ms ∷ ws))
       ∙ ap (prefixed own) (sym (pending-is c (d + 1) (waits d ms ∷ ws) l′ ms′))
 
--- An argument, by where its type is.
-module _ (c : Scope) (d : ℕ) (m : Message) (l : ℕ) where
-  pub argument-uncut : {k : Cause} {p : ℕ} → message Type·Argument·type m ≡ refused k p → argumentIn (typeAt allowance c) c d m l ≡ refused k p
-  unfolding argumentIn typeIn
-  argument-uncut e = rw e
+-- A star.
+pub star-read : (c : Scope) (d : ℕ) (m : Message) (l : ℕ) → projectionIn m ≡ star → {r : Res (Argument × ℕ)} → enter (pure (projected star blank)) l ≡ r
+    → argumentIn (typeAt allowance c) c d m l ≡ Results._>>=_ r λ q. pure (some (q .0)) (q .1)
+star-read c d m l h {r} e = ap (λ (x : Read (Option Argument)). x l) (argument-star (typeAt allowance c) c d m h) ∙ go l e
+  where
+    go : (l : ℕ) → enter (pure (projected star blank)) l ≡ r → enter (pure (some (projected star blank))) l ≡ Results._>>=_ r λ q. pure (some (q .0)) (q .1)
+    go zero f = ap (λ (x : Res (Argument × ℕ)). Results._>>=_ x λ q. pure (some (q .0)) (q .1)) f
+    go (suc l) f = ap (λ (x : Res (Argument × ℕ)). Results._>>=_ x λ q. pure (some (q .0)) (q .1)) f
 
-  pub argument-unentered : {inner : Message} → message Type·Argument·type m ≡ ok (some inner) → {k : Cause} {p : ℕ}
-      → typeAt allowance c d inner l ≡ refused k p → argumentIn (typeAt allowance c) c d m l ≡ refused k p
-  unfolding argumentIn typeIn
-  argument-unentered e f = rw (e, f)
+-- The type of another argument, by where it is.
+module _ (c : Scope) (d : ℕ) (m : Message) (l : ℕ) where
+  type-uncut : {k : Cause} {p : ℕ} → message Type·Argument·type m ≡ refused k p → argumentType c d m l ≡ refused k p
+  unfolding typeIn
+  type-uncut e = rw e
+
+  type-unentered : {inner : Message} → message Type·Argument·type m ≡ ok (some inner) → {k : Cause} {p : ℕ}
+      → typeAt allowance c d inner l ≡ refused k p → argumentType c d m l ≡ refused k p
+  unfolding typeIn
+  type-unentered e f = rw (e, f)
 
   module _ (e : message Type·Argument·type m ≡ ok none) where
-    pub argument-nowhere : index Type·Argument·type-id m ≡ none → argumentIn (typeAt allowance c) c d m l ≡ ok (none, l)
-    unfolding argumentIn typeIn
-    argument-nowhere f = rw (e, f)
+    pub type-nowhere : index Type·Argument·type-id m ≡ none → argumentType c d m l ≡ ok (none, l)
+    unfolding typeIn
+    type-nowhere f = rw (e, f)
 
-    pub argument-indexed : {i : ℕ} → index Type·Argument·type-id m ≡ some i
-        → argumentIn (typeAt allowance c) c d m l ≡ resolveAt (typeAt allowance c) c d i l
-    unfolding argumentIn typeIn
-    argument-indexed f = rw (e, f)
+    pub type-indexed : {i : ℕ} → index Type·Argument·type-id m ≡ some i → argumentType c d m l ≡ resolveAt (typeAt allowance c) c d i l
+    unfolding typeIn
+    type-indexed f = rw (e, f)
+
+  -- the argument that it makes
+  module _ {p : ℕ} (n : NoStar p m) where
+    pub argument-reads : argumentIn (typeAt allowance c) c d m l ≡ withProjection p (argumentType c d m l)
+    argument-reads = ap (λ (r : Read (Option Argument)). r l) (argument-typed (typeAt allowance c) c d m n)
+
+    pub argument-uncut : {k : Cause} {q : ℕ} → message Type·Argument·type m ≡ refused k q → argumentIn (typeAt allowance c) c d m l ≡ refused k q
+    argument-uncut e = argument-reads ∙ ap (withProjection p) (type-uncut e)
+
+    pub argument-unentered : {inner : Message} → message Type·Argument·type m ≡ ok (some inner) → {k : Cause} {q : ℕ}
+        → typeAt allowance c d inner l ≡ refused k q → argumentIn (typeAt allowance c) c d m l ≡ refused k q
+    argument-unentered e f = argument-reads ∙ ap (withProjection p) (type-unentered e f)
+
+    module _ (e : message Type·Argument·type m ≡ ok none) where
+      pub argument-nowhere : index Type·Argument·type-id m ≡ none → argumentIn (typeAt allowance c) c d m l ≡ ok (none, l)
+      argument-nowhere f = argument-reads ∙ ap (withProjection p) (type-nowhere e f)
+
+      pub argument-indexed : {i : ℕ} → index Type·Argument·type-id m ≡ some i
+          → argumentIn (typeAt allowance c) c d m l ≡ withProjection p (resolveAt (typeAt allowance c) c d i l)
+      argument-indexed f = argument-reads ∙ ap (withProjection p) (type-indexed e f)
+
+-- What may not be there, as an argument of that projection.
+pub picked-projected : (p : ℕ) (r : Res (Option Ty × ℕ)) (s : State) (z : Picked) (S S′ T T′ : List ℕ) → PickedTold r (rowsIn argumentRole p) s z S S′ T T′
+    → PickedTold (withProjection p r) shownRows s z S S′ T T′
+picked-projected p r s (picked.Kept s′) S S′ T T′ (t, b, e, put) = (projected p t, b, ap (withProjection p) e, put)
+picked-projected p r s picked.Dropped S S′ T T′ (e, f, g) = (ap (withProjection p) e, f, g)
+picked-projected p r s (picked.Refused stop) S S′ T T′ e = ap (withProjection p) e
 
 -- A walk of arguments that wait: the rows written so far, then those of what waits, are the whole's.
 pub record Continues (whole : Res (List Row × ℕ)) (c : Scope) (ws : List Wait) (s₀ s : State) (S₀ S T₀ T : List ℕ) : Type 0 where

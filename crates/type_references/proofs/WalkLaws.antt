@@ -27,11 +27,13 @@ use Rattle.sheet.specs.Rows.{Row}
 use Rattle.sheet.specs.told.Put.{PutRows}
 use Rattle.sheet.specs.declared.State.{State}
 use Rattle.sheet.proofs.PutLaws.{put-types, put-left}
-use Rattle.declaration_rows.specs.Declarations.{Ty}
-use Rattle.schema.specs.Reading.{kept, Scope, allowance}
+use Rattle.declaration_rows.specs.Declarations as declaration
+use Rattle.declaration_rows.specs.Declarations.{star, projected, blank}
+use Rattle.schema.specs.Reading.{pure, enter, kept, Scope, allowance}
 use Rattle.schema.specs.Types.{maxDepth, resolveAt, argumentIn, typeAt}
 use Rattle.declaration_rows.specs.Rows.{argumentRole}
-use Rattle.schema.specs.told.SchemaTold.{Lent, Scoped, Ready, Spends, WalkedSpends, PickedSpends, PickedTold, stopRefused}
+use Rattle.schema.specs.told.SchemaTold.{Lent, Scoped, Ready, Spends, WalkedSpends, PickedSpends, WalkedTold, PickedTold, stopRefused}
+use Rattle.schema.specs.told.ArgumentTold.{NoStar}
 use Rattle.schema.specs.told.TypesTold.{orNullable, rowsIn, ResolveTold}
 use Rattle.schema.specs.declared.Tables.{Tables}
 use Rattle.schema.specs.declared.Stop.{Stop}
@@ -45,6 +47,7 @@ use Rattle.schema.proofs.ListLaws.{cut-first}
 use Rattle.type_references.specs.told.Pending.{
   rowsRead,
   prefixed,
+  shownRows,
   argumentRows,
   Wait,
   waits,
@@ -65,6 +68,7 @@ use Rattle.type_references.specs.told.ParseTold.{
   EnteredIs,
   EnteredOne,
   EnterTold,
+  StarTold,
   ArgumentsTold,
   WaitingRoom,
   asTypes,
@@ -88,6 +92,8 @@ use Rattle.type_references.proofs.PendingLaws.{
   argument-unentered,
   argument-nowhere,
   argument-indexed,
+  star-read,
+  picked-projected,
   Continues,
   continues-start,
   continues-same,
@@ -195,9 +201,9 @@ module _ {told : Res (List Row × ℕ)} {c : Scope} {base : ℕ} {msg nest : Lis
           (first-is ∙ pending-dropped c (o .wait .depth) (o .later) (s .types) (n .first) (n .others) h);
     }
 
-    goes-kept : (s′ : State) (S′ T′ : List ℕ) {t : Ty} {l : ℕ} → argumentIn (typeAt allowance c) c (o .wait .depth) (n .first) (s .types) ≡ ok (some t, l)
-        → PutRows (rowsIn argumentRole t) l s s′ S S′ T T′ → Goes told c base msg nest′ height b end deep s₀ s′ S₀ S′ T₀ T′
-    goes-kept s′ S′ T′ {t} {l} h p =
+    goes-kept : (s′ : State) (S′ T′ : List ℕ) {x : declaration.Argument} {l : ℕ} → argumentIn (typeAt allowance c) c (o .wait .depth) (n .first) (s .types) ≡ ok (some x, l)
+        → PutRows (shownRows x) l s s′ S S′ T T′ → Goes told c base msg nest′ height b end deep s₀ s′ S₀ S′ T₀ T′
+    goes-kept s′ S′ T′ {x} {l} h p =
         let z : l ≡ s′ .types = sym (put-types p) in
         let later = pending-kept c (o .wait .depth) (o .later) (s .types) (n .first) (n .others) h in
         let rest : List Wait = waits (o .wait .depth) (n .others) ∷ o .later in
@@ -207,26 +213,26 @@ module _ {told : Res (List Row × ℕ)} {c : Scope} {base : ℕ} {msg nest : Lis
           here = n .rest;
           stacked = stacked-same nest nest′ base msg height (o .later) f (o .stacked);
           continues =
-              continues-written (o .continues) rest (rowsIn argumentRole t) s′ S′ T′
-              (first-is ∙ later ∙ ap (λ (k : ℕ). prefixed (rowsIn argumentRole t) (pending c rest k)) z) (put-left p z);
+              continues-written (o .continues) rest (shownRows x) s′ S′ T′
+              (first-is ∙ later ∙ ap (λ (k : ℕ). prefixed (shownRows x) (pending c rest k)) z) (put-left p z);
         }
 
   -- a type inside: what is left here waits, the type's own arguments come first
   goes-entered : (nest′ : List ℕ) → height < length nest → nest′ ≡ set nest height (waitingCode b end deep) → b ≤ 32768 → end ≤ 32768
-      → {inner : Message} → message Type·Argument·type (n .first) ≡ ok (some inner)
+      → {projection : ℕ} → NoStar projection (n .first) → {inner : Message} → message Type·Argument·type (n .first) ≡ ok (some inner)
       → (x y deep′ : ℕ) (ms : List Message) → Pends base msg x y deep′ (waits (o .wait .depth + 1) ms)
       → (own : List Row) (s′ : State) (S′ T′ : List ℕ) → PutRows own (s′ .types) s s′ S S′ T T′
-      → rowsRead (λ t. rowsIn argumentRole (orNullable false t)) (typeAt allowance c (o .wait .depth) inner (s .types))
+      → rowsRead (λ t. rowsIn argumentRole projection (orNullable false t)) (typeAt allowance c (o .wait .depth) inner (s .types))
       ≡ prefixed own (rowsRead argumentRows (kept (argumentIn (typeAt allowance c) c (o .wait .depth + 1)) ms (s′ .types)))
       → Goes told c base msg nest′ (height + 1) x y deep′ s₀ s′ S₀ S′ T₀ T′
-  goes-entered nest′ room e h k i x y deep′ ms p own s′ S′ T′ q r = record {
+  goes-entered nest′ room e h k typed i x y deep′ ms p own s′ S′ T′ q r = record {
     wait = waits (o .wait .depth + 1) ms;
     later = waits (o .wait .depth) (n .others) ∷ o .later;
     here = p;
     stacked = stacked-push nest height b end deep room e h k base msg (waits (o .wait .depth) (n .others)) (o .later) (n .rest) (o .stacked);
     continues =
         continues-written (o .continues) (waits (o .wait .depth + 1) ms ∷ (waits (o .wait .depth) (n .others) ∷ o .later)) own s′ S′ T′
-        (first-is ∙ pending-entered c (o .wait .depth) (o .later) (s .types) (n .first) (n .others) i own ms (s′ .types) r) q;
+        (first-is ∙ pending-entered c (o .wait .depth) (o .later) (s .types) (n .first) (n .others) typed i own ms (s′ .types) r) q;
   }
 
 -- what the lent area holds last
@@ -380,7 +386,7 @@ module _ {e : Lent} {msg : List ℕ} {base left : ℕ} {s₀ : State} {S₀ T₀
           loop-passed v = loop-on s S T nest refl (spends-none s) λ c o told go.
               let n = next-argument go in
               let i = argument-is v (n .first) (n .cuts) in
-              goes-dropped go n nest refl (argument-nowhere c (go .wait .depth) (n .first) (s .types) (i .0) (i .1))
+              goes-dropped go n nest refl (argument-nowhere c (go .wait .depth) (n .first) (s .types) (i .2) (i .0) (i .1))
 
           -- what refuses an argument refuses them all
           refused-all : (stop : Stop) → ((c : Scope) → Scoped e c → (m : Message) → cut (partBetween base msg a b) ≡ ok m → (d : ℕ) → deep ≡ maxDepth - d
@@ -397,27 +403,46 @@ module _ {e : Lent} {msg : List ℕ} {base left : ℕ} {s₀ : State} {S₀ T₀
 
           pub loop-uncut : {error : WireError} → r ≡ argument.Refused error → {S′ T′ : List ℕ}
               → ArgumentsTold e msg base left s₀ (walked.Refused (stop.Wire error)) S₀ S′ T₀ T′
-          loop-uncut {error} v = refused-all (stop.Wire error) λ c o m k d l. argument-uncut c d m (s .types) (argument-is v m k)
+          loop-uncut {error} v = refused-all (stop.Wire error) λ c o m k d l.
+              let i = argument-is v m k in
+              argument-uncut c d m (s .types) (i .1) (i .0)
+
+          -- a star
+          module _ (v : r ≡ argument.Star) {w : Walked} {S′ T′ : List ℕ} (n : StarTold s w S S′ T T′) where
+            star-is : {z : Walked} → w ≡ z → WalkedTold (enter (pure (projected star blank)) (s .types)) shownRows s z S S′ T T′
+            star-is h = subst (λ (z : Walked). WalkedTold (enter (pure (projected star blank)) (s .types)) shownRows s z S S′ T T′) h (n .is)
+
+            pub loop-unstarred : {stop : Stop} → w ≡ walked.Refused stop → ArgumentsTold e msg base left s₀ w S₀ S′ T₀ T′
+            loop-unstarred {stop} h =
+                let told : ArgumentsTold e msg base left s₀ (walked.Refused stop) S₀ S′ T₀ T′ =
+                refused-all stop λ c o m k d l. star-read c d m (s .types) (argument-is v m k) (star-is h) in
+                subst (λ (z : Walked). ArgumentsTold e msg base left s₀ z S₀ S′ T₀ T′) (sym h) told
+
+            pub loop-starred : {s′ : State} → w ≡ walked.Done s′ → Looping e msg base left s₀ S₀ T₀ b end deep height s′ S′ T′ nest
+            loop-starred {s′} h = loop-on s′ S′ T′ nest refl (subst (WalkedSpends s) h (n .spends)) λ c o told go.
+                let next = next-argument go in
+                let it = star-is h in
+                goes-kept go next nest refl s′ S′ T′ (star-read c (go .wait .depth) (next .first) (s .types) (argument-is v (next .first) (next .cuts)) (it .2)) (it .3)
 
           -- its type inline, from `first` to `last`
-          module _ {first last : ℕ} (v : r ≡ argument.Inline first last) where
+          module _ {projection first last : ℕ} (v : r ≡ argument.Inline projection first last) where
             pub inline-in : (a < first) × (first ≤ last) × (last ≤ b) × (last ≤ length msg)
             inline-in =
                 let i = subst (ArgumentInside a b) v (u .inside) in
                 (i .0, i .1, i .2, omega (arith, i .2, body-in))
 
-            module _ {w : Walked} {S′ T′ : List ℕ} (n : EnterTold e (take (last - first) (drop first msg)) (base + first) deep argumentRole false s w S S′ T T′) where
+            module _ {w : Walked} {S′ T′ : List ℕ} (n : EnterTold e (take (last - first) (drop first msg)) (base + first) deep argumentRole projection false s w S S′ T T′) where
               entered-is : {z : Walked} → w ≡ z → (c : Scope) → Scoped e c → (m : Message) (k : cut (partBetween base msg a b) ≡ ok m) (d : ℕ) → deep ≡ maxDepth - d
-                  → EnteredIs c d (argument-is v m k .0) argumentRole false s z S S′ T T′
+                  → EnteredIs c d (argument-is v m k .0) argumentRole projection false s z S S′ T T′
               entered-is {z} h c o m k d l =
                   let i = argument-is v m k in
-                  subst (λ (z : Walked). EnteredIs c d (i .0) argumentRole false s z S S′ T T′) h (n .is c o (i .0) (i .1) d l)
+                  subst (λ (z : Walked). EnteredIs c d (i .0) argumentRole projection false s z S S′ T T′) h (n .is c o (i .0) (i .1) d l)
 
               pub loop-unentered : {stop : Stop} → w ≡ walked.Refused stop → ArgumentsTold e msg base left s₀ w S₀ S′ T₀ T′
               loop-unentered {stop} h =
                   let told : ArgumentsTold e msg base left s₀ (walked.Refused stop) S₀ S′ T₀ T′ =
                   refused-all stop λ c o m k d l.
-                  argument-unentered c d m (s .types) (argument-is v m k .2) (entered-is h c o m k d l) in
+                  argument-unentered c d m (s .types) (argument-is v m k .3) (argument-is v m k .2) (entered-is h c o m k d l) in
                   subst (λ (z : Walked). ArgumentsTold e msg base left s₀ z S₀ S′ T₀ T′) (sym h) told
 
               module _ {s′ : State} (h : w ≡ walked.Done s′) where
@@ -465,7 +490,7 @@ module _ {e : Lent} {msg : List ℕ} {base left : ℕ} {s₀ : State} {S₀ T₀
                           many = in-it .2;
                           deep = omega (arith, go .here .deep);
                         } in
-                        goes-entered go next nest′ room p (few-here .0) (few-here .1) (i .2) first last deep′ (in-it .0) inner (in-it .1) s′ S′ T′
+                        goes-entered go next nest′ room p (few-here .0) (few-here .1) (i .3) (i .2) first last deep′ (in-it .0) inner (in-it .1) s′ S′ T′
                         (in-it .3) (in-it .4);
                   }
 
@@ -475,14 +500,16 @@ module _ {e : Lent} {msg : List ℕ} {base left : ℕ} {s₀ : State} {S₀ T₀
                       omega (arith, pushed, inline-in, body-in)
 
           -- its type by an index
-          module _ {i : ℕ} (v : r ≡ argument.ByIndex i) {p : Picked} {S′ T′ : List ℕ} (n : ResolveTold e i deep argumentRole s p S S′ T T′) where
+          module _ {projection i : ℕ} (v : r ≡ argument.ByIndex projection i) {p : Picked} {S′ T′ : List ℕ}
+              (n : ResolveTold e i deep argumentRole projection s p S S′ T T′) where
             resolved-is : {z : Picked} → p ≡ z → (c : Scope) → Scoped e c → (m : Message) → cut (partBetween base msg a b) ≡ ok m → (d : ℕ) → deep ≡ maxDepth - d
-                → PickedTold (argumentIn (typeAt allowance c) c d m (s .types)) (rowsIn argumentRole) s z S S′ T T′
+                → PickedTold (argumentIn (typeAt allowance c) c d m (s .types)) shownRows s z S S′ T T′
             resolved-is {z} h c o m k d l =
                 let j = argument-is v m k in
-                let same = argument-indexed c d m (s .types) (j .0) (j .1) in
-                subst (λ (r : Res (Option Ty × ℕ)). PickedTold r (rowsIn argumentRole) s z S S′ T T′) (sym same)
-                (subst (λ (z : Picked). PickedTold (resolveAt (typeAt allowance c) c d i (s .types)) (rowsIn argumentRole) s z S S′ T T′) h (n .is c o d l))
+                let same = argument-indexed c d m (s .types) (j .2) (j .0) (j .1) in
+                let found = subst (λ (z : Picked). PickedTold (resolveAt (typeAt allowance c) c d i (s .types)) (rowsIn argumentRole projection) s z S S′ T T′) h (n .is c o d l) in
+                subst (λ (r : Res (Option declaration.Argument × ℕ)). PickedTold r shownRows s z S S′ T T′) (sym same)
+                (picked-projected projection (resolveAt (typeAt allowance c) c d i (s .types)) s z S S′ T T′ found)
 
             pub loop-refused : {stop : Stop} → p ≡ picked.Refused stop → ArgumentsTold e msg base left s₀ (walked.Refused stop) S₀ S′ T₀ T′
             loop-refused {stop} h = refused-all stop λ c o m k d l. resolved-is h c o m k d l

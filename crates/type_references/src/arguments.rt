@@ -3,22 +3,20 @@ ghost use Prim.Native.Nat.{_+_, _≤_};
 ghost use lib.ListN.{length};
 ghost use Rattle.type_references.specs.told.ParseTold.{TypeFieldTold, ArgumentTold, KeptTold, CountTold};
 use fields::TYPE_ARGUMENT;
-use fields::TYPE_ARGUMENT_TYPE;
-use fields::TYPE_ARGUMENT_TYPE_ID;
 use messages::Checked;
 use messages::Indexed;
-use messages::bytes;
 use messages::check_from;
 use messages::find_two;
-use messages::index;
 use messages::next_body;
 use schema::Tables;
+use schema::argument::ArgumentHead;
+use schema::argument::argument_head;
 use schema::types::entry_at;
 use wire::Piece;
 use wire::WireError;
 
-// The type of an argument or of a declaration: inline, by its index, or not there.
-pub(crate) enum Argument {
+// The type of a declaration: inline, by its index, or not there.
+pub(crate) enum TypeField {
     Inline { start: usize, end: usize },
     ByIndex { index: u32 },
     Nothing,
@@ -26,7 +24,7 @@ pub(crate) enum Argument {
 }
 
 // The type in a message: inline in one field, else by its index in another.
-pub(crate) fn type_field(msg: &[u8], base: u32, inline: u32, indexed: u32) -> Argument
+pub(crate) fn type_field(msg: &[u8], base: u32, inline: u32, indexed: u32) -> TypeField
     ensures { λ r. ⌜ TypeFieldTold base (now (msg .entry)) inline indexed r ⌝ }
 {
     let found = find_two(&*msg, base, inline, indexed);
@@ -36,44 +34,71 @@ pub(crate) fn type_field(msg: &[u8], base: u32, inline: u32, indexed: u32) -> Ar
         let second = found.second;
         let at = second.index();
         let Indexed::At { index } = at else {
-            return Argument::Nothing;
+            return TypeField::Nothing;
         };
-        return Argument::ByIndex { index };
+        return TypeField::ByIndex { index };
     };
     let checked = check_from(&msg[..end], base, start);
     let Checked::Whole = checked else {
-        return Argument::Refused {
+        return TypeField::Refused {
             error: checked.error(),
         };
     };
-    Argument::Inline { start, end }
+    TypeField::Inline { start, end }
 }
 
-// The argument from a place to another of a message, whose first byte has the offset `base`.
+// An argument: a star, or its projection and its type, which is inline, by its index, or not there.
+pub(crate) enum Argument {
+    Star,
+    Inline {
+        projection: u8,
+        start: usize,
+        end: usize,
+    },
+    ByIndex {
+        projection: u8,
+        index: u32,
+    },
+    Nothing,
+    Refused {
+        error: WireError,
+    },
+}
+
+// The argument from a place to another of a message, whose first byte has the offset `base`. A type that is inline is cut; that of a star is not.
 // It requires that the part lies in the message and the message among the decoded bytes, so that it can be sliced and its offset fits.
 pub(crate) fn argument_at(msg: &[u8], base: u32, from: usize, to: usize) -> Argument
     requires { ⌜ (from ≤ to) × (to ≤ length (now msg)) × (base + length (now msg) ≤ 32768) ⌝ }
     ensures { λ r. ⌜ ArgumentTold base (now (msg .entry)) from to r ⌝ }
 {
-    let first = base + from as u32;
-    let inner = type_field(
-        &msg[from..to],
-        first,
-        TYPE_ARGUMENT_TYPE,
-        TYPE_ARGUMENT_TYPE_ID,
-    );
-    match inner {
-        Argument::Inline { start, end } => Argument::Inline {
-            start: from + start,
-            end: from + end,
-        },
-        Argument::ByIndex { index } => Argument::ByIndex { index },
-        Argument::Nothing => Argument::Nothing,
-        Argument::Refused { error } => Argument::Refused { error },
+    let head = argument_head(&msg[from..to], base + from as u32);
+    match head {
+        ArgumentHead::Star => Argument::Star,
+        ArgumentHead::Inline {
+            projection,
+            start: inner,
+            end: last,
+        } => {
+            let start = from + inner;
+            let end = from + last;
+            let checked = check_from(&msg[..end], base, start);
+            let Checked::Whole = checked else {
+                return Argument::Refused {
+                    error: checked.error(),
+                };
+            };
+            Argument::Inline {
+                projection,
+                start,
+                end,
+            }
+        }
+        ArgumentHead::ByIndex { projection, index } => Argument::ByIndex { projection, index },
+        ArgumentHead::Nothing => Argument::Nothing,
     }
 }
 
-// Is an argument kept? Its type is inline, or at an index that the depth allows to look up.
+// Is an argument kept? It is a star, or its type is inline or at an index that the depth allows to look up.
 fn is_kept(
     msg: &[u8],
     base: u32,
@@ -84,22 +109,29 @@ fn is_kept(
 ) -> bool
     ensures { λ r. ⌜ KeptTold (now (payload .entry)) (now (notes .entry)) tables (now (msg .entry)) base left r ⌝ }
 {
-    let inner = bytes(&*msg, base, TYPE_ARGUMENT_TYPE);
-    let Piece::Nothing = inner else {
-        return true;
-    };
-    if left == 0 {
-        return false;
+    let head = argument_head(&*msg, base);
+    match head {
+        ArgumentHead::Star => true,
+        ArgumentHead::Inline {
+            projection: _,
+            start: _,
+            end: _,
+        } => true,
+        ArgumentHead::ByIndex {
+            projection: _,
+            index,
+        } => {
+            if left == 0 {
+                return false;
+            }
+            let entry = entry_at(&*payload, &*notes, tables, index);
+            let Piece::Nothing = entry else {
+                return true;
+            };
+            false
+        }
+        ArgumentHead::Nothing => false,
     }
-    let found = index(&*msg, base, TYPE_ARGUMENT_TYPE_ID);
-    let Indexed::At { index: i } = found else {
-        return false;
-    };
-    let entry = entry_at(&*payload, &*notes, tables, i);
-    let Piece::Nothing = entry else {
-        return true;
-    };
-    false
 }
 
 // How many arguments of a type are kept. `left` is left at them.

@@ -13,16 +13,19 @@ ghost use Rattle.sheet.specs.Rows.{row};
 ghost use Rattle.sheet.specs.told.Put.{PutRows};
 ghost use Rattle.declaration_rows.specs.Rows.{typeCells};
 ghost use Rattle.schema.specs.told.SchemaTold.{lent, Ready};
-ghost use Rattle.type_references.specs.told.ParseTold.{CountedTold, EnterTold};
+ghost use Rattle.type_references.specs.told.ParseTold.{CountedTold, EnterTold, StarTold};
 use crate::arguments::count_kept;
+use declaration_rows::ARGUMENT_ROLE;
 use declaration_rows::put_named;
 use fields::TYPE_ARGUMENT;
 use messages::Checked;
 use messages::check_messages;
 use names::name::Name;
+use names::name::absent;
 use schema::Stop;
 use schema::Tables;
 use schema::Walked;
+use schema::argument::STAR;
 use schema::head::type_head;
 use schema::name::class_name_at;
 use schema::types::either;
@@ -33,16 +36,23 @@ use sheet::put_bit;
 use sheet::put_number;
 use wire::WireError;
 
-// Where a type stands: what is left of the depth there, its role on the sheet, and whether it is nullable by its place in the type table.
+// How a type's record shows it, apart from what its message says: its role and its projection.
+pub(crate) struct Shown {
+    pub role: u8,
+    pub projection: u8,
+}
+
+// Where a type stands: what is left of the depth there, its role and projection, and whether it is nullable by its place in the type table.
 pub(crate) struct TypePlace {
     pub left: usize,
     pub role: u8,
+    pub projection: u8,
     pub nullable: bool,
 }
 
 // A type's record.
 fn put_type(
-    role: u8,
+    shown: Shown,
     nullable: bool,
     payload: &[u8],
     d2: &[u16],
@@ -53,11 +63,11 @@ fn put_type(
     text: &mut [u8],
 ) -> State
     requires { ⌜ Ready (now payload) (now d2) state × (1 ≤ state .types) ⌝ }
-    ensures { λ r. ⌜ PutRows (row 6 (typeCells role nullable (nameText (now (payload .entry)) (now (d2 .entry)) name) count) ∷ []) (state .types - 1) state r (now (sheet .entry)) (now (sheet .exit)) (now (text .entry)) (now (text .exit)) ⌝ }
+    ensures { λ r. ⌜ PutRows (row 6 (typeCells (shown .role) nullable (nameText (now (payload .entry)) (now (d2 .entry)) name) count (shown .projection)) ∷ []) (state .types - 1) state r (now (sheet .entry)) (now (sheet .exit)) (now (text .entry)) (now (text .exit)) ⌝ }
 {
     let at = state.sheet;
     put(sheet, at, 6);
-    put_number(sheet, at + 1, 1, role as u64);
+    put_number(sheet, at + 1, 1, shown.role as u64);
     put_bit(sheet, at + 2, nullable);
     let entered = State {
         sheet: at + 3,
@@ -67,8 +77,11 @@ fn put_type(
     let head = put_named(&*payload, &*d2, name, entered, sheet, text);
     let counted = head.sheet;
     put_number(sheet, counted, 2, count as u64);
+    let last = counted + 2;
+    put_number(sheet, last, 1, shown.projection as u64);
+    let ended = last + 1;
     State {
-        sheet: counted + 2,
+        sheet: ended,
         text: head.text,
         types: head.types,
     }
@@ -118,6 +131,41 @@ fn count_arguments(
     }
 }
 
+// A star is entered: its record, which is blank.
+pub(crate) fn enter_star(
+    payload: &[u8],
+    d2: &[u16],
+    state: State,
+    sheet: &mut [u8],
+    text: &mut [u8],
+) -> Walked
+    requires { ⌜ Ready (now payload) (now d2) state ⌝ }
+    ensures { λ r. ⌜ StarTold state r (now (sheet .entry)) (now (sheet .exit)) (now (text .entry)) (now (text .exit)) ⌝ }
+{
+    let types = state.types;
+    if types == 0 {
+        return Walked::Refused {
+            stop: Stop::TooManyTypes,
+        };
+    }
+    let shown = Shown {
+        role: ARGUMENT_ROLE,
+        projection: STAR,
+    };
+    let after = put_type(
+        shown,
+        false,
+        &*payload,
+        &*d2,
+        absent(),
+        0,
+        state,
+        sheet,
+        text,
+    );
+    Walked::Done { state: after }
+}
+
 // A type whose message is cut is entered; its arguments are to follow.
 pub(crate) fn enter_type(
     msg: &[u8],
@@ -133,7 +181,7 @@ pub(crate) fn enter_type(
     text: &mut [u8],
 ) -> Walked
     requires { ⌜ Ready (now payload) (now d2) state × (base + length (now msg) ≤ length (now payload)) ⌝ }
-    ensures { λ r. ⌜ EnterTold (lent (now (payload .entry)) (now (d2 .entry)) (now (ends .entry)) (now (notes .entry)) tables) (now (msg .entry)) base (place .left) (place .role) (place .nullable) state r (now (sheet .entry)) (now (sheet .exit)) (now (text .entry)) (now (text .exit)) ⌝ }
+    ensures { λ r. ⌜ EnterTold (lent (now (payload .entry)) (now (d2 .entry)) (now (ends .entry)) (now (notes .entry)) tables) (now (msg .entry)) base (place .left) (place .role) (place .projection) (place .nullable) state r (now (sheet .entry)) (now (sheet .exit)) (now (text .entry)) (now (text .exit)) ⌝ }
 {
     let types = state.types;
     if types == 0 {
@@ -161,8 +209,12 @@ pub(crate) fn enter_type(
     let nulls = either(place.nullable, own.nullable);
     let found = own.name;
     let name = class_name_at(found, &*payload, &*d2, &*ends, &*notes, tables.records);
+    let shown = Shown {
+        role: place.role,
+        projection: place.projection,
+    };
     let after = put_type(
-        place.role,
+        shown,
         nulls,
         &*payload,
         &*d2,

@@ -7,8 +7,9 @@ ghost use lib.ListN.{length};
 ghost use Rattle.schema.specs.told.SchemaTold.{lent, Ready};
 ghost use Rattle.schema.specs.told.TypesTold.{ParseTold};
 ghost use Rattle.type_references.specs.told.OptionalTold.{optionalOf, LookedTold, OptionalTold};
-use arguments::Argument;
+use arguments::TypeField;
 use arguments::type_field;
+use enter::Shown;
 use enter::TypePlace;
 use fields::TYPE_ARGUMENT;
 use messages::next_body;
@@ -21,6 +22,7 @@ use schema::Stop;
 use schema::Tables;
 use schema::TypeSlot;
 use schema::Walked;
+use schema::argument::INVARIANT;
 use schema::types::entry_at;
 use sheet::State;
 use wire::Piece;
@@ -45,7 +47,7 @@ fn short_type(
     text: &mut [u8],
 ) -> Walked
     requires { ⌜ Ready (now payload) (now d2) state × (base + length (now msg) ≤ length (now payload)) × (place .left ≤ 64) × (tables .types ≡ 0) × (length (now msg) < 128) ⌝ }
-    ensures { λ r. ⌜ ParseTold (lent (now (payload .entry)) (now (d2 .entry)) (now (ends .entry)) (now (notes .entry)) tables) (now (msg .entry)) base (place .left) (place .role) (place .nullable) state r (now (sheet .entry)) (now (sheet .exit)) (now (text .entry)) (now (text .exit)) ⌝ }
+    ensures { λ r. ⌜ ParseTold (lent (now (payload .entry)) (now (d2 .entry)) (now (ends .entry)) (now (notes .entry)) tables) (now (msg .entry)) base (place .left) (place .role) (place .projection) (place .nullable) state r (now (sheet .entry)) (now (sheet .exit)) (now (text .entry)) (now (text .exit)) ⌝ }
 {
     let mut nest = [0u64; 128];
     parse_at(
@@ -79,7 +81,7 @@ fn long_type(
     text: &mut [u8],
 ) -> Walked
     requires { ⌜ Ready (now payload) (now d2) state × (base + length (now msg) ≤ length (now payload)) × (place .left ≤ 64) ⌝ }
-    ensures { λ r. ⌜ ParseTold (lent (now (payload .entry)) (now (d2 .entry)) (now (ends .entry)) (now (notes .entry)) tables) (now (msg .entry)) base (place .left) (place .role) (place .nullable) state r (now (sheet .entry)) (now (sheet .exit)) (now (text .entry)) (now (text .exit)) ⌝ }
+    ensures { λ r. ⌜ ParseTold (lent (now (payload .entry)) (now (d2 .entry)) (now (ends .entry)) (now (notes .entry)) tables) (now (msg .entry)) base (place .left) (place .role) (place .projection) (place .nullable) state r (now (sheet .entry)) (now (sheet .exit)) (now (text .entry)) (now (text .exit)) ⌝ }
 {
     let mut nest = [0u64; ALLOWANCE];
     parse_at(
@@ -114,7 +116,7 @@ fn own_type(
     text: &mut [u8],
 ) -> Walked
     requires { ⌜ Ready (now payload) (now d2) state × (base + length (now msg) ≤ length (now payload)) × (place .left ≤ 64) ⌝ }
-    ensures { λ r. ⌜ ParseTold (lent (now (payload .entry)) (now (d2 .entry)) (now (ends .entry)) (now (notes .entry)) tables) (now (msg .entry)) base (place .left) (place .role) (place .nullable) state r (now (sheet .entry)) (now (sheet .exit)) (now (text .entry)) (now (text .exit)) ⌝ }
+    ensures { λ r. ⌜ ParseTold (lent (now (payload .entry)) (now (d2 .entry)) (now (ends .entry)) (now (notes .entry)) tables) (now (msg .entry)) base (place .left) (place .role) (place .projection) (place .nullable) state r (now (sheet .entry)) (now (sheet .exit)) (now (text .entry)) (now (text .exit)) ⌝ }
 {
     let argument = next_body(&*msg, base, TYPE_ARGUMENT, 0);
     let Piece::Body { start: _, end: _ } = argument else {
@@ -195,10 +197,14 @@ fn long_entry(
     ensures { λ r. ⌜ LookedTold (lent (now (payload .entry)) (now (d2 .entry)) (now (ends .entry)) (now (notes .entry)) tables) index role state r (now (sheet .entry)) (now (sheet .exit)) (now (text .entry)) (now (text .exit)) ⌝ }
 {
     let mut nest = [0u64; ALLOWANCE];
+    let shown = Shown {
+        role,
+        projection: INVARIANT,
+    };
     let found = resolve_at(
         index,
         MAX_DEPTH,
-        role,
+        shown,
         &*payload,
         &*d2,
         &*ends,
@@ -235,10 +241,14 @@ fn looked_up(
     let argument = next_body(&payload[start..end], start as u32, TYPE_ARGUMENT, 0);
     let Piece::Body { start: _, end: _ } = argument else {
         let mut nest = [0u64; 0];
+        let shown = Shown {
+            role,
+            projection: INVARIANT,
+        };
         let found = resolve_at(
             index,
             MAX_DEPTH,
-            role,
+            shown,
             &*payload,
             &*d2,
             &*ends,
@@ -285,10 +295,11 @@ pub fn declared_type(
 {
     let inner = type_field(&*msg, base, slot.inline, slot.indexed);
     match inner {
-        Argument::Inline { start, end } => {
+        TypeField::Inline { start, end } => {
             let place = TypePlace {
                 left: MAX_DEPTH,
                 role: slot.role,
+                projection: INVARIANT,
                 nullable: false,
             };
             own_type(
@@ -305,7 +316,7 @@ pub fn declared_type(
                 text,
             )
         }
-        Argument::ByIndex { index } => looked_up(
+        TypeField::ByIndex { index } => looked_up(
             index,
             slot.role,
             &*payload,
@@ -317,8 +328,8 @@ pub fn declared_type(
             sheet,
             text,
         ),
-        Argument::Nothing => Walked::Done { state },
-        Argument::Refused { error } => Walked::Refused {
+        TypeField::Nothing => Walked::Done { state },
+        TypeField::Refused { error } => Walked::Refused {
             stop: Stop::Wire { error },
         },
     }

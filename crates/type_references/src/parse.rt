@@ -8,7 +8,9 @@ ghost use Rattle.schema.specs.told.TypesTold.{ParseTold, ResolveTold};
 ghost use Rattle.type_references.specs.told.ParseTold.{ArgumentsTold, FitsEntry, NestRoom, ParseRoom};
 use crate::arguments::Argument;
 use crate::arguments::argument_at;
+use crate::enter::Shown;
 use crate::enter::TypePlace;
+use crate::enter::enter_star;
 use crate::enter::enter_type;
 use crate::waiting::push;
 use crate::waiting::waiting_at;
@@ -69,13 +71,22 @@ fn arguments_at(
         at = to;
         let argument = argument_at(&*msg, base, from, to);
         match argument {
+            Argument::Star => {
+                let entered = enter_star(&*payload, &*d2, next, sheet, text);
+                let Walked::Done { state: starred } = entered else {
+                    return entered;
+                };
+                next = starred;
+            }
             Argument::Inline {
+                projection,
                 start: first,
                 end: last,
             } => {
                 let place = TypePlace {
                     left: deep,
                     role: ARGUMENT_ROLE,
+                    projection,
                     nullable: false,
                 };
                 let entered = enter_type(
@@ -101,11 +112,15 @@ fn arguments_at(
                 end = last;
                 deep = less(deep);
             }
-            Argument::ByIndex { index } => {
+            Argument::ByIndex { projection, index } => {
+                let shown = Shown {
+                    role: ARGUMENT_ROLE,
+                    projection,
+                };
                 let found = resolve_at(
                     index,
                     deep,
-                    ARGUMENT_ROLE,
+                    shown,
                     &*payload,
                     &*d2,
                     &*ends,
@@ -148,7 +163,7 @@ pub(crate) fn parse_at(
     text: &mut [u8],
 ) -> Walked
     requires { ⌜ ParseRoom (lent (now payload) (now d2) (now ends) (now notes) tables) (now msg) (now nest) base (place .left) state ⌝ }
-    ensures { λ r. ⌜ ParseTold (lent (now (payload .entry)) (now (d2 .entry)) (now (ends .entry)) (now (notes .entry)) tables) (now (msg .entry)) base (place .left) (place .role) (place .nullable) state r (now (sheet .entry)) (now (sheet .exit)) (now (text .entry)) (now (text .exit)) ⌝ }
+    ensures { λ r. ⌜ ParseTold (lent (now (payload .entry)) (now (d2 .entry)) (now (ends .entry)) (now (notes .entry)) tables) (now (msg .entry)) base (place .left) (place .role) (place .projection) (place .nullable) state r (now (sheet .entry)) (now (sheet .exit)) (now (text .entry)) (now (text .exit)) ⌝ }
 {
     let entered = enter_type(
         &*msg,
@@ -189,7 +204,7 @@ pub(crate) fn parse_at(
 pub(crate) fn resolve_at(
     index: u32,
     left: usize,
-    role: u8,
+    shown: Shown,
     payload: &[u8],
     d2: &[u16],
     ends: &[u32],
@@ -201,7 +216,7 @@ pub(crate) fn resolve_at(
     text: &mut [u8],
 ) -> Picked
     requires { ⌜ Ready (now payload) (now d2) state × (left ≤ 64) × FitsEntry (lent (now payload) (now d2) (now ends) (now notes) tables) index (state .types) (length (now nest)) ⌝ }
-    ensures { λ r. ⌜ ResolveTold (lent (now (payload .entry)) (now (d2 .entry)) (now (ends .entry)) (now (notes .entry)) tables) index left role state r (now (sheet .entry)) (now (sheet .exit)) (now (text .entry)) (now (text .exit)) ⌝ }
+    ensures { λ r. ⌜ ResolveTold (lent (now (payload .entry)) (now (d2 .entry)) (now (ends .entry)) (now (notes .entry)) tables) index left (shown .role) (shown .projection) state r (now (sheet .entry)) (now (sheet .exit)) (now (text .entry)) (now (text .exit)) ⌝ }
 {
     if left == 0 {
         return Picked::Dropped;
@@ -213,7 +228,8 @@ pub(crate) fn resolve_at(
     let nullable = tables.first_nullable <= index as u64;
     let place = TypePlace {
         left: left - 1,
-        role,
+        role: shown.role,
+        projection: shown.projection,
         nullable,
     };
     picked(parse_at(

@@ -35,13 +35,16 @@ pub struct Maker<'r> {
     entries: usize,
     /// Types that may still be made, so that a payload stays short.
     types: usize,
+    /// Whether arguments may be stars: an input that enters one isn't held to the original.
+    stars: bool,
 }
 
 /// An input, well or ill formed.
 pub fn input(random: &mut Random) -> Input {
     let broken = *random.pick(&[0, 0, 0, 0, 40, 15, 8]);
     let types = *random.pick(&[10, 30, 30, 100, 400]);
-    let mut maker = Maker { random, broken, indices: 1, entries: 0, types };
+    let stars = random.once_in(3);
+    let mut maker = Maker { random, broken, indices: 1, entries: 0, types, stars };
     maker.input()
 }
 

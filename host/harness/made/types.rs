@@ -3,6 +3,9 @@
 use super::fields::Fields;
 use super::Maker;
 
+/// The projection of a star.
+const STAR: u64 = 3;
+
 impl Maker<'_> {
     pub(super) fn ty(&mut self, depth: usize) -> Vec<u8> {
         let mut fields = Fields::new();
@@ -32,12 +35,42 @@ impl Maker<'_> {
 
     pub(super) fn argument(&mut self, depth: usize) -> Vec<u8> {
         let mut fields = Fields::new();
-        if self.random.once_in(4) {
-            let projection = self.random.below(5) as u64;
+        let projection = self.projection();
+        if let Some(projection) = projection {
             self.number(&mut fields, 1, projection);
         }
-        self.declared(&mut fields, 2, 3, depth + 1);
+        match projection {
+            Some(STAR) if !self.random.once_in(4) => self.not_read(&mut fields),
+            _ => self.declared(&mut fields, 2, 3, depth + 1),
+        }
         self.joined(fields)
+    }
+
+    /// A projection, or none; seldom a number that is none, some of which are 3 when they are cut.
+    fn projection(&mut self) -> Option<u64> {
+        match self.random.below(12) {
+            0..=2 => Some(self.random.below(3) as u64),
+            3 | 4 if self.stars => Some(STAR),
+            5 if self.random.once_in(3) => Some(*self.random.pick(&[4, 7, 1 << 32, (1 << 32) + 1, (1 << 32) + STAR])),
+            6 if self.random.once_in(20) => Some(self.edge()),
+            _ => None,
+        }
+    }
+
+    /// What a star may hold, mostly nothing: a broken type, an index, both, or fields of another wire type.
+    fn not_read(&mut self, fields: &mut Fields) {
+        match self.random.below(10) {
+            0 | 1 => {
+                let broken = *self.random.pick::<&[u8]>(&[&[0x0b], &[0x12, 5], &[0x80], &[0x00], &[0xff; 11]]);
+                self.bytes(fields, 2, broken);
+            }
+            2 => {
+                let entry = self.index(self.entries);
+                self.number(fields, 3, entry);
+            }
+            3 => self.declared(fields, 3, 2, 12),
+            _ => {}
+        }
     }
 
     /// A type inline, by index, both or neither.

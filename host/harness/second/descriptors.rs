@@ -3,7 +3,7 @@
 use super::members::{Constructor, Function, Parameter};
 use super::mistakes::{planted, Mistake};
 use super::names::Names;
-use super::types::Type;
+use super::types::{Projection, Type};
 
 #[derive(Clone, Copy, PartialEq)]
 enum Position {
@@ -95,7 +95,9 @@ fn printed(ty: &Type, position: Position, names: &Names<'_>) -> Option<String> {
             }
             let same = planted(Mistake::UnitElement) && position == Position::Return;
             let inner = if same { Position::Return } else { Position::Element };
-            printed(ty.arguments.first()?, inner, names).map(|element| format!("[{element}"))
+            let over = |argument: &&Type| planted(Mistake::StarPassedOver) && argument.projection == Projection::Star;
+            let element = ty.arguments.iter().find(|argument| !over(argument))?;
+            printed(element, inner, names).map(|element| format!("[{element}"))
         }
         _ => {
             let mapped = MAPPED.iter().find(|(kotlin, _)| *kotlin == name);

@@ -77,27 +77,27 @@ const OMITTED: u64 = 6;
 const DEFAULT_VALUE: u64 = 2;
 const NOT_DEFAULT: u64 = 64;
 
-pub fn class(body: &Message<'_>, kind: u8, names: &Names<'_>) -> Result<Class, Refused> {
-    let mut types = Types::of(body)?;
+/// The body's declarations; `types` counts what is entered, also where the payload is refused later.
+pub fn class<'a>(body: &Message<'a>, kind: u8, names: &Names<'_>, types: &mut Types<'a>) -> Result<Class, Refused> {
     let is_class = kind == 1;
     let (function_field, property_field) = if is_class { (9, 10) } else { (3, 4) };
     let constructors = if is_class || planted(Mistake::PackageConstructors) { body.messages(8)? } else { Vec::new() };
     let constructors =
-        constructors.iter().map(|message| constructor(message, names, &mut types)).collect::<Result<_, _>>()?;
+        constructors.iter().map(|message| constructor(message, names, types)).collect::<Result<_, _>>()?;
     let functions = body
         .messages(function_field)?
         .iter()
-        .filter_map(|message| function(message, names, &mut types).transpose())
+        .filter_map(|message| function(message, names, types).transpose())
         .collect::<Result<_, _>>()?;
     let properties = body
         .messages(property_field)?
         .iter()
-        .filter_map(|message| property(message, names, &mut types).transpose())
+        .filter_map(|message| property(message, names, types).transpose())
         .collect::<Result<_, _>>()?;
     let aliases = body
         .messages(alias_field(kind))?
         .iter()
-        .filter_map(|message| alias(message, names, &mut types).transpose())
+        .filter_map(|message| alias(message, names, types).transpose())
         .collect::<Result<_, _>>()?;
     Ok(Class {
         kind,

@@ -42,6 +42,8 @@ pub struct Reading {
     pub descriptor_operation: bool,
     /// Whether a message that was cut has a field with a number that the encoding guide forbids, also where that is forgiven.
     pub forbidden: bool,
+    /// Whether a star was entered, also where the payload is refused later.
+    pub star: bool,
 }
 
 /// The reading apart from the areas.
@@ -56,6 +58,7 @@ pub fn read(input: &Input) -> Reading {
         aliases: false,
         descriptor_operation: false,
         forbidden: false,
+        star: false,
     };
     wire::met_forbidden();
     if let Some(number) = limits::before_reading(input) {
@@ -93,7 +96,10 @@ fn payload(bytes: &[u8], input: &Input, kind: u8, reading: &mut Reading) -> Resu
     let names = names::Names::of(table, &strings, reading)?;
     let body = wire::cut(whole.from(at))?;
     reading.aliases = members::has_aliases(&body, kind);
-    let class = members::class(&body, kind, &names)?;
+    let mut types = types::Types::of(&body)?;
+    let class = members::class(&body, kind, &names, &mut types);
+    reading.star = types.met_star;
+    let class = class?;
     let mut out = sheet::Writer::default();
     out.class(&class, &names);
     reading.accept(out, class.types);

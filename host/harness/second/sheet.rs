@@ -8,6 +8,9 @@ use super::types::Type;
 use crate::answer::KINDS;
 use crate::limits::TEXT;
 
+/// The role of an argument.
+const ARGUMENT: u64 = 5;
+
 /// Sheet and text so far. Text past the limit is counted and not kept: such a sheet is refused.
 #[derive(Default)]
 pub struct Writer {
@@ -153,9 +156,15 @@ impl Writer {
         self.number(role, 1);
         self.number(u64::from(ty.nullable), 1);
         self.text(ty.name.and_then(|index| names.qualified(index)));
-        self.number(ty.arguments.len() as u64, 2);
+        let omitted = planted(Mistake::ArgumentsOnly) && role != ARGUMENT;
+        let projection = if omitted { 0 } else { ty.projection as u64 };
+        let mut cells = [(ty.arguments.len() as u64, 2), (projection, 1)];
+        if planted(Mistake::ProjectionBeforeCount) {
+            cells.reverse();
+        }
+        cells.into_iter().for_each(|(number, width)| self.number(number, width));
         for argument in &ty.arguments {
-            self.ty(5, argument, names);
+            self.ty(ARGUMENT, argument, names);
         }
     }
 

@@ -1,5 +1,6 @@
 //! Entries of the type table that are entered again and again. Nothing is noted of types: each entering walks its entry.
 
+use super::walks::STRANGER;
 use super::{filled, package, Slow};
 use crate::input::Input;
 use crate::shapes::{bytes, function_with, looked_up_argument, number, type_table};
@@ -8,8 +9,10 @@ pub fn inputs() -> Vec<Slow> {
     let names = ["f", "kotlin/Array", "kotlin/Int"].map(String::from);
     let by_index = bytes(3, &function_with(0, &number(7, 0)));
     let body = |members: Vec<u8>, entries: &[Vec<u8>]| [members, type_table(entries, None)].concat();
-    let strangers = |count: usize| [number(6, 1), vec![0; 2 * count]].concat();
+    let strangers = |count: usize| [number(6, 1), STRANGER.repeat(count)].concat();
     let failing = |count: usize| [number(6, 1), looked_up_argument(900).repeat(count)].concat();
+    let failing_out =
+        |count: usize| [number(6, 1), bytes(2, &[number(1, 1), number(3, 900)].concat()).repeat(count)].concat();
     let half = by_index.repeat(2047);
     let aliases = bytes(5, &[number(2, 0), number(5, 0), number(7, 0)].concat()).repeat(1023);
     let inputs = vec![
@@ -20,7 +23,8 @@ pub fn inputs() -> Vec<Slow> {
             body(half.clone(), &[strangers(8000)]),
         ),
         ("the same entry, both types of each alias", body(aliases, &[strangers(8000)])),
-        ("an array with 3,000 failing arguments, each function's type", body(half, &[failing(3000)])),
+        ("an array with 3,000 failing arguments, each function's type", body(half.clone(), &[failing(3000)])),
+        ("the same with 2,500, each out", body(half, &[failing_out(2500)])),
     ];
     let slow = |(words, body): (&str, Vec<u8>)| {
         let input: Input = package(&[], &body, &names);

@@ -4,7 +4,7 @@ use super::{filled, package, slow, Slow};
 use crate::input::Input;
 use crate::limits::{STRINGS, TYPES, UNITS};
 use crate::random::Random;
-use crate::shapes::{bytes, function_with, inline_argument, number, payload, type_table};
+use crate::shapes::{bytes, function_with, inline_argument, number, payload, star, type_table};
 
 fn names() -> Vec<String> {
     ["f", "kotlin/Array", "kotlin/Int"].map(String::from).to_vec()
@@ -19,7 +19,7 @@ pub fn inputs() -> Vec<Slow> {
 }
 
 /// A field with a tag and a number of one byte each, and one with three bytes each, which no short form reads.
-const STRANGER: [u8; 2] = [0x00, 0x00];
+pub(super) const STRANGER: [u8; 2] = [0x78, 0x00];
 const LONG_STRANGER: [u8; 6] = [0xf8, 0xff, 0x01, 0x80, 0x80, 0x01];
 
 fn members() -> Vec<Slow> {
@@ -57,14 +57,17 @@ fn types() -> Vec<Slow> {
     let returning = |ty: &[u8]| bytes(3, &function_with(0, &bytes(3, ty)));
     let chain = |inside: Vec<u8>| (1..2047).fold(inside, |ty, _| [number(6, 1), inline_argument(&ty)].concat());
     let array = |rest: Vec<u8>| [number(6, 1), rest].concat();
-    let star = bytes(2, &[]);
+    let nothing = bytes(2, &[]);
     let wide = inline_argument(&number(6, 1)).repeat(TYPES as usize - 1);
-    let beside_table = [returning(&array(star.clone())).repeat(2048), type_table(&[number(6, 2)], None)].concat();
+    let beside_table = [returning(&array(nothing.clone())).repeat(2048), type_table(&[number(6, 2)], None)].concat();
+    let behind = bytes(2, &[filled(&STRANGER, 64), number(1, 3)].concat());
     let inputs = vec![
         ("a chain of 2,047 inline arrays", returning(&chain(number(6, 1)))),
-        ("the same in which each array has nothing inside it first", returning(&starred(&star))),
+        ("the same in which each array has nothing inside it first", returning(&after_nothing(&nothing))),
         ("an array of 2,047 arguments", returning(&array(wide))),
-        ("an array of arguments without a type", returning(&array(filled(&star, 32)))),
+        ("an array of arguments without a type", returning(&array(filled(&nothing, 32)))),
+        ("an array of 2,047 stars", returning(&array(star(&[]).repeat(TYPES as usize - 1)))),
+        ("a star behind fields that nothing asks for", returning(&array(behind))),
         ("an argument with fields that nothing asks for", returning(&array(bytes(2, &filled(&STRANGER, 64))))),
         ("fields of a type that nothing asks for", returning(&filled(&STRANGER, 64))),
         ("types of four bytes, each a function's", filled(&returning(&[]), 8)[..].to_vec()),
@@ -75,8 +78,8 @@ fn types() -> Vec<Slow> {
 }
 
 /// Arrays one in another, each after an argument without a type.
-fn starred(star: &[u8]) -> Vec<u8> {
-    let array = |ty: Vec<u8>, _| [number(6, 1), star.to_vec(), inline_argument(&ty)].concat();
+fn after_nothing(nothing: &[u8]) -> Vec<u8> {
+    let array = |ty: Vec<u8>, _| [number(6, 1), nothing.to_vec(), inline_argument(&ty)].concat();
     (1..2047).fold(number(6, 1), array)
 }
 

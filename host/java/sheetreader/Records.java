@@ -21,7 +21,7 @@ public final class Records {
     public static final int ALIASES = 9;
 
     /** bytes of a record of each kind, from kind 1 on */
-    private static final int[] LENGTHS = {20, 19, 24, 40, 6, 9, 5, 13, 3};
+    private static final int[] LENGTHS = {20, 19, 24, 40, 6, 10, 5, 13, 3};
 
     private static final long ABSENT = 0xFFFFFFFFL;
 

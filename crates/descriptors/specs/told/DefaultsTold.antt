@@ -8,13 +8,13 @@ use Prim.Native.Nat.{ℕ, _+_, _-_, _*_, _^_, _≤_}
 use Rattle.foundation.specs.Choices.{mapOption, everyOf, concat}
 use Rattle.foundation.specs.Results.{ok}
 use Rattle.wire.specs.Wire.{Message}
-use Rattle.declaration_rows.specs.Declarations.{Ty, Parameter, Constructor, Function}
+use Rattle.declaration_rows.specs.Declarations.{Ty, single, Parameter, Constructor, Function}
 use Rattle.schema.specs.Reading.{Scope}
 use Rattle.schema.specs.Members.{listIn, parameterIn, constructorIn, functionIn}
 use Rattle.schema.specs.told.SchemaTold.{Lent, Scoped, EntryAt}
 use Rattle.schema.specs.told.TypesTold.{orNullable}
 use Rattle.schema.specs.told.PlacesTold.{TypeFound}
-use Rattle.erasure.specs.Erasure.{firstErased, single, erased, Returned, ofType, erasedReturn, print, printReturned}
+use Rattle.erasure.specs.Erasure.{firstErased, erased, Returned, ofType, erasedReturn, print, printReturned}
 use Rattle.erasure.specs.told.ErasureTold.{PutSized}
 use Rattle.erasure.specs.declared.Position.{Position}
 use Rattle.erasure.specs.declared.Position.the-variants as position

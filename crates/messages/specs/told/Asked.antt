@@ -55,6 +55,11 @@ FoundAt s n at (found.Value v) =
     (at < length s) × (next : ℕ) × ((base : ℕ) → FieldTold base s (readField (restOf base s at)) (step.Field n v next))
 FoundAt s n at found.Nothing = Unit {0}
 
+-- what was found of field k before a field with the number n and the value v, or, of field k itself, that value
+abbrev pub foundOr : Found → ℕ → ℕ → WireValue → Found
+foundOr (found.Value x) k n v = found.Value x
+foundOr found.Nothing k n v = if eqb n k then found.Value v else found.Nothing
+
 abbrev pub numberTold : Number → Option ℕ
 numberTold (number.Value v) = some v
 numberTold number.Nothing = none

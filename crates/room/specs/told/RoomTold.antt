@@ -10,7 +10,7 @@ use Rattle.room.specs.declared.RoomAnswer.{RoomAnswer}
 -- what the records of all kinds but 5 take: the record table's widths, a byte of kind with each
 abbrev pub othersBytes : Outcome → Sections → ℕ
 othersBytes o b =
-    23 + (24 * b .constructors .count + 29 * b .functions .count) + 40 * b .properties .count + 13 * b .aliases .count + 9 * o .types
+    23 + (24 * b .constructors .count + 29 * b .functions .count) + 40 * b .properties .count + 13 * b .aliases .count + 10 * o .types
 
 -- the rest is the parameters', six bytes each
 abbrev pub parametersLeft : Outcome → Sections → ℕ

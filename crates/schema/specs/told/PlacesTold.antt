@@ -9,7 +9,7 @@ use Rattle.foundation.specs.Results.{ok}
 use Rattle.fields.specs.Fields.{Type·argument}
 use Rattle.wire.specs.Wire.{Message}
 use Rattle.wire.specs.Messages.{as32, messages}
-use Rattle.declaration_rows.specs.Declarations.{Ty}
+use Rattle.declaration_rows.specs.Declarations.{Ty, Argument}
 use Rattle.schema.specs.Reading.{Scope, kept, allowance}
 use Rattle.schema.specs.Types.{maxDepth, resolveAt, typeIn, argumentIn, typeAt, declaredType}
 use Rattle.schema.specs.told.SchemaTold.{EntryAt, EntriesOf, entriesIn}
@@ -66,10 +66,20 @@ pub record PlaceFound (payload notes : List ℕ) (tables : Tables) (start end in
   pub is : (c : Scope) → TableOf payload notes tables c → (m : Message) → EntryAt payload start end m → (d : ℕ) → left ≡ maxDepth - d
       → (o : Option Ty) (l b : ℕ) → typeIn (typeAt allowance c) c d inline indexed m l ≡ ok (o, b) → FoundTypeTold payload c o r
 
--- the first of some types
-abbrev pub headType : List Ty → Option Ty
+-- the type of the first of some arguments
+abbrev pub headType : List Argument → Option Ty
 headType [] = none
-headType (t ∷ ts) = some t
+headType (a ∷ more) = some (a .type)
+
+-- There is none, or it has no name.
+abbrev pub Unnamed : Option Ty → Type 0
+Unnamed none = Unit {0}
+Unnamed (some t) = t .name ≡ none
+
+-- What was found is the first kept argument's type. Nothing is found where there is none, and of a star, which has no name.
+abbrev pub ElementTold : List ℕ → Scope → Option Ty → FoundType → Type 0
+ElementTold payload c o (found.Type start end nullable left) = FoundTypeTold payload c o (found.Type start end nullable left)
+ElementTold payload c o found.Nothing = Unnamed o
 
 -- a declaration's own type, in a message from start to end
 pub record DeclaredFound (payload notes : List ℕ) (tables : Tables) (start end inline indexed : ℕ) (r : FoundType) : Type 0 where
@@ -83,5 +93,5 @@ pub record ArgumentFound (payload notes : List ℕ) (tables : Tables) (start end
   pub inside : FoundTypeInside payload r
   pub falls : FoundTypeFalls left start end r
   pub is : (c : Scope) → TableOf payload notes tables c → (m : Message) → EntryAt payload start end m → (ms : List Message)
-      → messages Type·argument m ≡ ok ms → (d : ℕ) → left ≡ maxDepth - d → (ts : List Ty) (l b : ℕ)
-      → kept (argumentIn (typeAt allowance c) c d) ms l ≡ ok (ts, b) → FoundTypeTold payload c (headType ts) r
+      → messages Type·argument m ≡ ok ms → (d : ℕ) → left ≡ maxDepth - d → (ts : List Argument) (l b : ℕ)
+      → kept (argumentIn (typeAt allowance c) c d) ms l ≡ ok (ts, b) → ElementTold payload c (headType ts) r

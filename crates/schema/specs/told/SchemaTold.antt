@@ -95,7 +95,7 @@ abbrev pub nameLimit : ℕ
 nameLimit = 131072
 
 abbrev pub typeLength : ℕ
-typeLength = 9
+typeLength = 10
 
 -- The text and the records of all types that may still be entered can be counted.
 pub record TypeRoom (s : State) : Type 0 where

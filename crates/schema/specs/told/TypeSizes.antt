@@ -4,7 +4,7 @@ use mathlib.Core.List.{List, [], _∷_}
 use mathlib.Core.Option.{Option}
 use Prim.Native.Nat.{ℕ, suc, _+_}
 use Rattle.foundation.specs.Choices.{ifSome}
-use Rattle.declaration_rows.specs.Declarations.{Types, noTypes, andType, Ty, Parameter, Constructor, Function, Property, Alias, Declarations}
+use Rattle.declaration_rows.specs.Declarations.{Types, noTypes, andType, Ty, Argument, Parameter, Constructor, Function, Property, Alias, Declarations}
 
 -- of one that may not be there
 abbrev pub sizeIfSome : {A : Type 0} → (A → ℕ) → Option A → ℕ
@@ -17,10 +17,14 @@ sizeOfAll size (x ∷ xs) = size x + sizeOfAll size xs
 
 abbrev pub sizeOf : Types → ℕ
 sizeOf noTypes = 0
-sizeOf (andType nullable name arguments after) = suc (sizeOf arguments + sizeOf after)
+sizeOf (andType projection nullable name arguments after) = suc (sizeOf arguments + sizeOf after)
 
 abbrev pub typeSize : Ty → ℕ
 typeSize t = suc (sizeOf (t .arguments))
+
+-- an argument is a type, and a star one without others in it
+abbrev pub argumentSize : Argument → ℕ
+argumentSize a = typeSize (a .type)
 
 abbrev pub parameterSize : Parameter → ℕ
 parameterSize p = sizeIfSome typeSize (p .type) + sizeIfSome typeSize (p .varargElement)

@@ -13,10 +13,10 @@ use Rattle.wire.specs.declared.Piece.{Piece}
 use Rattle.wire.specs.declared.Piece.the-variants as piece
 use Rattle.sheet.specs.Rows.{Row}
 use Rattle.sheet.specs.declared.State.{State}
-use Rattle.declaration_rows.specs.Declarations.{Ty}
+use Rattle.declaration_rows.specs.Declarations.{invariant, noTypes, Ty, withType}
 use Rattle.schema.specs.Reading.{Scope, allowance}
 use Rattle.schema.specs.Types.{maxDepth, resolveAt, typeIn, typeAt, declaredType}
-use Rattle.declaration_rows.specs.Rows.{typeRows}
+use Rattle.declaration_rows.specs.Rows.{typesRows}
 use Rattle.schema.specs.told.SchemaTold.{Lent, Scoped, WalkedSpends, PickedSpends, WalkedTold, PickedTold, EntriesOf}
 use Rattle.schema.specs.declared.Walked.{Walked}
 use Rattle.schema.specs.declared.Walked.the-variants as walked
@@ -27,9 +27,9 @@ use Rattle.schema.specs.declared.Picked.the-variants as picked
 abbrev pub orNullable : Bool → Ty → Ty
 orNullable nullable t = record { nullable = nullable || t .nullable; name = t .name; arguments = t .arguments }
 
--- the rows of a type
-abbrev pub rowsIn : ℕ → Ty → List Row
-rowsIn role t = typeRows role (some t)
+-- the rows of a type, by its role and its projection
+abbrev pub rowsIn : ℕ → ℕ → Ty → List Row
+rowsIn role projection t = typesRows role (withType projection t noTypes)
 
 -- what was walked, as something that may not be there
 abbrev pub pickedOf : Walked → Picked
@@ -56,25 +56,25 @@ pub record EntryTold (payload entries : List ℕ) (count i : ℕ) (r : Piece) : 
   pub below : EntryBelow count i r
 
 -- a type
-pub record ParseTold (e : Lent) (msg : List ℕ) (base left role : ℕ) (nullable : Bool) (s : State) (r : Walked) (S S′ T T′ : List ℕ) : Type 0 where
+pub record ParseTold (e : Lent) (msg : List ℕ) (base left role projection : ℕ) (nullable : Bool) (s : State) (r : Walked) (S S′ T T′ : List ℕ) : Type 0 where
   pub spends : WalkedSpends s r
   pub is : (c : Scope) → Scoped e c → (m : Message) → cut (_from_ base msg) ≡ ok m → (d : ℕ) → left ≡ maxDepth - d
-      → WalkedTold (typeAt allowance c d m (s .types)) (λ t. rowsIn role (orNullable nullable t)) s r S S′ T T′
+      → WalkedTold (typeAt allowance c d m (s .types)) (λ t. rowsIn role projection (orNullable nullable t)) s r S S′ T T′
 
 -- a type by its index
-pub record ResolveTold (e : Lent) (index left role : ℕ) (s : State) (r : Picked) (S S′ T T′ : List ℕ) : Type 0 where
+pub record ResolveTold (e : Lent) (index left role projection : ℕ) (s : State) (r : Picked) (S S′ T T′ : List ℕ) : Type 0 where
   pub spends : PickedSpends s r
   pub is : (c : Scope) → Scoped e c → (d : ℕ) → left ≡ maxDepth - d
-      → PickedTold (resolveAt (typeAt allowance c) c d index (s .types)) (rowsIn role) s r S S′ T T′
+      → PickedTold (resolveAt (typeAt allowance c) c d index (s .types)) (rowsIn role projection) s r S S′ T T′
 
 -- a type in a message
 pub record TypeInTold (e : Lent) (msg : List ℕ) (base inline indexed left role : ℕ) (s : State) (r : Picked) (S S′ T T′ : List ℕ) : Type 0 where
   pub spends : PickedSpends s r
   pub is : (c : Scope) → Scoped e c → (m : Message) → cut (_from_ base msg) ≡ ok m → (d : ℕ) → left ≡ maxDepth - d
-      → PickedTold (typeIn (typeAt allowance c) c d inline indexed m (s .types)) (rowsIn role) s r S S′ T T′
+      → PickedTold (typeIn (typeAt allowance c) c d inline indexed m (s .types)) (rowsIn role invariant) s r S S′ T T′
 
 -- a declaration's own type
 pub record DeclaredTold (e : Lent) (msg : List ℕ) (base inline indexed role : ℕ) (s : State) (r : Picked) (S S′ T T′ : List ℕ) : Type 0 where
   pub spends : PickedSpends s r
   pub is : (c : Scope) → Scoped e c → (m : Message) → cut (_from_ base msg) ≡ ok m
-      → PickedTold (declaredType c inline indexed m (s .types)) (rowsIn role) s r S S′ T T′
+      → PickedTold (declaredType c inline indexed m (s .types)) (rowsIn role invariant) s r S S′ T T′

@@ -1,3 +1,4 @@
+use Rattle.declaration_rows.specs.Declarations.{invariant}
 use borrow.Author.Needs.{needs}
 use Rattle.schema.specs.told.SchemaTold.{entriesIn, lent}
 use mathlib.Core.Path.{refl}
@@ -31,7 +32,7 @@ enum-told c = search needs
 
 -- src/lib.rt:233:9
 returns : tie.Need-returns
-returns c = looked _ (resolve-nowhere (lent (c .before .before .before .before .before .before .before .before .before .args .payload .now) (c .before .before .before .before .before .before .before .before .before .args .d2 .now) (c .before .before .before .before .before .before .before .before .before .args .ends .now) (c .before .before .before .before .before .before .before .before .before .args .notes .now) (c .before .before .before .before .before .before .before .before .before .args .tables)) (c .before .before .before .before .before .before .before .before .before .args .index) 64 (c .before .before .before .before .before .before .before .before .before .args .role) (c .before .before .before .before .before .before .before .before .before .args .state) (c .before .before .entry-at .ensures) (c .enum-told .given .1)) refl
+returns c = looked _ (resolve-nowhere (lent (c .before .before .before .before .before .before .before .before .before .args .payload .now) (c .before .before .before .before .before .before .before .before .before .args .d2 .now) (c .before .before .before .before .before .before .before .before .before .args .ends .now) (c .before .before .before .before .before .before .before .before .before .args .notes .now) (c .before .before .before .before .before .before .before .before .before .args .tables)) (c .before .before .before .before .before .before .before .before .before .args .index) 64 (c .before .before .before .before .before .before .before .before .before .args .role) invariant (c .before .before .before .before .before .before .before .before .before .args .state) (c .before .before .entry-at .ensures) (c .enum-told .given .1)) refl
 
 -- src/lib.rt:235:30
 sub-next-body : tie.Need-sub-next-body

@@ -6,6 +6,7 @@ use Prim.Native.Nat.{ℕ}
 use Rattle.foundation.specs.Results.{ok, _from_}
 use Rattle.wire.specs.Wire.{Message, cut}
 use Rattle.sheet.specs.declared.State.{State}
+use Rattle.declaration_rows.specs.Declarations.{invariant}
 use Rattle.schema.specs.Types.{maxDepth, declaredType}
 use Rattle.schema.specs.Reading.{Scope}
 use Rattle.declaration_rows.specs.Rows.{typeRows}
@@ -25,7 +26,7 @@ optionalOf s (picked.Refused stop) = walked.Refused stop
 -- a type by its index, from depth 0
 pub record LookedTold (e : Lent) (index role : ℕ) (s : State) (r : Walked) (S S′ T T′ : List ℕ) : Type 0 where
   pub found : Picked
-  pub told : ResolveTold e index maxDepth role s found S S′ T T′
+  pub told : ResolveTold e index maxDepth role invariant s found S S′ T T′
   pub is : r ≡ optionalOf s found
 
 -- the type and its rows, or nothing and none

@@ -2,6 +2,7 @@
 -- Assumes nothing.
 use mathlib.Core.Path.{_≡_}
 use mathlib.Core.List.{List, [], _∷_, _++_}
+use mathlib.Core.Option.{Option, none, some}
 use Prim.Native.Nat.{ℕ, zero, suc, _+_, _-_, _*_, _/_, _%_, _≤_}
 use lib.ListN.{length, getD}
 use Rattle.foundation.specs.Results.{Res, ok, refused, _from_}
@@ -10,10 +11,11 @@ use Rattle.wire.specs.Wire.{Message, cut}
 use Rattle.wire.specs.Messages.{messages}
 use Rattle.characters.specs.told.Places.{partFrom}
 use Rattle.sheet.specs.Rows.{Row}
-use Rattle.declaration_rows.specs.Declarations.{Ty, typesOf}
+use Rattle.declaration_rows.specs.Declarations.{Argument, typesOf}
 use Rattle.schema.specs.Reading.{Read, pure, _>>=_, kept, Scope, allowance}
 use Rattle.schema.specs.Types.{maxDepth, argumentIn, typeAt}
 use Rattle.declaration_rows.specs.Rows.{argumentRole, typesRows}
+use Rattle.schema.specs.told.TypesTold.{rowsIn}
 
 -- what is read, as the rows that it comes to
 abbrev pub rowsRead : {A : Type 0} → (A → List Row) → Res (A × ℕ) → Res (List Row × ℕ)
@@ -25,7 +27,15 @@ abbrev pub prefixed : List Row → Res (List Row × ℕ) → Res (List Row × �
 prefixed rs (ok r) = ok (rs ++ r .0, r .1)
 prefixed rs (refused c p) = refused c p
 
-abbrev pub argumentRows : List Ty → List Row
+-- the rows of an argument, and of one that may not be kept
+abbrev pub shownRows : Argument → List Row
+shownRows a = rowsIn argumentRole (a .projection) (a .type)
+
+abbrev pub keptRows : Option Argument → List Row
+keptRows none = []
+keptRows (some a) = shownRows a
+
+abbrev pub argumentRows : List Argument → List Row
 argumentRows ts = typesRows argumentRole (typesOf ts)
 
 -- The arguments of a type that are still to be read, and their depth.

@@ -33,6 +33,7 @@ final class Test {
         lengths();
         longSheet();
         records(Paths.get(args[0]).resolve("Sale.class"));
+        projections();
         conversions(Paths.get(args[0]));
         interrupted();
         damaged(Paths.get(args[0]));
@@ -197,6 +198,16 @@ final class Test {
         same("counts of records", "1 1 4 5 0 1", counts[1] + " " + counts[2] + " " + counts[3] + " " + counts[4] + " " + counts[8] + " " + counts[9]);
         same("types", "" + sale.types, "" + counts[Records.TYPE]);
         same("functions", 4, functions.size());
+    }
+
+    /** A type's projection stands at its record's end: f(): X<out Y, *>, where neither X nor Y has a name. */
+    private static void projections() {
+        char[] d1 = {0, 0, 0x1A, 14, 0x10, 0, 0x1A, 10, 0x12, 4, 8, 1, 0x12, 0, 0x12, 2, 8, 3};
+        StringBuilder found = new StringBuilder();
+        for (Records r = SheetReader.read(2, 1, 9, 0, d1, new char[] {'f'}, new int[] {1}).records(); r.next();) {
+            if (r.kind() == Records.TYPE) found.append(r.number(1, 1)).append(r.text(3)).append(r.number(7, 2)).append(' ').append(r.number(9, 1)).append("; ");
+        }
+        same("projections", "1null2 2; 5null0 1; 5null0 3; ", found.toString());
     }
 
     private static void interrupted() {

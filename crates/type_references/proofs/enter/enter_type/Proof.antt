@@ -17,7 +17,7 @@ use Rattle.type_references.proofs.enter.put_type.Reads as put-type-read
 
 -- src/enter.rt:140:9
 returns : tie.Need-returns
-returns c = enter-none (lent (c .before .before .before .before .before .before .before .before .args .payload .now) (c .before .before .before .before .before .before .before .before .args .d2 .now) (c .before .before .before .before .before .before .before .before .args .ends .now) (c .before .before .before .before .before .before .before .before .args .notes .now) (c .before .before .before .before .before .before .before .before .args .tables)) (c .before .before .before .before .before .before .before .before .args .msg .now) (c .before .before .before .before .before .before .before .before .args .base) (c .before .before .before .before .before .before .before .before .args .place .left) (c .before .before .before .before .before .before .before .before .args .place .role) (c .before .before .before .before .before .before .before .before .args .place .nullable) (c .before .before .before .before .before .before .before .before .args .state) (c .if1 .taken)
+returns c = enter-none (lent (c .before .before .before .before .before .before .before .before .args .payload .now) (c .before .before .before .before .before .before .before .before .args .d2 .now) (c .before .before .before .before .before .before .before .before .args .ends .now) (c .before .before .before .before .before .before .before .before .args .notes .now) (c .before .before .before .before .before .before .before .before .args .tables)) (c .before .before .before .before .before .before .before .before .args .msg .now) (c .before .before .before .before .before .before .before .before .args .base) (c .before .before .before .before .before .before .before .before .args .place .left) (c .before .before .before .before .before .before .before .before .args .place .role) (c .before .before .before .before .before .before .before .before .args .place .projection) (c .before .before .before .before .before .before .before .before .args .place .nullable) (c .before .before .before .before .before .before .before .before .args .state) (c .if1 .taken)
 
 -- src/enter.rt:144:9
 type-head-requires : tie.Need-type-head-requires
@@ -45,7 +45,7 @@ error-requires c κs = search needs
 
 -- src/enter.rt:155:9
 returns-2 : tie.Need-returns-2
-returns-2 c = enter-uncut (lent (c .before .before .before .before .before .before .before .before .before .before .before .before .before .before .args .payload .now) (c .before .before .before .before .before .before .before .before .before .before .before .before .before .before .args .d2 .now) (c .before .before .before .before .before .before .before .before .before .before .before .before .before .before .args .ends .now) (c .before .before .before .before .before .before .before .before .before .before .before .before .before .before .args .notes .now) (c .before .before .before .before .before .before .before .before .before .before .before .before .before .before .args .tables)) (c .before .before .before .before .before .before .before .before .before .before .before .before .before .before .args .msg .now) (c .before .before .before .before .before .before .before .before .before .before .before .before .before .before .args .base) (c .before .before .before .before .before .before .before .before .before .before .before .before .before .before .args .place .left) (c .before .before .before .before .before .before .before .before .before .before .before .before .before .before .args .place .role) (c .before .before .before .before .before .before .before .before .before .before .before .before .before .before .args .place .nullable) (c .before .before .before .before .before .before .before .before .before .before .before .before .before .before .args .state) (c .before .before .before .before .before .before .before .before .before .before .before .before .before .before .pre .0) (c .before .before .before .before .before .before .if1 .left) (c .before .before .before .before .less .ensures) (c .before .before .before .count-arguments .result) (c .before .before .before .count-arguments .ensures) (c .before .enum-told .given .1) (c .error .ensures _ (c .before .enum-told .given .1))
+returns-2 c = enter-uncut (lent (c .before .before .before .before .before .before .before .before .before .before .before .before .before .before .args .payload .now) (c .before .before .before .before .before .before .before .before .before .before .before .before .before .before .args .d2 .now) (c .before .before .before .before .before .before .before .before .before .before .before .before .before .before .args .ends .now) (c .before .before .before .before .before .before .before .before .before .before .before .before .before .before .args .notes .now) (c .before .before .before .before .before .before .before .before .before .before .before .before .before .before .args .tables)) (c .before .before .before .before .before .before .before .before .before .before .before .before .before .before .args .msg .now) (c .before .before .before .before .before .before .before .before .before .before .before .before .before .before .args .base) (c .before .before .before .before .before .before .before .before .before .before .before .before .before .before .args .place .left) (c .before .before .before .before .before .before .before .before .before .before .before .before .before .before .args .place .role) (c .before .before .before .before .before .before .before .before .before .before .before .before .before .before .args .place .projection) (c .before .before .before .before .before .before .before .before .before .before .before .before .before .before .args .place .nullable) (c .before .before .before .before .before .before .before .before .before .before .before .before .before .before .args .state) (c .before .before .before .before .before .before .before .before .before .before .before .before .before .before .pre .0) (c .before .before .before .before .before .before .if1 .left) (c .before .before .before .before .less .ensures) (c .before .before .before .count-arguments .result) (c .before .before .before .count-arguments .ensures) (c .before .enum-told .given .1) (c .error .ensures _ (c .before .enum-told .given .1))
 
 -- src/enter.rt:161:9
 either-requires : tie.Need-either-requires
@@ -69,7 +69,7 @@ same-length-2 c = search needs
 
 -- src/enter.rt:122:1
 returns-3 : tie.Need-returns-3
-returns-3 c = enter-done (lent (c .before .before .before .before .before .before .before .before .before .before .before .before .before .before .before .before .before .before .before .before .before .before .before .args .payload .now) (c .before .before .before .before .before .before .before .before .before .before .before .before .before .before .before .before .before .before .before .before .before .before .before .args .d2 .now) (c .before .before .before .before .before .before .before .before .before .before .before .before .before .before .before .before .before .before .before .before .before .before .before .args .ends .now) (c .before .before .before .before .before .before .before .before .before .before .before .before .before .before .before .before .before .before .before .before .before .before .before .args .notes .now) (c .before .before .before .before .before .before .before .before .before .before .before .before .before .before .before .before .before .before .before .before .before .before .before .args .tables)) (c .before .before .before .before .before .before .before .before .before .before .before .before .before .before .before .before .before .before .before .before .before .before .before .args .msg .now) (c .before .before .before .before .before .before .before .before .before .before .before .before .before .before .before .before .before .before .before .before .before .before .before .args .base) (c .before .before .before .before .before .before .before .before .before .before .before .before .before .before .before .before .before .before .before .before .before .before .before .args .place .left) (c .before .before .before .before .before .before .before .before .before .before .before .before .before .before .before .before .before .before .before .before .before .before .before .args .place .role) (c .before .before .before .before .before .before .before .before .before .before .before .before .before .before .before .before .before .before .before .before .before .before .before .args .place .nullable) (c .before .before .before .before .before .before .before .before .before .before .before .before .before .before .before .before .before .before .before .before .before .before .before .args .state) (c .before .before .before .before .before .before .before .before .before .before .before .before .before .before .before .before .before .before .before .before .before .before .before .pre .0) (c .before .before .before .before .before .before .before .before .before .before .before .before .before .before .before .if1 .left) (c .before .before .before .before .before .before .before .before .before .before .before .before .before .less .ensures) (c .before .before .before .before .before .before .before .before .before .before .before .before .count-arguments .result) (c .before .before .before .before .before .before .before .before .before .before .before .before .count-arguments .ensures) (c .before .before .before .before .before .before .before .before .before .before .arguments .given .1) (c .before .before .before .before .before .before .before .before .before .before .before .before .before .before .type-head .ensures) (c .before .before .before .before .before .before .before .before .either .ensures) (c .before .before .before .before .before .before .before .class-name-at .result) (c .before .before .before .before .before .before .before .class-name-at .ensures) (c .before .before .before .before .put-type .ensures)
+returns-3 c = enter-done (lent (c .before .before .before .before .before .before .before .before .before .before .before .before .before .before .before .before .before .before .before .before .before .before .before .args .payload .now) (c .before .before .before .before .before .before .before .before .before .before .before .before .before .before .before .before .before .before .before .before .before .before .before .args .d2 .now) (c .before .before .before .before .before .before .before .before .before .before .before .before .before .before .before .before .before .before .before .before .before .before .before .args .ends .now) (c .before .before .before .before .before .before .before .before .before .before .before .before .before .before .before .before .before .before .before .before .before .before .before .args .notes .now) (c .before .before .before .before .before .before .before .before .before .before .before .before .before .before .before .before .before .before .before .before .before .before .before .args .tables)) (c .before .before .before .before .before .before .before .before .before .before .before .before .before .before .before .before .before .before .before .before .before .before .before .args .msg .now) (c .before .before .before .before .before .before .before .before .before .before .before .before .before .before .before .before .before .before .before .before .before .before .before .args .base) (c .before .before .before .before .before .before .before .before .before .before .before .before .before .before .before .before .before .before .before .before .before .before .before .args .place .left) (c .before .before .before .before .before .before .before .before .before .before .before .before .before .before .before .before .before .before .before .before .before .before .before .args .place .role) (c .before .before .before .before .before .before .before .before .before .before .before .before .before .before .before .before .before .before .before .before .before .before .before .args .place .projection) (c .before .before .before .before .before .before .before .before .before .before .before .before .before .before .before .before .before .before .before .before .before .before .before .args .place .nullable) (c .before .before .before .before .before .before .before .before .before .before .before .before .before .before .before .before .before .before .before .before .before .before .before .args .state) (c .before .before .before .before .before .before .before .before .before .before .before .before .before .before .before .before .before .before .before .before .before .before .before .pre .0) (c .before .before .before .before .before .before .before .before .before .before .before .before .before .before .before .if1 .left) (c .before .before .before .before .before .before .before .before .before .before .before .before .before .less .ensures) (c .before .before .before .before .before .before .before .before .before .before .before .before .count-arguments .result) (c .before .before .before .before .before .before .before .before .before .before .before .before .count-arguments .ensures) (c .before .before .before .before .before .before .before .before .before .before .arguments .given .1) (c .before .before .before .before .before .before .before .before .before .before .before .before .before .before .type-head .ensures) (c .before .before .before .before .before .before .before .before .either .ensures) (c .before .before .before .before .before .before .before .class-name-at .result) (c .before .before .before .before .before .before .before .class-name-at .ensures) (c .before .before .before .before .put-type .ensures)
 
 pub enter-type-spec : {M : Type 1} → statement M
 enter-type-spec =
