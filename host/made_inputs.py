@@ -95,20 +95,21 @@ def functions(count, rest):
 
 
 def room_line(line):
-    """What must be told of the room where this line is right: number, detail, both lengths, types, records of each kind."""
+    """What must be told of the room where this line is right: number, detail, both lengths, types, records of each kind, text of each list."""
     number, detail, sheet, text = sheets.line_answer(line)
     records = [record['record'] for record in sheets.records(sheet, text)]
     counts = [records.count(name) for _, (name, _) in sorted(sheets.RECORDS.items())]
-    return ' '.join(map(str, [number, detail, len(sheet), len(text), records.count('type'), *counts]))
+    return ' '.join(map(str, [number, detail, len(sheet), len(text), records.count('type'), *counts, *sheets.list_texts(sheet, text).values()]))
 
 
 # A name that no area holds three times; and one of 98,304 bytes as name and signature of each of 3,640 functions, whose texts are more than a
 # thousand million bytes: of these what is told of the room stands here, since they have no line. Each function has a record of 24 bytes and
 # one of 5.
 LONG_TEXTS = {
-    'text of 90,000 bytes': (given(2, 1, functions(3, b''), ['f' * 30000]), [23 + 3 * 29, 90000, 0, 1, 0, 3, 0, 0, 0, 3, 0, 1]),
+    'text of 90,000 bytes': (given(2, 1, functions(3, b''), ['f' * 30000]), [23 + 3 * 29, 90000, 0, 1, 0, 3, 0, 0, 0, 3, 0, 1, 0, 90000, 0, 0, 0]),
     'text of 1,073,479,680 bytes': (given(2, 1, functions(3640, b'\xa2\6\2\x10\0'), ['\uffff' * 32768]),
-                                    [23 + 3640 * 29, 3640 * 3 * 98304, 0, 1, 0, 3640, 0, 0, 0, 3640, 0, 1]),
+                                    [23 + 3640 * 29, 3640 * 3 * 98304, 0, 1, 0, 3640, 0, 0, 0, 3640, 0, 1,
+                                     0, 3640 * 3 * 98304, 0, 0, 0]),
 }
 
 

@@ -117,8 +117,10 @@ void sheet_read(int32_t k, int32_t major, int32_t minor, int32_t patch,
                 uint8_t *text, size_t text_size,
                 uint64_t answer[SHEET_ANSWER]);
 
-/* What sheet_room puts into answer: the five numbers of sheet_read's answer, SHEET_NUMBER to SHEET_TYPES, in the same places, and then how many
- * records of each kind stand on the sheet. The number of records of a kind stands at SHEET_ROOM_RECORDS + kind. */
+/* What sheet_room puts into answer: the five numbers of sheet_read's answer, SHEET_NUMBER to SHEET_TYPES, in the same places, then how many
+ * records of each kind stand on the sheet, and then how many bytes of text each list has. The number of records of a kind stands at
+ * SHEET_ROOM_RECORDS + kind. A list's text is that of its declarations and of all they own: parameters, types, default descriptors. The five add up
+ * to answer[SHEET_TEXT_LENGTH]. */
 enum {
     SHEET_ROOM_RECORDS = 4,
     SHEET_ROOM_HEAD = 5,        /* 1 of every class that is not refused */
@@ -130,7 +132,12 @@ enum {
     SHEET_ROOM_DEFAULT = 11,    /* as many as constructors and functions */
     SHEET_ROOM_ALIAS = 12,
     SHEET_ROOM_ALIASES = 13,    /* 1 of every class that is not refused: the record that counts the aliases */
-    SHEET_ROOM_ANSWER = 14      /* how many numbers answer has */
+    SHEET_ROOM_TEXT_PROPERTIES = 14,
+    SHEET_ROOM_TEXT_FUNCTIONS = 15,
+    SHEET_ROOM_TEXT_CONSTRUCTORS = 16,
+    SHEET_ROOM_TEXT_ALIASES = 17,
+    SHEET_ROOM_TEXT_HEAD = 18,  /* the class's own name */
+    SHEET_ROOM_ANSWER = 19      /* how many numbers answer has */
 };
 
 /* Tells how much room the sheet of a class takes, before any area is lent.

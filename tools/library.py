@@ -2,16 +2,17 @@
 import array, collections, ctypes
 
 import library_build
-from sheets import RECORDS, TEXT_LIMIT
+from sheets import LISTS, RECORDS, TEXT_LIMIT
 
 SHEET_LONGEST = 413695  # areas of this size and of TEXT_LIMIT are always long enough
 # of a conversion: its function, and how many units it gives at most
 OLD_TO_NEW, NEW_TO_OLD = ('sheet_old_to_new', 28673), ('sheet_new_to_old', 37448)
 
 Answer = collections.namedtuple('Answer', 'number detail sheet text types')
-# of a class before it is read: lengths of sheet and text, types, and records by kind
-Room = collections.namedtuple('Room', 'number detail sheet text types records')
+# of a class before it is read: lengths of sheet and text, types, records by kind, and the text of each list
+Room = collections.namedtuple('Room', 'number detail sheet text types records texts')
 FIRST_RECORDS = 5  # the place of the records of kind 1
+FIRST_TEXT = FIRST_RECORDS + len(RECORDS)  # the place of the first list's text
 Converted = collections.namedtuple('Converted', 'number detail units')
 
 
@@ -54,8 +55,8 @@ class Library:
 
     def room(self, m):
         """The room for a class_input.Metadata."""
-        told = self.call(self.sheet_room, m, [], FIRST_RECORDS + len(RECORDS))
-        return Room(*told[:FIRST_RECORDS], dict(enumerate(told[FIRST_RECORDS:], 1)))
+        told = self.call(self.sheet_room, m, [], FIRST_TEXT + len(LISTS))
+        return Room(*told[:FIRST_RECORDS], dict(enumerate(told[FIRST_RECORDS:FIRST_TEXT], 1)), dict(zip(LISTS, told[FIRST_TEXT:])))
 
     def convert(self, way, units):
         """The units of the other form; `way` is OLD_TO_NEW or NEW_TO_OLD."""

@@ -152,7 +152,8 @@ class CheckedRoom(Checked):
         answer = self.reading.answer(class_input.ClassFile(one.found.data()).metadata())
         records = collections.Counter(record['record'] for record in sheets.records(answer.sheet, answer.text))
         kinds = {kind: records[name] for kind, (name, _) in sheets.RECORDS.items()}
-        if answer.number != 11 and one.room != (0, 0, len(answer.sheet), len(answer.text), answer.types, kinds) or one.fits() == (answer.number == 11):
+        texts = sheets.list_texts(answer.sheet, answer.text)
+        if answer.number != 11 and one.room != (0, 0, len(answer.sheet), len(answer.text), answer.types, kinds, texts) or one.fits() == (answer.number == 11):
             raise AssertionError(f'the room {one.room} is not that of what is read')
 
 

@@ -144,8 +144,9 @@ def checked_json(one, findings):
 
 
 def measured_json(one):
-    """A runs.Measured. Records are counted by kind, also those that a class has none of."""
+    """A runs.Measured. Records are counted by kind and text by lists, also those that a class has none of."""
     room = one.room
     return {**where(one.found, one.name), 'state': 'measured', 'format': sheets.FORMAT, 'sheet_bytes': room.sheet, 'text_bytes': room.text,
             'fits': one.fits(), 'types': room.types,
-            'records': {sheets.RECORDS[kind][0].replace(' ', '_'): number for kind, number in sorted(room.records.items())}}
+            'records': {sheets.RECORDS[kind][0].replace(' ', '_'): number for kind, number in sorted(room.records.items())},
+            'list_text_bytes': room.texts}

@@ -522,27 +522,30 @@ class Refusals(InFolder):
 
 
 def room_of(name):
-    """What an example's line, which is the Rust's, says of its room: bytes of sheet and text, and records by kind."""
+    """What an example's line, which is the Rust's, says of its room: bytes of sheet and text, records by kind, text of each list."""
     _, _, sheet, text = sheets.line_answer(example(name, '.line').decode())
     records = collections.Counter(record['record'] for record in sheets.records(sheet, text))
-    return len(sheet), len(text), {kind: records[record] for kind, (record, _) in sheets.RECORDS.items()}
+    return len(sheet), len(text), {kind: records[record] for kind, (record, _) in sheets.RECORDS.items()}, sheets.list_texts(sheet, text)
 
 
 class Room(InFolder):
     def test_examples(self):
         for name in NAMES:
-            sheet_bytes, text_bytes, records = room_of(name)
+            sheet_bytes, text_bytes, records, texts = room_of(name)
+            self.assertEqual(sum(texts.values()), text_bytes)
             status, out, said = sheet('room', f'examples/{name}.class')
             self.assertEqual((status, said), (0, ''))
-            self.assertEqual([int(n) for n in re.findall(r'\d+', out)], [sheet_bytes, text_bytes, *records.values()], name)
+            self.assertEqual([int(n) for n in re.findall(r'\d+', out)], [sheet_bytes, text_bytes, *records.values(), *texts.values()], name)
             o, = objects(sheet('room', '--json', f'examples/{name}.class')[1])
             self.assertEqual(schema.faults(o, SCHEMA, SCHEMA), [])
             self.assertEqual((o['state'], o['format'], o['sheet_bytes'], o['text_bytes'], o['fits'], o['types'], list(o['records'].values())),
                              ('measured', sheets.FORMAT, sheet_bytes, text_bytes, True, records[6], list(records.values())), name)
+            self.assertEqual(list(o['list_text_bytes'].items()), list(texts.items()), name)
 
     def test_words(self):
         self.assertEqual(sheet('room', 'examples/TillKt.class')[1], 'sheet 259 bytes, text 263 bytes; 1 head, 0 constructors, 2 functions, 1 property, '
-                         '3 parameters, 12 types, 2 default descriptors, 0 aliases, 1 count of aliases\n')
+                         '3 parameters, 12 types, 2 default descriptors, 0 aliases, 1 count of aliases; '
+                         'text of properties 51, functions 212, constructors 0, aliases 0, head 0\n')
 
     def test_the_manual_shows_what_is_printed(self):
         with open(os.path.join(ROOT, 'docs', 'MANUAL.md'), encoding='utf-8') as f:
@@ -560,7 +563,8 @@ class Room(InFolder):
         longest = [max(zip(rooms, NAMES), key=lambda one: one[0][at]) for at in (0, 1)]
         self.assertEqual(lines[-2], 'longest: ' + ', '.join(
             f'{area} {room[at]} bytes (examples/{name}.class)' for at, (area, (room, name)) in enumerate(zip(('sheet', 'text'), longest))))
-        sums = [sum(room[0] for room in rooms), sum(room[1] for room in rooms), *(sum(room[2][kind] for room in rooms) for kind in range(1, 10))]
+        sums = [sum(room[0] for room in rooms), sum(room[1] for room in rooms), *(sum(room[2][kind] for room in rooms) for kind in range(1, 10)),
+                *(sum(room[3][name] for room in rooms) for name in sheets.LISTS)]
         self.assertEqual([int(n) for n in re.findall(r'\d+', lines[-1])], [len(NAMES), *sums])
         self.assertRegex(said, rf'^sheet: {len(NAMES)} measured, 0 refused, ')
         self.assertEqual(len(objects(sheet('room', '--json', 'examples')[1])), len(NAMES))
@@ -569,10 +573,10 @@ class Room(InFolder):
         aliases = made_class.alias(0, b'\x30\1', b'\x30\1') + made_class.alias(0, None, None)
         path = self.put('Aliases.class', made_class.class_file(made_class.package(aliases, ['Cents', 'kotlin/Long'])))
         self.assertEqual(sheet('room', path)[1], 'sheet 69 bytes, text 32 bytes; 1 head, 0 constructors, 0 functions, 0 properties, 0 parameters, 2 types, '
-                         '0 default descriptors, 2 aliases, 1 count of aliases\n')
+                         '0 default descriptors, 2 aliases, 1 count of aliases; text of properties 0, functions 0, constructors 0, aliases 32, head 0\n')
         path = self.put('Facade.class', made_class.class_file({'k': 4, 'mv': [1, 1, 15], 'd1': ['made/F__AKt']}))
         self.assertEqual(sheet('room', path)[1], 'sheet 23 bytes, text 0 bytes; 1 head, 0 constructors, 0 functions, 0 properties, 0 parameters, 0 types, '
-                         '0 default descriptors, 0 aliases, 1 count of aliases\n')
+                         '0 default descriptors, 0 aliases, 1 count of aliases; text of properties 0, functions 0, constructors 0, aliases 0, head 0\n')
 
     def test_refusals_are_those_of_read_but_for_the_text(self):
         for number, _, values in refused():
@@ -582,7 +586,8 @@ class Room(InFolder):
                 self.assertEqual(sheet('room', '--json', path), sheet('read', '--json', path), number)
                 continue
             self.assertEqual(sheet('room', path), (0, 'sheet 110 bytes, text 90000 bytes; 1 head, 0 constructors, 3 functions, 0 properties, 0 parameters, '
-                             '0 types, 3 default descriptors, 0 aliases, 1 count of aliases [the text fits no area: more than 65534 bytes]\n', ''))
+                             '0 types, 3 default descriptors, 0 aliases, 1 count of aliases; text of properties 0, functions 90000, constructors 0, '
+                             'aliases 0, head 0 [the text fits no area: more than 65534 bytes]\n', ''))
             o, = objects(sheet('room', '--json', path)[1])
             self.assertEqual((o['fits'], o['text_bytes'], schema.faults(o, SCHEMA, SCHEMA)), (False, 90000, []))
 
@@ -591,7 +596,7 @@ class Room(InFolder):
         jar = self.jar('a.jar', {'till/Line.class': example('Line', '.class'), 'x/Bad.class': made_class.class_file(values[7]),
                                  'x/Cut.class': example('Sale', '.class')[:400], 'x/Long.class': made_class.class_file(values[11])})
         status, out, said = sheet('room', jar)
-        lines, (sheet_bytes, text_bytes, _) = out.splitlines(), room_of('Line')
+        lines, (sheet_bytes, text_bytes, _, _) = out.splitlines(), room_of('Line')
         self.assertEqual((status, len(lines)), (1, 5))
         self.assertTrue(lines[1].startswith(f'{jar}!/x/Long.class: sheet 110 bytes, text 90000 bytes; '))
         self.assertEqual(lines[2:4], [f'longest: sheet {sheet_bytes} bytes ({jar}!/till/Line.class), text {text_bytes} bytes ({jar}!/till/Line.class)',

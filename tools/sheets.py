@@ -22,8 +22,13 @@ RECORDS = {
     9: ('aliases', [('aliases', 2)]),
 }
 
+RECORDS_BY_NAME = dict(RECORDS.values())
+
 # where a record's name has no s for the plural
 PLURALS = {'property': 'properties', 'alias': 'aliases'}
+
+# the lists whose text is told by itself, in this order, and the kind of their members
+LISTS = {'properties': 4, 'functions': 3, 'constructors': 2, 'aliases': 8, 'head': 1}
 
 # no text is longer: a class with a longer one is refused with 11
 TEXT_LIMIT = 65534
@@ -99,6 +104,18 @@ def ref(cell, text):
     if offset + size > len(text):
         raise NotALine('a ref points past the text')
     return text[offset:offset + size].decode('utf-8', 'replace')
+
+
+def list_texts(sheet, text):
+    """Bytes of text of each list: of its members, and of the parameters, types and default descriptors that stand after them."""
+    texts, lists = dict.fromkeys(LISTS, 0), {RECORDS[kind][0]: name for name, kind in LISTS.items()}
+    for record in records(sheet, text):
+        if record['record'] not in ('parameter', 'type', 'default descriptor'):
+            of = lists.get(record['record'])
+        refs = [record[name] for name, width in RECORDS_BY_NAME[record['record']] if width == 'ref' and record[name] is not None]
+        if refs:
+            texts[of] += sum(len(told.encode()) for told in refs)
+    return texts
 
 
 class Walk:

@@ -2,8 +2,9 @@
 """usage: tables.py [ROOT]
 
 Whether the tables that are repeated for people and programs are those of the definitions: the records (kinds, lengths, cells in their order),
-the numbers of refusals, the roles of types, the projections of arguments, the limits, and where the records of each kind stand among the room's numbers. The definitions' text is read in crates/*/specs; held to it are docs/MANUAL.md,
-include/sheet_reader.h, the tools (the file that has RECORDS) and the Java classes. Says each difference; the exit status is then 1."""
+the numbers of refusals, the roles of types, the projections of arguments, the limits, and where the records of each kind and the text of each list stand among the room's numbers. The
+definitions' text is read in crates/*/specs; held to it are docs/MANUAL.md, include/sheet_reader.h, the tools (the file that has RECORDS) and the Java
+classes. Says each difference; the exit status is then 1."""
 import importlib.util, pathlib, re, sys
 
 SPECS = {
@@ -12,6 +13,7 @@ SPECS = {
     'refusals': [('inputs/specs/Refusals.antt', 'numberOf', 'detailOf'), ('converter/specs/Conversions.antt', 'faultNumber', 'faultDetail')],
     'roles': 'declaration_rows/specs/Rows.antt',
     'projections': 'declaration_rows/specs/Declarations.antt',
+    'lists': 'room/specs/Room.antt',
     'limits': {'unitLimit': 'encoding/specs/Encoding.antt', 'stringLimit': 'inputs/specs/Inputs.antt', 'allowance': 'schema/specs/Reading.antt',
                'textLimit': 'passes/specs/Answered.antt', 'maxDepth': 'schema/specs/Types.antt'},
 }
@@ -304,18 +306,32 @@ def names(table, defined):
 ANSWER = 5  # the numbers of an answer, which the room's numbers begin with
 
 
-def check_room(d, where, text, records):
-    """In the header: after the numbers of an answer the records of each kind, from kind 1 on."""
+# the rows of a list in the definition, and what the list is called
+LISTS = {'member.Property': 'properties', 'member.Function': 'functions', 'member.Constructor': 'constructors', 'member.Alias': 'aliases', 'headRow': 'head'}
+
+
+def defined_lists(root):
+    """The lists whose text is told, in their order."""
+    return [LISTS[rows] for rows in re.findall(r'member\.\w+|headRow', definition(spec(root, SPECS['lists']), 'listsOf')[1])]
+
+
+def check_room(d, where, text, records, lists):
+    """In the header: after the numbers of an answer the records of each kind, from kind 1 on, then the text of each list."""
+    first = ANSWER + len(records)
     places = {f'ROOM_{name.upper().split()[0]}': ANSWER + kind - 1 for kind, (name, _) in records.items()}
-    d.named(where, 'place', {'ANSWER': ANSWER, 'ROOM_RECORDS': ANSWER - 1, **places, 'ROOM_ANSWER': ANSWER + len(records)}, text)
+    places |= {f'ROOM_TEXT_{name.upper()}': first + i for i, name in enumerate(lists)}
+    d.named(where, 'place', {'ANSWER': ANSWER, 'ROOM_RECORDS': ANSWER - 1, **places, 'ROOM_ANSWER': first + len(lists)}, text)
 
 
-def check_manual_room(d, where, text, records):
+def check_manual_room(d, where, text, records, lists):
     """The same in MANUAL, in words."""
     told = {int(r[0]): r[1] for r in table_rows(manual_section(text, 'Areas that fit')) if r[0].isdigit()}
     kinds = {ANSWER + kind - 1: f'records of kind {kind}, {name}' for kind, (name, _) in records.items()}
-    d.same(where, 'places of the room', list(range(ANSWER + len(records))), sorted(told))
+    first = ANSWER + len(records)
+    texts = {first + i: f'bytes of text, {name}' for i, name in enumerate(lists)}
+    d.same(where, 'places of the room', list(range(first + len(lists))), sorted(told))
     d.same(where, "the room's records", kinds, {place: told.get(place) for place in kinds})
+    d.same(where, "the room's texts", texts, {place: told.get(place) for place in texts})
 
 
 def check_projections(d, root, module_path, module, projections):
@@ -384,8 +400,9 @@ def main(args):
         text = lambda path: (root / path).read_text(encoding='utf-8')
         check_manual(d, 'docs/MANUAL.md', text('docs/MANUAL.md'), records, causes, details, roles, limits)
         check_header(d, 'include/sheet_reader.h', text('include/sheet_reader.h'), records, causes, roles, limits)
-        check_room(d, 'include/sheet_reader.h', text('include/sheet_reader.h'), records)
-        check_manual_room(d, 'docs/MANUAL.md', text('docs/MANUAL.md'), records)
+        lists = defined_lists(root)
+        check_room(d, 'include/sheet_reader.h', text('include/sheet_reader.h'), records, lists)
+        check_manual_room(d, 'docs/MANUAL.md', text('docs/MANUAL.md'), records, lists)
         check_tool(d, *tool(root), records, causes, details, roles, limits)
         check_projections(d, root, *tool(root), projections)
         check_java(d, 'host/java/sheetreader', root, records, limits)

@@ -53,9 +53,11 @@ changed crates/declaration_rows/specs/Declarations.antt 's/^star = 3/star = 4/' 
 changed $header 's/SHEET_PROPERTY = 4/SHEET_PROPERTY = 5/' 'kind PROPERTY: 5'
 changed $header 's/SHEET_TEXT_LIMIT = 65534/SHEET_TEXT_LIMIT = 65535/' 'limit TEXT_LIMIT: 65535'
 changed $header 's/SHEET_ROOM_PARAMETER = 9/SHEET_ROOM_PARAMETER = 10/' 'place ROOM_PARAMETER: 10'
-changed $header 's/SHEET_ROOM_ANSWER = 14/SHEET_ROOM_ANSWER = 13/' 'place ROOM_ANSWER: 13'
+changed $header 's/SHEET_ROOM_TEXT_ALIASES = 17/SHEET_ROOM_TEXT_ALIASES = 18/' 'place ROOM_TEXT_ALIASES: 18'
+changed $header 's/SHEET_ROOM_ANSWER = 19/SHEET_ROOM_ANSWER = 14/' 'place ROOM_ANSWER: 14'
 changed $manual '/^| 7 | records of kind 3, function/s/function/property/' "the room's records"
 changed $manual '/^| 13 | records of kind 9/d' 'places of the room'
+changed $manual '/^| 14 | bytes of text, properties/s/properties/functions/' "the room's texts"
 changed $tool 's/^TEXT_LIMIT = 65534/TEXT_LIMIT = 65535/' 'limit TEXT_LIMIT: 65535'
 changed $tool "s/('receiver', 1), ('parameters', 2)/('parameters', 2), ('receiver', 1)/" "$tool: record 3: at 21 parameters"
 changed $tool "s/^    5: ('d1 is empty'/    5: ('d1 is short'/" 'refusal 5 is told as'

@@ -1,7 +1,7 @@
 //! The answer that an input must get: the original's, with the refusals that the original doesn't have; the second reading's where the original
 //! isn't held to (`comparison`).
 
-use crate::answer::{records_on, Answer, Room, Whole};
+use crate::answer::{records_on, texts_on, Answer, Room, Whole};
 use crate::comparison::{self, Basis, Change};
 use crate::forms;
 use crate::input::Input;
@@ -92,7 +92,8 @@ impl Judge {
     }
 
     /// Whether the room is that of the sheet that is right: its records by the bytes, its types by the records, and, where the original
-    /// settles the answer, the lengths and types of the original's sheet, also of one whose text no area holds.
+    /// settles the answer, the lengths and types of the original's sheet, also of one whose text no area holds. The texts by lists add up to
+    /// the text, and are those of the sheet's refs where these can tell them.
     fn room_fits(&self) -> bool {
         let room = self.room();
         if room.answer.number != 0 {
@@ -107,6 +108,8 @@ impl Judge {
             _ => (room.answer.sheet, room.answer.text, room.answer.types),
         };
         on_sheet == Some(room.records)
+            && room.texts.iter().sum::<u64>() == room.answer.text
+            && (room.answer.text > TEXT || texts_on(&self.reading.whole.sheet) == room.texts)
             && room.records[TYPE_KIND] == room.answer.types
             && of_original == (room.answer.sheet, room.answer.text, room.answer.types)
     }

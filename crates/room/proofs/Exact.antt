@@ -2,33 +2,36 @@
 -- Assumes nothing.
 use mathlib.Core.Path.{_≡_, refl, sym, ap, subst, _∙_}
 use mathlib.Core.Bool.{Bool, true, false}
-use mathlib.Core.List.{List}
-use mathlib.Core.Option.{some}
+use mathlib.Core.List.{List, [], _∷_}
+use mathlib.Core.Option.{Option, none, some}
 use Prim.Native.Nat.{ℕ, _-_, _≤_, _<_, min}
 use native.Mathlib.Omega.{arith}
 use borrow.Author.Tests.{ltb-true, ltb-false, lt-ltb, le-ltb}
 use lib.Dec.{ltb}
 use lib.ListN.{length}
 use Rattle.foundation.specs.Results.{Res, ok, refused, Cause}
-use Rattle.sheet.specs.Rows.{Row, texts, sheetFrom}
+use Rattle.foundation.proofs.ResultLaws.{Gives, gives-ok}
+use Rattle.foundation.specs.Choices.{ifSome}
+use Rattle.sheet.specs.Rows.{Row, bodyText, texts, sheetFrom}
 use Rattle.sheet.specs.Reading.{rowsOf}
 use Rattle.characters.specs.WellFormed.{Units}
 use Rattle.declaration_rows.specs.Declarations.{Declarations}
 use Rattle.schema.specs.Reading.{allowance}
 use Rattle.inputs.specs.Refusals.{numberOf}
-use Rattle.inputs.specs.Inputs.{Input, kindOf}
+use Rattle.inputs.specs.Inputs.{Input, kindOf, carriesDeclarations, faultOf}
 use Rattle.inputs.specs.Outcomes.{Answer, refusal}
 use Rattle.declarations.specs.Payload.{declarationRows}
-use Rattle.passes.specs.Answered.{textLimit, sheetWritten, written, accepted, answered}
+use Rattle.passes.specs.Answered.{headAlone, nothingRead, textLimit, sheetWritten, written, accepted, answered}
 use Rattle.metadata.specs.Read.{reading, read}
 use Rattle.promises.specs.Promises.{sheetBytes, textBytes}
 use Rattle.promises.proofs.Accepted.{accepted-reads, refusal-numbered}
 use Rattle.promises.proofs.Longest.{read-written, written-fits, text-refused}
 use Rattle.promises.proofs.Places.{Breaks, breaks-early, reading-breaks}
 use Rattle.promises.proofs.Promised.{read-back}
-use Rattle.room.specs.Room.{roomBy, roomOf, roomRefused, room}
-use Rattle.room.specs.Exact.{AsTold, RoomExact}
+use Rattle.room.specs.Room.{listsOf, textLengths, roomBy, roomOf, roomRefused, room}
+use Rattle.room.specs.Exact.{memberTexts, AsTold, RoomExact}
 use Rattle.room.proofs.CountLaws.{sheet-by-kinds}
+use Rattle.room.proofs.ListLaws.{texts-add, lists-are}
 
 -- The three answers to what was read: the text is too long, else the sheet is, else both fit.
 data Judged (sheet text : List ℕ) (rows : List Row) (n : ℕ) : Type 0 where
@@ -121,6 +124,9 @@ module _ (i : Input) (c : Cause) (place : ℕ) (e : reading i ≡ refused c plac
   not-0 : numberOf c ≡ 0 → ⊥
   not-0 z = omega (arith, refusal-numbered c)
 
+  nothing-read : (P : Declarations × ℕ → Type 0) → Gives P (reading i)
+  nothing-read P = subst (Gives P) (sym e) tt
+
   refused-exact : RoomExact i (roomRefused c place)
   refused-exact = record {
     refused = λ n sheet text. refusal-told sheet text;
@@ -135,7 +141,25 @@ module _ (i : Input) (c : Cause) (place : ℕ) (e : reading i ≡ refused c plac
     lessSheet = λ z. absurd (not-0 z);
     someSheet = λ z. absurd (not-0 z);
     counted = λ u sheet text z. absurd (not-0 (sym (refusal-number sheet text) ∙ z));
+    added = refl;
+    addedExact = λ sheet text. ((λ z. absurd (not-11 (sym (refusal-number sheet text) ∙ z))), λ p. absurd (not-0 (p .0)));
+    owned = λ d left f. gives-ok (λ x. roomRefused c place .listTexts ≡ memberTexts (declarationRows (kindOf (i .k)) (x .0))) f (nothing-read _);
+    listed = λ u sheet text z. absurd (not-0 (sym (refusal-number sheet text) ∙ z));
+    bare = λ n. refl;
   }
+
+-- A head alone has no text.
+bare-texts : (kind : ℕ) → textLengths (listsOf kind headAlone) ≡ 0 ∷ 0 ∷ 0 ∷ 0 ∷ 0 ∷ []
+unfolding texts bodyText
+bare-texts kind = refl
+
+bare-reading : (i : Input) → carriesDeclarations (kindOf (i .k)) ≡ false → Gives (λ (x : Declarations × ℕ). x .0 ≡ headAlone) (reading i)
+unfolding reading
+bare-reading i n = rw n (go (faultOf i))
+  where
+    go : (f : Option Cause) → Gives (λ (x : Declarations × ℕ). x .0 ≡ headAlone) (ifSome f nothingRead λ c. refused c 0)
+    go none = refl
+    go (some c) = tt
 
 -- Where it is not, the room tells the lengths of what was read.
 module _ (i : Input) (d : Declarations) (left : ℕ) (e : reading i ≡ ok (d, left)) where
@@ -162,7 +186,7 @@ module _ (i : Input) (d : Declarations) (left : ℕ) (e : reading i ≡ ok (d, l
   fitted : (sheet text : List ℕ) → read sheet text i .number ≡ 0 → Fitted sheet text rows entered
   fitted sheet text z = from-0 sheet text rows entered (judged sheet text rows entered) (sym (number-is sheet text) ∙ z)
 
-  told : (sheet text : List ℕ) → read sheet text i .number ≡ 0 → AsTold (roomOf rows entered) (read sheet text i)
+  told : (sheet text : List ℕ) → read sheet text i .number ≡ 0 → AsTold (roomOf (kindOf (i .k)) d entered) (read sheet text i)
   told sheet text z =
       let q = read-written sheet text i d left e ∙ fitted sheet text z .is in
       record {
@@ -184,7 +208,7 @@ module _ (i : Input) (d : Declarations) (left : ℕ) (e : reading i ≡ ok (d, l
       let a = accepted-reads sheet text i z in
       read-back sheet text i u a ∙ ap (λ (x : Declarations). some (declarationRows (kindOf (i .k)) x)) (same-read (a .declarations) (a .left) (a .reads))
 
-  read-exact : RoomExact i (roomOf rows entered)
+  read-exact : RoomExact i (roomOf (kindOf (i .k)) d entered)
   read-exact = record {
     refused = λ n. absurd (n refl);
     refuses = λ sheet text a b c.
@@ -211,6 +235,17 @@ module _ (i : Input) (d : Declarations) (left : ℕ) (e : reading i ≡ ok (d, l
     lessSheet = λ z h sheet text s t. is-12 sheet text (omega arith) (omega arith);
     someSheet = λ z. omega (arith, sheet-by-kinds (kindOf (i .k)) d);
     counted = λ u sheet text z. (rows, counted-rows u sheet text z, refl);
+    added = texts-add (kindOf (i .k)) d;
+    addedExact = λ sheet text. (
+      (λ z.
+          let over = from-11 sheet text rows entered (judged sheet text rows entered) (sym (number-is sheet text) ∙ z) in
+          (refl, omega (arith, over, texts-add (kindOf (i .k)) d))),
+      λ p. is-11 sheet text (omega (arith, p .1, texts-add (kindOf (i .k)) d)),
+    );
+    owned = λ x l f.
+        lists-are (kindOf (i .k)) d ∙ ap (λ (y : Declarations). memberTexts (declarationRows (kindOf (i .k)) y)) (sym (same-read x l f));
+    listed = λ u sheet text z. (rows, counted-rows u sheet text z, lists-are (kindOf (i .k)) d);
+    bare = λ n. ap (λ (x : Declarations). textLengths (listsOf (kindOf (i .k)) x)) (gives-ok (λ x. x .0 ≡ headAlone) e (bare-reading i n)) ∙ bare-texts (kindOf (i .k));
   }
 
 -- For every input, and whatever areas it is read into.

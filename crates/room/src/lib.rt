@@ -4,7 +4,7 @@ ghost use Prim.Native.Nat.{_≤_};
 ghost use Rattle.inputs.specs.Inputs.{input};
 ghost use Rattle.promises.specs.Promises.{longestSheet};
 ghost use Rattle.room.specs.Room as definition;
-ghost use Rattle.room.specs.told.RoomTold.{othersBytes, parametersLeft, tellsRoom};
+ghost use Rattle.room.specs.told.RoomTold.{othersBytes, parametersLeft, TextsRise, textsBetween, tellsRoom};
 use declarations::body::Sections;
 use inputs::outcome::Outcome;
 use metadata::measure;
@@ -22,7 +22,16 @@ pub struct Records {
     pub counts: usize,
 }
 
-// Number and detail of a refusal (0 and 0: none), both lengths, the types, the records.
+// The bytes of text of each list, of its records and of all they own; the head's last.
+pub struct ListTexts {
+    pub properties: usize,
+    pub functions: usize,
+    pub constructors: usize,
+    pub aliases: usize,
+    pub head: usize,
+}
+
+// Number and detail of a refusal (0 and 0: none), both lengths, the types, the records, the text by lists.
 pub struct RoomAnswer {
     pub number: u64,
     pub detail: u64,
@@ -30,6 +39,7 @@ pub struct RoomAnswer {
     pub text: usize,
     pub types: usize,
     pub records: Records,
+    pub texts: ListTexts,
 }
 
 // The parameters' records. Every kind has a width of its own, so that they take what all the others leave of the sheet: 23 bytes are the head's and
@@ -65,6 +75,44 @@ fn no_records() -> Records
     }
 }
 
+// The text of each list: what stands between where the text before it ends and where its own does. The aliases' ends where the whole text does.
+fn texts_in(text: usize, sections: Sections) -> ListTexts
+    requires { ⌜ TextsRise text sections ⌝ }
+    ensures { λ r. ⌜ r ≡ textsBetween text sections ⌝ }
+{
+    let head = sections.head;
+    let constructors = sections.constructors;
+    let constructors_end = constructors.state;
+    let functions = sections.functions;
+    let functions_end = functions.state;
+    let properties = sections.properties;
+    let properties_end = properties.state;
+    let of_properties = properties_end.text - functions_end.text;
+    let of_functions = functions_end.text - constructors_end.text;
+    let of_constructors = constructors_end.text - head.text;
+    let of_aliases = text - properties_end.text;
+    ListTexts {
+        properties: of_properties,
+        functions: of_functions,
+        constructors: of_constructors,
+        aliases: of_aliases,
+        head: head.text,
+    }
+}
+
+// No text in any list.
+fn no_texts() -> ListTexts
+    ensures { λ r. ⌜ r ≡ record { properties = 0; functions = 0; constructors = 0; aliases = 0; head = 0 } ⌝ }
+{
+    ListTexts {
+        properties: 0,
+        functions: 0,
+        constructors: 0,
+        aliases: 0,
+        head: 0,
+    }
+}
+
 // Tells of one class, from k, mv, d1's units, d2's units and where its strings end, what its reading takes; or the refusal that reading gives
 // short of 11 and 12.
 pub fn room(k: i32, version: [i32; 3], d1: &[u16], d2: &[u16], ends: &[u32]) -> RoomAnswer
@@ -80,10 +128,12 @@ pub fn room(k: i32, version: [i32; 3], d1: &[u16], d2: &[u16], ends: &[u32]) -> 
             text: 0,
             types: 0,
             records: no_records(),
+            texts: no_texts(),
         };
     }
     let sections = reply.sections;
     let parameters = parameters_in(outcome, sections);
+    let texts = texts_in(outcome.text, sections);
     let constructors = sections.constructors;
     let functions = sections.functions;
     let properties = sections.properties;
@@ -106,5 +156,6 @@ pub fn room(k: i32, version: [i32; 3], d1: &[u16], d2: &[u16], ends: &[u32]) -> 
             aliases: aliases.count,
             counts: 1,
         },
+        texts,
     }
 }

@@ -42,11 +42,12 @@ pub exported-is : (S T : List ℕ) (k major minor patch : ℤ) (d1 d2 ends : Lis
     ≡ toldIn (r .number ∷ r .detail ∷ r .sheet ∷ r .text ∷ r .types ∷ []) S′ T′
 exported-is S T k major minor patch d1 d2 ends f g h i r S′ T′ e = ap (read S T) (same-input k major minor patch d1 d2 ends f g h i) ∙ e
 
--- the fourteen numbers of a room
+-- the nineteen numbers of a room
 abbrev pub roomNumbers : RoomAnswer → List ℕ
 roomNumbers r =
     r .number ∷ r .detail ∷ r .sheet ∷ r .text ∷ r .types ∷ r .records .heads ∷ r .records .constructors ∷ r .records .functions ∷ r .records .properties
-    ∷ r .records .parameters ∷ r .records .types ∷ r .records .defaults ∷ r .records .aliases ∷ r .records .counts ∷ []
+    ∷ r .records .parameters ∷ r .records .types ∷ r .records .defaults ∷ r .records .aliases ∷ r .records .counts ∷ r .texts .properties
+    ∷ r .texts .functions ∷ r .texts .constructors ∷ r .texts .aliases ∷ r .texts .head ∷ []
 
 pub exported-room : (k major minor patch : ℤ) (d1 d2 ends : List ℕ) → SFits w32 k → SFits w32 major → SFits w32 minor → SFits w32 patch → (r : RoomAnswer)
     → room (input (back k) (back major ∷ back minor ∷ back patch ∷ []) d1 d2 ends) ≡ tellsRoom r

@@ -31,7 +31,7 @@ abbrev pub DemandWithAny : Input → definition.Answer → Type 0
 DemandWithAny i a =
     (sheet text : List ℕ) (j : Input) (b : definition.Answer) → read sheet text j ≡ b → Units (j .d2) → b .number ≡ 0 → Demand i j a b
 
--- a room as fourteen numbers
+-- a room as nineteen numbers
 abbrev pub roomIn : List ℕ → Room
 roomIn a = record {
   number = getD a 0 0;
@@ -41,6 +41,7 @@ roomIn a = record {
   types = getD a 4 0;
   records =
       getD a 5 0 ∷ getD a 6 0 ∷ getD a 7 0 ∷ getD a 8 0 ∷ getD a 9 0 ∷ getD a 10 0 ∷ getD a 11 0 ∷ getD a 12 0 ∷ getD a 13 0 ∷ [];
+  listTexts = getD a 14 0 ∷ getD a 15 0 ∷ getD a 16 0 ∷ getD a 17 0 ∷ getD a 18 0 ∷ [];
 }
 
 -- a conversion's answer as three numbers, and what its area holds afterwards

@@ -52,9 +52,10 @@ pub extern "C" fn sheet_read(
     ];
 }
 
-// `room`, with number, detail, sheet length, text length, types, and how many records of kind 1, 2, .., 9, in this order. It takes the input of
-// `sheet_read` and no areas. A refusal is the one that reading gives short of 11 and 12, with all else 0. A text that is too long for any area is told
-// at its true length. What is told is exact, with the areas of any `sheet_read` of the same input (`RoomExact`). Nothing is asked of what is handed in.
+// `room`, with number, detail, sheet length, text length, types, how many records of kind 1, 2, .., 9, and the bytes of text of the properties, functions,
+// constructors, aliases and head, in this order. It takes the input of `sheet_read` and no areas. A refusal is the one that reading gives short of 11 and
+// 12, with all else 0. A text that is too long for any area is told at its true length, and the five numbers add up to it. What is told is exact, with the
+// areas of any `sheet_read` of the same input (`RoomExact`). Nothing is asked of what is handed in.
 #[no_mangle]
 pub extern "C" fn sheet_room(
     k: i32,
@@ -64,7 +65,7 @@ pub extern "C" fn sheet_room(
     d1: &[u16],
     d2: &[u16],
     ends: &[u32],
-    answer: &mut [u64; 14],
+    answer: &mut [u64; 19],
 )
     ensures { λ _. ⌜ room (input k (major ∷ minor ∷ patch ∷ []) (now (d1 .entry)) (now (d2 .entry)) (now (ends .entry))) ≡ roomIn (now (answer .exit)) ⌝ }
     ensures units { λ _. ⌜ Units (now (d2 .entry)) ⌝ }
@@ -73,6 +74,7 @@ pub extern "C" fn sheet_room(
     let version = [major, minor, patch];
     let r = room(k, version, &*d1, &*d2, &*ends);
     let records = r.records;
+    let texts = r.texts;
     *answer = [
         r.number,
         r.detail,
@@ -88,6 +90,11 @@ pub extern "C" fn sheet_room(
         records.defaults as u64,
         records.aliases as u64,
         records.counts as u64,
+        texts.properties as u64,
+        texts.functions as u64,
+        texts.constructors as u64,
+        texts.aliases as u64,
+        texts.head as u64,
     ];
 }
 

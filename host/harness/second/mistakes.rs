@@ -121,6 +121,14 @@ mistakes! {
     RoomDefaults: "the room has a default descriptor more",
     RoomAliases: "the room has an alias more",
     RoomAliasCounts: "the room has a count of aliases more",
+    RoomPropertyText: "the room's properties have a byte of text more",
+    RoomFunctionText: "the room's functions have a byte of text more",
+    RoomConstructorText: "the room's constructors have a byte of text more",
+    RoomAliasText: "the room's aliases have a byte of text more",
+    RoomHeadText: "the room's head has a byte of text more",
+    RoomSheetOrder: "the room's texts by lists stand in the order of the sheet",
+    RoomDefaultsApart: "default descriptors count as text of the head",
+    RoomTypesApart: "a function's types count as text of the properties",
     RoomLeft: "a refused room has a head",
     RoomTextCut: "the room's text is cut to what no area holds",
     RoomTextRefused: "the room refuses a text that no area holds",
@@ -142,6 +150,11 @@ const IN_ROOM: [Mistake; ROOM] = [
     Mistake::RoomDefaults,
     Mistake::RoomAliases,
     Mistake::RoomAliasCounts,
+    Mistake::RoomPropertyText,
+    Mistake::RoomFunctionText,
+    Mistake::RoomConstructorText,
+    Mistake::RoomAliasText,
+    Mistake::RoomHeadText,
 ];
 
 impl Mistake {

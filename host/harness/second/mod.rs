@@ -15,7 +15,7 @@ mod wire;
 
 pub use mistakes::Mistake;
 
-use crate::answer::{Answer, Room, Whole, KINDS, ROOM};
+use crate::answer::{Answer, Room, Whole, KINDS, LISTS, ROOM};
 use crate::forms::{self, is_old};
 use crate::input::Input;
 use crate::limits::{self, Areas};
@@ -30,6 +30,8 @@ pub struct Reading {
     pub text_total: u64,
     /// Records of each kind on the sheet, from kind 1 on.
     pub records: [u64; KINDS],
+    /// Bytes of text of the properties, functions, constructors, aliases and head.
+    pub texts: [u64; LISTS],
     /// Bytes that the original's copies of name records take, about.
     pub record_bytes: u64,
     /// What the ranges of the name records sum to.
@@ -52,6 +54,7 @@ pub fn read(input: &Input) -> Reading {
         whole: Whole::default(),
         text_total: 0,
         records: [0; KINDS],
+        texts: [0; LISTS],
         record_bytes: 0,
         ranges: 0,
         old_form: false,
@@ -110,6 +113,7 @@ impl Reading {
     fn accept(&mut self, out: sheet::Writer, types: u64) {
         self.text_total = out.text_total;
         self.records = out.records;
+        self.texts = out.texts;
         let types = if planted(Mistake::TypesOneMore) && types > 3 { types + 1 } else { types };
         self.whole = Whole {
             answer: Answer { number: 0, detail: 0, sheet: out.bytes.len() as u64, text: out.text_total, types },
@@ -120,7 +124,7 @@ impl Reading {
 
     /// What is told of the room: the lengths are the true ones, also of a text that fits no area.
     pub fn room(&self) -> Room {
-        Room { answer: self.whole.answer, records: self.records }
+        Room { answer: self.whole.answer, records: self.records, texts: self.texts }
     }
 
     /// The answer with these areas.
@@ -202,6 +206,9 @@ pub fn stand_in_room(mistake: Mistake, input: &Input, answer: &mut [u64; ROOM]) 
     }
     if planted(Mistake::RoomLeft) && refused {
         answer[5] = 1;
+    }
+    if planted(Mistake::RoomSheetOrder) {
+        answer[5 + KINDS..].copy_from_slice(&sheet::in_sheet_order(read(input).texts));
     }
     let too_long = answer[3] > limits::TEXT;
     if planted(Mistake::RoomTextCut) && too_long {

@@ -5,7 +5,7 @@ use super::members::{Alias, Class, Constructor, Function, Parameter, Property, S
 use super::mistakes::{planted, Mistake};
 use super::names::Names;
 use super::types::Type;
-use crate::answer::KINDS;
+use crate::answer::{KINDS, LISTS};
 use crate::limits::TEXT;
 
 /// The role of an argument.
@@ -19,6 +19,26 @@ pub struct Writer {
     pub text_total: u64,
     /// Records of each kind, from kind 1 on.
     pub records: [u64; KINDS],
+    /// Bytes of text of each list.
+    pub texts: [u64; LISTS],
+    /// The list that is written.
+    list: List,
+}
+
+/// The lists in the order in which their texts are told.
+#[derive(Clone, Copy, Default)]
+enum List {
+    Properties,
+    Functions,
+    Constructors,
+    Aliases,
+    #[default]
+    Head,
+}
+
+/// A planted mistake: the lists as they stand on the sheet.
+pub fn in_sheet_order(texts: [u64; LISTS]) -> [u64; LISTS] {
+    [List::Head, List::Constructors, List::Functions, List::Properties, List::Aliases].map(|list| texts[list as usize])
 }
 
 impl Writer {
@@ -41,15 +61,19 @@ impl Writer {
         self.number(class.constructors.len() as u64, 2);
         self.number(class.functions.len() as u64, 2);
         self.number(class.properties.len() as u64, 2);
+        self.list = List::Constructors;
         for constructor in &class.constructors {
             self.constructor(constructor, names);
         }
+        self.list = List::Functions;
         for function in &class.functions {
             self.function(function, names);
         }
+        self.list = List::Properties;
         for property in &class.properties {
             self.property(property, names);
         }
+        self.list = List::Aliases;
         self.aliases(&class.aliases, names);
     }
 
@@ -59,8 +83,7 @@ impl Writer {
         self.signature(constructor.signature, names);
         self.number(constructor.parameters.len() as u64, 2);
         self.parameters(&constructor.parameters, names);
-        self.record(7);
-        self.text(descriptors::of_constructor(constructor, names));
+        self.default_descriptor(descriptors::of_constructor(constructor, names));
     }
 
     fn function(&mut self, function: &Function, names: &Names<'_>) {
@@ -78,8 +101,17 @@ impl Writer {
             self.declared(2, &function.receiver, names);
             self.declared(1, &function.returned, names);
         }
+        self.default_descriptor(descriptors::of_function(function, names));
+    }
+
+    fn default_descriptor(&mut self, text: Option<String>) {
+        let list = self.list;
+        if planted(Mistake::RoomDefaultsApart) {
+            self.list = List::Head;
+        }
         self.record(7);
-        self.text(descriptors::of_function(function, names));
+        self.text(text);
+        self.list = list;
     }
 
     fn property(&mut self, property: &Property, names: &Names<'_>) {
@@ -105,6 +137,8 @@ impl Writer {
         let mut later = Writer::default();
         std::mem::swap(&mut later.text, &mut self.text);
         later.text_total = self.text_total;
+        later.texts = self.texts;
+        later.list = self.list;
         later.signature(property.setter, names);
         let setter = std::mem::take(&mut later.bytes);
         later.signature(property.getter, names);
@@ -112,6 +146,7 @@ impl Writer {
         self.bytes.extend(setter);
         self.text = later.text;
         self.text_total = later.text_total;
+        self.texts = later.texts;
     }
 
     /// It stands also where there are no aliases.
@@ -152,6 +187,10 @@ impl Writer {
     }
 
     fn ty(&mut self, role: u64, ty: &Type, names: &Names<'_>) {
+        let list = self.list;
+        if planted(Mistake::RoomTypesApart) && matches!(list, List::Functions) {
+            self.list = List::Properties;
+        }
         self.record(6);
         self.number(role, 1);
         self.number(u64::from(ty.nullable), 1);
@@ -166,6 +205,7 @@ impl Writer {
         for argument in &ty.arguments {
             self.ty(ARGUMENT, argument, names);
         }
+        self.list = list;
     }
 
     fn signature(&mut self, signature: Option<Signature>, names: &Names<'_>) {
@@ -185,6 +225,7 @@ impl Writer {
         self.number(self.text_total, 2);
         self.number(text.len() as u64, 2);
         self.text_total += text.len() as u64;
+        self.texts[self.list as usize] += text.len() as u64;
         if self.text_total <= TEXT {
             self.text.extend(text.bytes());
         }
