@@ -15,11 +15,11 @@
 extern "C" {
 #endif
 
-/* The number of the sheets' format: 6 for the sheets as they are told below (1 was without type aliases; up to 2 names by operation 2 of the name
+/* The number of the sheets' format: 7 for the sheets as they are told below (1 was without type aliases; up to 2 names by operation 2 of the name
  * table had "kotlin.collections." in front; up to 3 a d1 in its old form was refused or misread; up to 4
- * fields with a forbidden number were passed over; up to 5 a type had 9 bytes, without a projection, and stars were dropped). It goes up whenever
+ * fields with a forbidden number were passed over; up to 5 a type had 9 bytes, without a projection, and stars were dropped; up to 6 parameters without a name were left out). It goes up whenever
  * sheets change, so that a program that keeps sheets can tell by it which of them to make anew. */
-#define SHEET_FORMAT 6
+#define SHEET_FORMAT 7
 
 /* What sheet_read puts into answer. */
 enum {

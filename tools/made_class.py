@@ -105,3 +105,21 @@ def nested_annotation(pool, depth):
     """An annotation whose value is an annotation in an array, and so on."""
     name, key = pool.utf8('Lmade/Nest;'), pool.utf8('of')
     return (name + b'\0\1' + key + b'[\0\1@') * depth + name + b'\0\0'
+
+
+def stripped():
+    """examples/Ledger.class: a class of a library whose parameter names were stripped, so that their indices lead past d2. Two functions `entry` are overloads."""
+    strings = ['stripped/Ledger', 'entry', 'kotlin/Unit', 'kotlin/Int', 'kotlin/String']
+
+    def type_of(name):
+        return b'\x30' + varint(strings.index(name))
+
+    def parameters(number, *types):
+        return b''.join(field(number, b'\x10\x63' + field(3, type_of(name))) for name in types)
+
+    def function(*types):
+        return field(9, b'\x10\1' + field(3, type_of('kotlin/Unit')) + parameters(6, *types))
+
+    body = b'\x18\0' + field(8, parameters(2, 'kotlin/String')) + function('kotlin/Int') + function('kotlin/Int', 'kotlin/String')
+    methods = [('<init>', '(Ljava/lang/String;)V'), ('entry', '(I)V'), ('entry', '(ILjava/lang/String;)V')]
+    return class_file({'mv': [1, 1, 15], 'k': 1, 'd1': payload(b'\0' + body), 'd2': strings}, 'stripped/Ledger', methods=methods)

@@ -66,6 +66,15 @@ class Examples(unittest.TestCase):
         for name in NAMES:
             self.assertEqual(sheet('read', '--line', f'examples/{name}.class'), (0, example(name, '.line').decode(), ''), name)
 
+    def test_parameters_without_a_name(self):
+        """The stripped example is what made_class.py makes; its parameters are `_` in words and null in JSON, and its targets are in the class."""
+        self.assertEqual(made_class.stripped(), example('Ledger', '.class'))
+        o, = objects(sheet('read', '--json', 'examples/Ledger.class')[1])
+        declared = o['constructors'] + o['functions']
+        self.assertEqual([[p['name'] for p in m['parameters']] for m in declared], [[None], [None], [None, None]])
+        self.assertEqual([m['default'] for m in declared], ['(Ljava/lang/String;)V', '(I)V', '(ILjava/lang/String;)V'])
+        self.assertEqual([m['target']['in_class'] for m in declared], [True] * 3)
+
     def test_lines_alone_in_words(self):
         """sheet_text.py has the sheet alone: the same words, without what the class file tells."""
         for name in NAMES:

@@ -52,8 +52,9 @@ def type_text(t, unnamed='(type parameter)'):
 
 
 def parameter_text(p):
-    """A vararg parameter is declared by the type of its elements."""
-    declared = 'vararg ' * bool(p['vararg']) + named(p['name']) + ': ' + type_text(p['vararg'] or p['type'])
+    """A vararg parameter is declared by the type of its elements. One without a name is shown as `_`, which no parameter can be named."""
+    name = '_' if p['name'] is None else shown(p['name'])
+    declared = 'vararg ' * bool(p['vararg']) + name + ': ' + type_text(p['vararg'] or p['type'])
     return declared + (' = ..' if p['default'] else '')
 
 

@@ -3,7 +3,7 @@
 import struct
 
 # the number of the sheets' format: SHEET_FORMAT of include/sheet_reader.h
-FORMAT = 6
+FORMAT = 7
 
 KINDS = {1: 'class', 2: 'file', 3: 'synthetic class', 4: 'facade of a multi-file class', 5: 'part of a multi-file class'}
 

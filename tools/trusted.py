@@ -24,7 +24,7 @@ ORDER = [
     ('descriptors', 'erasure: Erasure; descriptors: Defaults'),
     ('the answer', 'members: Lists; declarations: Payload; inputs: Inputs Refusals Outcomes; passes: Answered; metadata: Read'),
     ('promises', 'characters: WellFormed; sheet: Reading Refs; schema: Counting; promises: Walk Promises'),
-    ('demand 3', 'grammar: Grammar; defaults: Needs Descriptor Demand'),
+    ('demand 3', 'grammar: Grammar; schema: OneForOne; defaults: Needs Messages Descriptor Demand'),
     ('the room', 'room: Room Exact'),
     ('conversions of d1', 'converter: Conversions Statements'),
     ('the exported functions', 'sheet_calls: Calls'),

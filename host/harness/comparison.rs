@@ -31,13 +31,16 @@ pub enum Basis {
     /// The second reading: a star was entered, which the original drops. It is so too where the payload is refused later; a star that nothing
     /// enters, as in a function that is skipped, is compared.
     Stars,
+    /// The second reading: a parameter that was met has no name, for whatever reason. The original skips it, and with it its part in the default
+    /// descriptor and what is refused inside it.
+    Nameless,
     /// The second reading: the payload has type aliases, which the original doesn't read. What stands before them on an accepted sheet must
     /// still be the original's.
     Aliases,
 }
 
 impl Basis {
-    pub const ALL: [Self; 10] = [
+    pub const ALL: [Self; 11] = [
         Self::Original,
         Self::Limits,
         Self::OldForm,
@@ -47,6 +50,7 @@ impl Basis {
         Self::DescriptorOperation,
         Self::Forbidden,
         Self::Stars,
+        Self::Nameless,
         Self::Aliases,
     ];
 
@@ -61,6 +65,7 @@ impl Basis {
             Self::DescriptorOperation => "the second reading for operation 2",
             Self::Forbidden => "the second reading for forbidden fields",
             Self::Stars => "the second reading for stars",
+            Self::Nameless => "the second reading for nameless parameters",
             Self::Aliases => "the second reading for type aliases",
         }
     }
@@ -111,6 +116,7 @@ pub fn basis(reading: &Reading) -> Basis {
         _ if reading.descriptor_operation => Basis::DescriptorOperation,
         _ if reading.forbidden => Basis::Forbidden,
         _ if reading.star => Basis::Stars,
+        _ if reading.nameless => Basis::Nameless,
         _ if reading.aliases => Basis::Aliases,
         _ => Basis::Original,
     }

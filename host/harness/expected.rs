@@ -129,7 +129,7 @@ pub fn original_answer(input: &Input) -> Option<Whole> {
     match comparison::basis(&reading) {
         Basis::Limits | Basis::Types => Some(reading.whole),
         Basis::Ranges | Basis::Memory | Basis::OldForm => None,
-        Basis::Original | Basis::DescriptorOperation | Basis::Aliases | Basis::Forbidden | Basis::Stars => {
+        Basis::Original | Basis::DescriptorOperation | Basis::Aliases | Basis::Forbidden | Basis::Stars | Basis::Nameless => {
             Some(original_sheet(input).map_or_else(|refused| refused, |sheet| accepted(sheet, Areas::PROGRAM)))
         }
     }

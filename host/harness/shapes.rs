@@ -86,7 +86,7 @@ const STRINGS_FOR_TYPES: &[&str] = &["f", "kotlin/Array", "kotlin/Int", "p", "ko
 
 /// One input of some shape; most are cheap, some take milliseconds.
 pub fn input(random: &mut Random) -> Input {
-    match random.below(21) {
+    match random.below(22) {
         0 => deep_inline(random),
         1 => deep_by_index(random),
         2 => deep_mixed(random),
@@ -107,6 +107,7 @@ pub fn input(random: &mut Random) -> Input {
         17 => stars_around_limit(random),
         18 => deep_stars(random),
         19 => projections(random),
+        20 => nameless_parameters(random),
         _ => arrays(random),
     }
 }
@@ -237,6 +238,61 @@ fn alias_lists(random: &mut Random) -> Input {
     body.push(bytes(property, &function_with(3, &bytes(3, if random.once_in(12) { &[0x0b] } else { &[] }))));
     random.shuffle(&mut body);
     let mut input = package(&[], &body, STRINGS_FOR_TYPES);
+    input.k = k;
+    input
+}
+
+/// Short lists of parameters with a name and without one, for every reason, in a constructor and in a function that may have a receiver or suspend.
+/// Their types are there or not, have a descriptor or not, or are broken.
+fn nameless_parameters(random: &mut Random) -> Input {
+    // predefined 44 has no text, so the record that decides index 1 has none
+    let record = bytes(1, &number(2, 44));
+    let table = if random.once_in(2) { [bytes(1, &number(1, 1)), record].concat() } else { Vec::new() };
+    let list = |random: &mut Random, field| {
+        let mut parameters = Vec::new();
+        for _ in 0..random.below(5) {
+            let name = match random.below(7) {
+                0 => Vec::new(),
+                1 => bytes(2, &[]),
+                2 => number(2, 1 << 32),
+                3 => number(2, 9),
+                4 => number(2, 1),
+                _ => number(2, *random.pick(&[0, 3])),
+            };
+            let mut fields = vec![name, number(1, random.below(4) as u64)];
+            for (inline, index) in [(3, 5), (4, 6)] {
+                match random.below(9) {
+                    0 => fields.push(bytes(inline, &last_type(random))),
+                    1 => fields.push(bytes(inline, random.pick::<&[u8]>(&[&[0x0b], &[0x80], &[0x80; 11], &[0x0a, 1]]))),
+                    2 => fields.push(number(index, random.below(3) as u64)),
+                    3 => fields.push(bytes(inline, &[])),
+                    4 if inline == 4 => {}
+                    _ => fields.push(bytes(inline, &number(6, *random.pick(&[0, 2, 3, 4])))),
+                }
+            }
+            if random.once_in(20) {
+                fields.push(vec![0x0b]);
+            }
+            random.shuffle(&mut fields);
+            parameters.push(if random.once_in(15) { number(field, 1) } else { bytes(field, &fields.concat()) });
+        }
+        parameters
+    };
+    let mut function = list(random, 6);
+    function.push(number(2, 0));
+    function.push(bytes(3, &number(6, *random.pick(&[2, 4, 4]))));
+    if random.once_in(3) {
+        function.push(bytes(5, &number(6, 2)));
+    }
+    if random.once_in(3) {
+        function.push(number(9, 8192 + 6));
+    }
+    let constructor = list(random, 2);
+    let (k, functions) = *random.pick(&[(1, 9), (2, 3), (5, 3)]);
+    let mut body = vec![bytes(functions, &function.concat()), bytes(8, &constructor.concat())];
+    body.push(type_table(&[number(6, 2), looked_up_argument(1)], None));
+    random.shuffle(&mut body);
+    let mut input = package(&table, &body, STRINGS_FOR_TYPES);
     input.k = k;
     input
 }

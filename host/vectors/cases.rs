@@ -7,7 +7,7 @@ use harness::limits::Areas;
 pub type Case = (Input, Areas);
 
 /// The files of `cases/`, in the order in which they are run.
-const LISTS: [&str; 17] = [
+const LISTS: [&str; 18] = [
     "host_refusals",
     "kinds_and_versions",
     "fields",
@@ -15,6 +15,7 @@ const LISTS: [&str; 17] = [
     "characters",
     "constructors",
     "functions",
+    "parameters",
     "properties",
     "aliases",
     "types",

@@ -45,7 +45,7 @@ fn main() {
 }
 
 /// The answer of an input that a replay may hold: the original's, a limit's, of the old form, the 2,049th type, a forbidden field, one with stars, type
-/// aliases or operation 2.
+/// aliases, a nameless parameter or operation 2.
 fn answer(input: &Input, areas: Areas) -> Option<Whole> {
     let expected = checked(input, areas);
     let settled = match expected.basis {
@@ -56,6 +56,7 @@ fn answer(input: &Input, areas: Areas) -> Option<Whole> {
         | Basis::DescriptorOperation
         | Basis::Forbidden
         | Basis::Stars
+        | Basis::Nameless
         | Basis::Aliases => true,
         Basis::Ranges | Basis::Memory => false,
     };

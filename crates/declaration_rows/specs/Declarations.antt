@@ -60,7 +60,7 @@ pub record Signature : Type 0 where
 abbrev pub signed : Text → Text → Signature
 signed n d = record { name = n; descriptor = d }
 
--- The name is an option, though every parameter that is read has one: those without are skipped.
+-- A parameter may have no name: it is kept all the same.
 pub record Parameter : Type 0 where
   pub name : Option Text
   pub declaresDefault : Bool

@@ -17,6 +17,8 @@ use Rattle.promises.specs.Promises.{Promised}
 use Rattle.promises.proofs.Answered.{answer-promised}
 use Rattle.defaults.specs.Descriptor.{ToldFunction, ToldConstructor, SameText}
 use Rattle.defaults.specs.Demand.{Described, described, functionsOn, constructorsOn, functionsIn, functionsOf, Demand}
+use Rattle.defaults.specs.Messages.{FunctionByMessages, ConstructorByMessages}
+use Rattle.defaults.proofs.Messages.{by-messages}
 use Rattle.defaults.proofs.Defaults.{told, told-constructor, same-text}
 
 -- what the definitions give, each with its text
@@ -35,6 +37,10 @@ module _ {A : Type 0} (default : A → Option (List ℕ)) where
   all-given : (P : Described A → Type 0) → ((x : A) → P (x, default x)) → (xs : List A) → All P (given xs)
   all-given P h [] = tt
   all-given P h (x ∷ xs) = (h x, all-given P h xs)
+
+  all-of : (P : A → Type 0) (xs : List A) → All P xs → All (λ x. P (x .0)) (given xs)
+  all-of P [] h = tt
+  all-of P (x ∷ xs) h = (h .0, all-of P xs (h .1))
 
 abbrev ofFunction : Function → Option (List ℕ)
 ofFunction f = mapOption descriptor (functionParts f)
@@ -62,6 +68,12 @@ module _ (i : Input) (a : Answer) (p : Promised i a) where
   each-function : (P : Described Function → Type 0) → ((f : Function) → P (f, ofFunction f)) → All P (functionsOn a)
   each-function P h = rw functions-on (all-given ofFunction P h (p .declarations .functions))
 
+  each-read : (P : Function → Type 0) → All P (p .declarations .functions) → All (λ x. P (x .0)) (functionsOn a)
+  each-read P h = rw functions-on (all-of ofFunction P (p .declarations .functions) h)
+
+  each-made : (P : Constructor → Type 0) → All P (p .declarations .constructors) → All (λ x. P (x .0)) (constructorsOn a)
+  each-made P h = rw constructors-on (all-of ofConstructor P (p .declarations .constructors) h)
+
   each-constructor : (P : Described Constructor → Type 0) → ((c : Constructor) → P (c, ofConstructor c)) → All P (constructorsOn a)
   each-constructor P h = rw constructors-on (all-given ofConstructor P h (p .declarations .constructors))
 
@@ -77,8 +89,16 @@ demand-3 sheet text sheet′ text′ i j {a} {b} e e′ u v y z =
     record {
       first = functions-same i a p;
       second = functions-same j b q;
+      messages = (
+        each-read i a p (FunctionByMessages i) (by-messages i (p .declarations) (p .left) (p .reads) .0),
+        each-read j b q (FunctionByMessages j) (by-messages j (q .declarations) (q .left) (q .reads) .0),
+      );
       each = both (λ x. ToldFunction (x .0) (x .1)) told;
       same = both (λ x. All (SameText x) (functionsOn a ++ functionsOn b)) λ f. both (SameText (f, ofFunction f)) (same-text f);
       constructors =
           all-append C (constructorsOn a) (constructorsOn b) (each-constructor i a p C told-constructor) (each-constructor j b q C told-constructor);
+      constructorMessages = (
+        each-made i a p (ConstructorByMessages i) (by-messages i (p .declarations) (p .left) (p .reads) .1),
+        each-made j b q (ConstructorByMessages j) (by-messages j (q .declarations) (q .left) (q .reads) .1),
+      );
     }

@@ -2,6 +2,7 @@ pub mod ChoiceLaws
 pub mod Erased
 pub mod Printed
 pub mod Defaults
+pub mod Messages
 pub mod Form
 pub mod Characters
 pub mod Demand

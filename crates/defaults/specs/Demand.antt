@@ -12,6 +12,7 @@ use Rattle.inputs.specs.Outcomes.{Answer}
 use Rattle.metadata.specs.Read.{reading}
 use Rattle.promises.specs.Walk.{walk, Closed}
 use Rattle.promises.specs.Promises.{sheetBytes, textBytes}
+use Rattle.defaults.specs.Messages.{FunctionByMessages, ConstructorByMessages}
 use Rattle.defaults.specs.Descriptor.{ToldFunction, ToldConstructor, SameText}
 
 -- what is declared, and the text at the ref of the kind 7 that closes it: none is what the ref says is absent
@@ -38,9 +39,11 @@ functionsOf i = functionsIn (reading i)
 
 -- Of the functions on one sheet or on two
 pub record Demand (i j : Input) (a b : Answer) : Type 0 where
-  -- (which are those that the input was read as, in order),
+  -- (which are those that the input was read as, in order,
   pub first : map (λ x. x .0) (functionsOn a) ≡ functionsOf i
   pub second : map (λ x. x .0) (functionsOn b) ≡ functionsOf j
+  -- each of them with a parameter, and a part, for every one of its parameter messages),
+  pub messages : All (λ x. FunctionByMessages i (x .0)) (functionsOn a) × All (λ x. FunctionByMessages j (x .0)) (functionsOn b)
   -- each has a default descriptor exactly when every type it needs has one, put together from its erased parts, in the grammar and cut
   -- by it into just these parts,
   pub each : All (λ x. ToldFunction (x .0) (x .1)) (functionsOn a ++ functionsOn b)
@@ -48,3 +51,4 @@ pub record Demand (i j : Input) (a b : Answer) : Type 0 where
   pub same : All (λ x. All (SameText x) (functionsOn a ++ functionsOn b)) (functionsOn a ++ functionsOn b)
   -- The demand speaks of functions alone; each constructor has its default descriptor by the same rule.
   pub constructors : All (λ x. ToldConstructor (x .0) (x .1)) (constructorsOn a ++ constructorsOn b)
+  pub constructorMessages : All (λ x. ConstructorByMessages i (x .0)) (constructorsOn a) × All (λ x. ConstructorByMessages j (x .0)) (constructorsOn b)

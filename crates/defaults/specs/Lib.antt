@@ -1,3 +1,4 @@
 pub mod Needs
+pub mod Messages
 pub mod Descriptor
 pub mod Demand

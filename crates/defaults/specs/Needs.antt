@@ -47,7 +47,7 @@ abbrev pub Has : Option Ty → Type 0
 Has none = ⊥
 Has (some t) = HasDescriptorTy t
 
--- Needed are the types of the receiver where it has one, of every kept parameter and, unless it suspends, of the return.
+-- Needed are the types of the receiver where it has one, of every parameter and, unless it suspends, of the return.
 -- Bit 13 of a function's flags: it suspends.
 unfoldable pub needed : Function → List (Option Ty)
 needed f =
@@ -55,7 +55,7 @@ needed f =
     ++ map (λ p. p .type) (f .parameters)
     ++ (if bitOf 13 (f .flags) then [] else f .returned ∷ [])
 
--- A constructor needs the types of its kept parameters; it returns V.
+-- A constructor needs the types of its parameters; it returns V.
 unfoldable pub neededByConstructor : Constructor → List (Option Ty)
 neededByConstructor c = map (λ p. p .type) (c .parameters)
 

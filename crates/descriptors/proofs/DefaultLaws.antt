@@ -1,16 +1,16 @@
 -- The parts of a declaration's types and of its parameters, from what the calls told.
 -- Assumes nothing.
 use mathlib.Core.Path.{_≡_, refl, sym, ap, subst, _∙_}
-use mathlib.Core.Bool.{Bool, true, false}
+use mathlib.Core.Bool.{Bool}
 use mathlib.Core.List.{List, []}
 use mathlib.Core.Option.{Option, some}
 use Prim.Native.Nat.{ℕ, _+_, _-_, _*_, _≤_, _<_}
 use native.Mathlib.Nat.{add-zero, add-assoc}
 use native.Mathlib.Omega.{arith}
 use lib.ListN.{length, take, drop}
-use Rattle.foundation.specs.Choices.{isSome, mapOption}
+use Rattle.foundation.specs.Choices.{mapOption}
 use Rattle.foundation.specs.Results.{ok, Part, _from_}
-use Rattle.fields.specs.Fields.{ValueParameter·name, ValueParameter·type, ValueParameter·type-id}
+use Rattle.fields.specs.Fields.{ValueParameter·type, ValueParameter·type-id}
 use Rattle.wire.specs.Wire.{Message, cut}
 use Rattle.wire.specs.Messages.{cutAll, messages}
 use Rattle.wire.specs.told.WireTold.{restOf, partBetween}
@@ -19,13 +19,11 @@ use Rattle.wire.specs.declared.Piece.{Piece}
 use Rattle.wire.specs.declared.Piece.the-variants as piece
 use Rattle.wire.proofs.WalkLaws.{whole, ok-same}
 use Rattle.characters.specs.told.Places.{partFrom}
-use Rattle.names.specs.told.Name.{nameText}
-use Rattle.names.specs.declared.name.Name.{Name}
 use Rattle.declaration_rows.specs.Declarations.{Ty, Parameter}
-use Rattle.schema.specs.Reading.{Scope, kept, nameIn}
+use Rattle.schema.specs.Reading.{Scope, each}
 use Rattle.schema.specs.Types.{maxDepth}
-use Rattle.schema.specs.Members.{listIn, parameterIn}
-use Rattle.schema.specs.told.SchemaTold.{Lent, NamesOf, Scoped, EntryAt, Stands}
+use Rattle.schema.specs.Members.{parameterIn, parametersIn}
+use Rattle.schema.specs.told.SchemaTold.{Lent, Scoped, EntryAt, Stands}
 use Rattle.schema.specs.told.TypesTold.{orNullable}
 use Rattle.schema.specs.told.PlacesTold.{TableOf, TypeFound, FoundTypeTold, FoundTypeInside, FoundTypeFalls, DeclaredFound}
 use Rattle.schema.specs.declared.FoundType.{FoundType}
@@ -38,9 +36,9 @@ use Rattle.erasure.specs.declared.Position.the-variants as position
 use Rattle.erasure.specs.declared.Part as code
 use Rattle.erasure.specs.declared.Part.the-variants as part
 use Rattle.descriptors.specs.told.DefaultsTold.{erasedAt, partCost, PartWithin, PartTold, ErasedTold, parametersPart, ParametersTold}
-use Rattle.descriptors.specs.told.PartsTold.{PartRoom, Gave, PartOf, TypeGiven, typePart, ParameterGiven, parameterPart, preceded}
-use Rattle.descriptors.proofs.GivenLaws.{list-given, FirstGiven, first-given, none-given, parameter-skipped, parameter-kept}
-use Rattle.descriptors.proofs.JoinLaws.{both, parameter-part, parameters-cons, text-none, text-then, told-then, told-absent, told-same, preceded-sum}
+use Rattle.descriptors.specs.told.PartsTold.{PartRoom, Gave, PartOf, TypeGiven, typePart, preceded}
+use Rattle.descriptors.proofs.GivenLaws.{parameters-given, FirstGiven, first-given, none-given, parameter-type}
+use Rattle.descriptors.proofs.JoinLaws.{both, parameters-cons, text-none, text-then, told-then, told-absent, told-same, preceded-sum}
 
 -- A declaration's own type at its position, by the place of its message.
 module _ (e : Lent) (at : ℕ) (position : Position) {start end inline indexed : ℕ} {x : FoundType}
@@ -74,36 +72,6 @@ module _ (e : Lent) (at : ℕ) (position : Position) {start end inline indexed :
           (p .is c s (f .0) lent-part);
     }
 
--- A parameter, by its name.
-module _ (e : Lent) (msg : List ℕ) (base at : ℕ) (n : Name) (st : Stands (e .payload) msg base)
-    (h : (units : List ℕ) (s : Scope) → NamesOf (e .payload) units (e .ends) (e .notes) (e .tables .records) (s .names)
-    → (m : Message) → cut (_from_ base msg) ≡ ok m → (l : ℕ)
-    → nameIn s ValueParameter·name m l ≡ ok (nameText (e .payload) units n, l))
-    {b : Bool} (k : (payload d2 : List ℕ) → isSome (nameText payload d2 n) ≡ b) where
-  its-name : (c : Scope) → Scoped e c → (m : Message) → EntryAt (e .payload) base (base + length msg) m → (l : ℕ)
-      → nameIn c ValueParameter·name m l ≡ ok (nameText (e .payload) (e .d2) n, l)
-  its-name c s m i l = h (e .d2) c (s .names) m (stands-cut st i) l
-
-  pub parameter-nameless : b ≡ false → (A : List ℕ) → PartOf ParameterGiven parameterPart partCost e base (base + length msg) at (part.Written 0) A A
-  parameter-nameless q A = record {
-    within = omega arith;
-    is = λ c s m i o g.
-        let z = parameter-skipped c m (nameText (e .payload) (e .d2) n) (its-name c s m i) o g (k (e .payload) (e .d2) ∙ q) in
-        told-same {x = some []} {y = parameterPart o} at (part.Written 0) A A (ap parameterPart (sym z)) ([], refl, text-none at A);
-  }
-
-  pub parameter-named : b ≡ true → {r : code.Part} {A A₁ : List ℕ}
-      → PartOf (TypeGiven ValueParameter·type ValueParameter·type-id) (typePart position.Parameter) partCost e base (base + length msg) at r A A₁
-      → PartOf ParameterGiven parameterPart partCost e base (base + length msg) at r A A₁
-  parameter-named q {r} {A} {A₁} p = record {
-    within = p .within;
-    is = λ c s m i o g.
-        let z = parameter-kept c m (nameText (e .payload) (e .d2) n) (its-name c s m i) o g (k (e .payload) (e .d2) ∙ q) in
-        told-same {x = typePart position.Parameter (z .0 .type)} {y = parameterPart o} at r A A₁
-        (sym (ap parameterPart (z .1) ∙ parameter-part (z .0)))
-        (p .is c s m i (z .0 .type) (z .2));
-  }
-
 -- The walk over the parameters: what is right from here on is right from the start.
 pub record Rest (c : Scope) (msg : List ℕ) (base number at : ℕ) (ps : List Parameter) (A₀ : List ℕ) (here size : ℕ) (A : List ℕ) : Type 0 where
   pub rest : Message
@@ -111,14 +79,14 @@ pub record Rest (c : Scope) (msg : List ℕ) (base number at : ℕ) (ps : List P
   pub cuts : cut (restOf base msg here) ≡ ok rest
   pub many : cutAll (bodies number rest) ≡ ok left
   pub later : List Parameter
-  pub reads : Gave (kept (parameterIn c) left) later
+  pub reads : Gave (each (parameterIn c) left) later
   pub told : (r : code.Part) (A₁ : List ℕ) → PartTold (parametersPart later) (at + size) r A A₁ → PartTold (parametersPart ps) at (preceded size r) A₀ A₁
 
 pub record Parting (e : Lent) (msg : List ℕ) (base number at : ℕ) (A₀ : List ℕ) (here size : ℕ) (A : List ℕ) : Type 0 where
   pub inside : here ≤ length msg
   pub few : size ≤ partCost * here
   pub going : (c : Scope) → Scoped e c → (m : Message) → EntryAt (e .payload) base (base + length msg) m → (ps : List Parameter)
-      → Gave (listIn (parameterIn c) number m) ps → Rest c msg base number at ps A₀ here size A
+      → Gave (parametersIn c number m) ps → Rest c msg base number at ps A₀ here size A
 
 told-start : (o : Option (List ℕ)) (at : ℕ) (r : code.Part) (A A₁ : List ℕ) → PartTold o (at + 0) r A A₁ → PartTold o at (preceded 0 r) A A₁
 told-start o at (part.Written n) A A₁ (t, e, p) = (t, e, text-then (text-none at A) p)
@@ -130,7 +98,7 @@ parts-start e msg base number at A₀ st = record {
   inside = omega arith;
   few = omega arith;
   going = λ c s m k ps g.
-      let l = list-given (parameterIn c) number m g in
+      let l = parameters-given c number m g in
       record {
         rest = m;
         left = l .all;
@@ -155,7 +123,7 @@ module _ {e : Lent} {msg : List ℕ} {base number at : ℕ} {A₀ : List ℕ} {h
     is = λ c s m k ps l b h.
         let g = p .going c s m k ps (record { before = l; after = b; is = h }) in
         let none-left : g .left ≡ [] = ok-same (sym (g .many) ∙ ap cutAll (next-is q g)) in
-        let done : g .later ≡ [] = none-given (parameterIn c) (subst (λ (ms : List Message). Gave (kept (parameterIn c) ms) (g .later)) none-left (g .reads)) in
+        let done : g .later ≡ [] = none-given c (subst (λ (ms : List Message). Gave (each (parameterIn c) ms) (g .later)) none-left (g .reads)) in
         let last : PartTold (parametersPart (g .later)) (at + size) (part.Written 0) A A =
         told-same {x = some []} {y = parametersPart (g .later)} (at + size) (part.Written 0) A A (ap parametersPart (sym done)) ([], refl, text-none (at + size) A) in
         subst (λ (n : ℕ). PartTold (parametersPart ps) at (part.Written n) A₀ A) (add-zero size) (g .told (part.Written 0) A last);
@@ -175,7 +143,7 @@ module _ {e : Lent} {msg : List ℕ} {base number at : ℕ} {A₀ : List ℕ} {h
     }
 
     module _ (st : Stands (e .payload) msg base) {r : code.Part} {A₁ : List ℕ}
-        (u : PartOf ParameterGiven parameterPart partCost e (base + a) (base + a + length (take (b - a) (drop a msg))) (at + size) r A A₁) where
+        (u : PartOf (TypeGiven ValueParameter·type ValueParameter·type-id) (typePart position.Parameter) partCost e (base + a) (base + a + length (take (b - a) (drop a msg))) (at + size) r A A₁) where
       -- what is told of the parameter, and of those after it
       module _ (c : Scope) (s : Scoped e c) (m : Message) (k : EntryAt (e .payload) base (base + length msg) m) (ps : List Parameter)
           (g : Rest c msg base number at ps A₀ here size A) where
@@ -186,25 +154,25 @@ module _ {e : Lent} {msg : List ℕ} {base number at : ℕ} {A₀ : List ℕ} {h
         unfolding the-rest
         one = cut-first (partBetween base msg a b) (bodies number (next-is q g .0)) (g .left) (ap cutAll (sym (next-is q g .2)) ∙ g .many)
 
-        first : FirstGiven (parameterIn c) (one .first) (one .others) (g .later)
+        first : FirstGiven c (one .first) (one .others) (g .later)
         first =
-            first-given (parameterIn c) (one .first) (one .others)
-            (subst (λ (ms : List Message). Gave (kept (parameterIn c) ms) (g .later)) (one .are) (g .reads))
+            first-given c (one .first) (one .others)
+            (subst (λ (ms : List Message). Gave (each (parameterIn c) ms) (g .later)) (one .are) (g .reads))
 
-        both-are : both (parameterPart (first .one)) (parametersPart (first .others)) ≡ parametersPart (g .later)
+        both-are : both (typePart position.Parameter (first .one .type)) (parametersPart (first .others)) ≡ parametersPart (g .later)
         both-are = sym (ap parametersPart (first .are) ∙ parameters-cons (first .one) (first .others))
 
-        first-told : {y : code.Part} → r ≡ y → PartTold (parameterPart (first .one)) (at + size) y A A₁
+        first-told : {y : code.Part} → r ≡ y → PartTold (typePart position.Parameter (first .one .type)) (at + size) y A A₁
         first-told w =
-            subst (λ (y : code.Part). PartTold (parameterPart (first .one)) (at + size) y A A₁) w
-            (u .is c s (one .first) (stands-entry (body-stands st a b (part-in .0) (part-in .1)) (one .cuts)) (first .one) (first .first))
+            subst (λ (y : code.Part). PartTold (typePart position.Parameter (first .one .type)) (at + size) y A A₁) w
+            (u .is c s (one .first) (stands-entry (body-stands st a b (part-in .0) (part-in .1)) (one .cuts)) (first .one .type) (parameter-type c (one .first) (first .first)))
 
       pub parts-absent : r ≡ part.Absent → ParametersTold e base (base + length msg) number at part.Absent A₀ A₁
       parts-absent w = record {
         within = tt;
         is = λ c s m k ps l b h.
             let g = p .going c s m k ps (record { before = l; after = b; is = h }) in
-            let none-of = told-absent (parameterPart (first c s m k ps g .one)) (parametersPart (first c s m k ps g .others)) (first-told c s m k ps g w) in
+            let none-of = told-absent (typePart position.Parameter (first c s m k ps g .one .type)) (parametersPart (first c s m k ps g .others)) (first-told c s m k ps g w) in
             g .told part.Absent A₁ (sym (both-are c s m k ps g) ∙ none-of);
       }
 
@@ -227,8 +195,8 @@ module _ {e : Lent} {msg : List ℕ} {base number at : ℕ} {A₀ : List ℕ} {h
                   reads = f .later;
                   told = λ y A₂ v.
                       let v′ = subst (λ (n : ℕ). PartTold (parametersPart (f .others)) n y A₁ A₂) (sym (add-assoc at size more)) v in
-                      let two = told-then (parameterPart (f .one)) (parametersPart (f .others)) (at + size) more y A A₁ A₂ (first-told c s m k ps g w) v′ in
-                      let all = told-same {x = both (parameterPart (f .one)) (parametersPart (f .others))} {y = parametersPart (g .later)} (at + size) (preceded more y) A A₂ (both-are c s m k ps g) two in
+                      let two = told-then (typePart position.Parameter (f .one .type)) (parametersPart (f .others)) (at + size) more y A A₁ A₂ (first-told c s m k ps g w) v′ in
+                      let all = told-same {x = both (typePart position.Parameter (f .one .type)) (parametersPart (f .others))} {y = parametersPart (g .later)} (at + size) (preceded more y) A A₂ (both-are c s m k ps g) two in
                       subst (λ (r : code.Part). PartTold (parametersPart ps) at r A₀ A₂) (preceded-sum size more y) (g .told (preceded more y) A₂ all);
                 };
           }

@@ -1,12 +1,11 @@
 -- What a reading has given, taken apart into what its steps gave.
 -- Assumes nothing.
-use mathlib.Core.Path.{_≡_, refl, sym, ap, subst, _∙_}
-use mathlib.Core.Bool.{Bool, true, false}
+use mathlib.Core.Path.{_≡_, refl, ap}
 use mathlib.Core.List.{List, [], _∷_}
 use mathlib.Core.Option.{Option, none, some}
 use Prim.Native.Nat.{ℕ}
 use native.Mathlib.Omega.{arith}
-use Rattle.foundation.specs.Choices.{isSome, IfSome}
+use Rattle.foundation.specs.Choices.{IfSome}
 use Rattle.foundation.specs.Results.{Res, ok, refused}
 use Rattle.foundation.specs.Texts.{Text, ascii}
 use Rattle.foundation.proofs.ResultLaws.{Gives, gives-ok}
@@ -15,11 +14,11 @@ use Rattle.wire.specs.Wire.{Message}
 use Rattle.wire.specs.Messages.{messages}
 use Rattle.wire.proofs.WalkLaws.{ok-same}
 use Rattle.declaration_rows.specs.Declarations.{Parameter, Constructor, Function}
-use Rattle.schema.specs.Reading.{Read, lift, keep, kept, Scope, nameIn}
+use Rattle.schema.specs.Reading.{Read, lift, each, Scope, nameIn}
 use Rattle.schema.specs.Types.{declaredType}
-use Rattle.schema.specs.Members.{named, signatureIn, parameterIn, listIn, constructorIn, functionIn}
+use Rattle.schema.specs.Members.{named, signatureIn, parameterIn, parametersIn, constructorIn, functionIn}
 use Rattle.schema.proofs.Fine.{Reads, reads-pure, reads-bind, reads-weaken}
-use Rattle.descriptors.specs.told.PartsTold.{Gave, TypeGiven, ParameterGiven, FunctionGiven}
+use Rattle.descriptors.specs.told.PartsTold.{Gave, TypeGiven, FunctionGiven}
 
 -- a reading gives what it gave
 reads-self : {A : Type 0} (m : Read A) → Reads (Gave m) m
@@ -38,92 +37,69 @@ reads-named : {A : Type 0} {Q : Option A → Type 0} {read : Text → Read A} (o
 reads-named none p h = reads-pure (p refl)
 reads-named (some t) p h = reads-bind (h t refl) λ a q. reads-pure q
 
--- A list: its messages are cut, then what is kept of them.
 gave-lift : {A : Type 0} (r : Res A) {a : A} → Gave (lift r) a → r ≡ ok a
 gave-lift {A} (ok b) g = ap ok (ap (λ (q : A × ℕ). q .0) (ok-same (g .is)))
 gave-lift (refused c p) g = let e = g .is in let z : _≡_ {A = ℕ} 0 1 = cc in absurd (omega arith)
 
-module _ {A : Type 0} (f : Message → Read (Option A)) where
-  pub record ListGiven (n : ℕ) (m : Message) (xs : List A) : Type 0 where
-    pub all : List Message
-    pub cuts : messages n m ≡ ok all
-    pub given : Gave (kept f all) xs
-
-  list-reads : (n : ℕ) (m : Message) → Reads (ListGiven n m) (listIn f n m)
-  unfolding listIn
-  list-reads n m =
-      reads-bind (reads-self (lift (messages n m))) λ ms g.
-      reads-weaken (reads-self (kept f ms)) λ xs k. record { all = ms; cuts = gave-lift (messages n m) g; given = k }
-
-  pub list-given : (n : ℕ) (m : Message) {xs : List A} → Gave (listIn f n m) xs → ListGiven n m xs
-  list-given n m g = gave-reads (ListGiven n m) (list-reads n m) g
-
-  -- the first of them, and the others
-  pub record FirstGiven (m : Message) (ms : List Message) (xs : List A) : Type 0 where
-    pub one : Option A
-    pub others : List A
-    pub first : Gave (f m) one
-    pub later : Gave (kept f ms) others
-    pub are : xs ≡ keep one others
-
-  first-reads : (m : Message) (ms : List Message) → Reads (FirstGiven m ms) (kept f (m ∷ ms))
-  unfolding kept
-  first-reads m ms =
-      reads-bind (reads-self (f m)) λ a g.
-      reads-bind (reads-self (kept f ms)) λ xs h. reads-pure (record { one = a; others = xs; first = g; later = h; are = refl })
-
-  pub first-given : (m : Message) (ms : List Message) {xs : List A} → Gave (kept f (m ∷ ms)) xs → FirstGiven m ms xs
-  first-given m ms g = gave-reads (FirstGiven m ms) (first-reads m ms) g
-
-  none-reads : Reads (λ xs. xs ≡ []) (kept f [])
-  unfolding kept
-  none-reads = reads-pure refl
-
-  pub none-given : {xs : List A} → Gave (kept f []) xs → xs ≡ []
-  none-given g = gave-reads (λ xs. xs ≡ []) none-reads g
-
--- A parameter is skipped without a name; with one its type is read.
-abbrev ParameterRead : Scope → Message → Option Parameter → Type 0
-ParameterRead c m none = Gave (nameIn c ValueParameter·name m) none
-ParameterRead c m (some p) = (t : Text) × Gave (nameIn c ValueParameter·name m) (some t) × TypeGiven ValueParameter·type ValueParameter·type-id c m (p .type)
-
-parameter-reads : (c : Scope) (m : Message) → Reads (ParameterRead c m) (parameterIn c m)
+-- A parameter's type.
+parameter-reads : (c : Scope) (m : Message) → Reads (λ p. TypeGiven ValueParameter·type ValueParameter·type-id c m (p .type)) (parameterIn c m)
 unfolding parameterIn
 parameter-reads c m =
-    reads-bind (reads-self (nameIn c ValueParameter·name m)) λ o g.
-    reads-named o (λ e. subst (Gave (nameIn c ValueParameter·name m)) e g) λ t e.
+    reads-bind (reads-self (nameIn c ValueParameter·name m)) λ name g.
     reads-bind (reads-self (declaredType c ValueParameter·type ValueParameter·type-id m)) λ type h.
-    reads-bind (reads-self (declaredType c ValueParameter·vararg-element-type ValueParameter·vararg-element-type-id m)) λ vararg v.
-    reads-pure (t, subst (Gave (nameIn c ValueParameter·name m)) e g, h)
+    reads-bind (reads-self (declaredType c ValueParameter·vararg-element-type ValueParameter·vararg-element-type-id m)) λ vararg v. reads-pure h
 
-module _ (c : Scope) (m : Message) (n : Option Text) (h : (l : ℕ) → nameIn c ValueParameter·name m l ≡ ok (n, l)) where
-  same-name : {t : Option Text} → Gave (nameIn c ValueParameter·name m) t → n ≡ t
-  same-name g = ap (λ (q : Option Text × ℕ). q .0) (ok-same (sym (h (g .before)) ∙ g .is))
+pub parameter-type : (c : Scope) (m : Message) {p : Parameter} → Gave (parameterIn c m) p → TypeGiven ValueParameter·type ValueParameter·type-id c m (p .type)
+parameter-type c m g = gave-reads (λ p. TypeGiven ValueParameter·type ValueParameter·type-id c m (p .type)) (parameter-reads c m) g
 
-  pub parameter-skipped : (o : Option Parameter) → ParameterGiven c m o → isSome n ≡ false → o ≡ none
-  parameter-skipped none g e = refl
-  parameter-skipped (some p) g e =
-      let q = gave-reads (ParameterRead c m) (parameter-reads c m) g in
-      let s : isSome n ≡ true = rw (same-name (q .1)) in
-      let z : _≡_ {A = Bool} true false = sym s ∙ e in cc
+-- The parameters of a list.
+module _ (c : Scope) where
+  pub record ParametersGiven (n : ℕ) (m : Message) (ps : List Parameter) : Type 0 where
+    pub all : List Message
+    pub cuts : messages n m ≡ ok all
+    pub given : Gave (each (parameterIn c) all) ps
 
-  pub parameter-kept : (o : Option Parameter) → ParameterGiven c m o → isSome n ≡ true
-      → (p : Parameter) × (o ≡ some p) × TypeGiven ValueParameter·type ValueParameter·type-id c m (p .type)
-  parameter-kept none g e =
-      let q = gave-reads (ParameterRead c m) (parameter-reads c m) g in
-      let s : isSome n ≡ false = rw (same-name q) in
-      let y : _≡_ {A = Bool} true false = sym e ∙ s in let z : _≡_ {A = ℕ} 0 1 = cc in absurd (omega arith)
-  parameter-kept (some p) g e =
-      let q = gave-reads (ParameterRead c m) (parameter-reads c m) g in (p, refl, q .2)
+  parameters-read : (n : ℕ) (m : Message) → Reads (ParametersGiven n m) (parametersIn c n m)
+  unfolding parametersIn
+  parameters-read n m =
+      reads-bind (reads-self (lift (messages n m))) λ ms g.
+      reads-weaken (reads-self (each (parameterIn c) ms)) λ ps k. record { all = ms; cuts = gave-lift (messages n m) g; given = k }
+
+  pub parameters-given : (n : ℕ) (m : Message) {ps : List Parameter} → Gave (parametersIn c n m) ps → ParametersGiven n m ps
+  parameters-given n m g = gave-reads (ParametersGiven n m) (parameters-read n m) g
+
+  -- the first of them, and the others
+  pub record FirstGiven (m : Message) (ms : List Message) (ps : List Parameter) : Type 0 where
+    pub one : Parameter
+    pub others : List Parameter
+    pub first : Gave (parameterIn c m) one
+    pub later : Gave (each (parameterIn c) ms) others
+    pub are : ps ≡ one ∷ others
+
+  first-reads : (m : Message) (ms : List Message) → Reads (FirstGiven m ms) (each (parameterIn c) (m ∷ ms))
+  unfolding each
+  first-reads m ms =
+      reads-bind (reads-self (parameterIn c m)) λ p g.
+      reads-bind (reads-self (each (parameterIn c) ms)) λ ps h. reads-pure (record { one = p; others = ps; first = g; later = h; are = refl })
+
+  pub first-given : (m : Message) (ms : List Message) {ps : List Parameter} → Gave (each (parameterIn c) (m ∷ ms)) ps → FirstGiven m ms ps
+  first-given m ms g = gave-reads (FirstGiven m ms) (first-reads m ms) g
+
+  none-reads : Reads (λ ps. ps ≡ []) (each (parameterIn c) [])
+  unfolding each
+  none-reads = reads-pure refl
+
+  pub none-given : {ps : List Parameter} → Gave (each (parameterIn c) []) ps → ps ≡ []
+  none-given g = gave-reads (λ ps. ps ≡ []) none-reads g
 
 -- A constructor's parameters.
 abbrev pub ConstructorGiven : Scope → Message → Constructor → Type 0
-ConstructorGiven c m d = Gave (listIn (parameterIn c) Constructor·value-parameter m) (d .parameters)
+ConstructorGiven c m d = Gave (parametersIn c Constructor·value-parameter m) (d .parameters)
 
 constructor-reads : (c : Scope) (m : Message) → Reads (IfSome (ConstructorGiven c m)) (constructorIn c m)
 unfolding constructorIn
 constructor-reads c m =
-    reads-bind (reads-self (listIn (parameterIn c) Constructor·value-parameter m)) λ parameters p.
+    reads-bind (reads-self (parametersIn c Constructor·value-parameter m)) λ parameters p.
     reads-bind (reads-self (signatureIn c (some (ascii "<init>")) Constructor·constructor-signature m)) λ signature s. reads-pure p
 
 pub constructor-given : (c : Scope) (m : Message) (d : Constructor) (l b : ℕ) → constructorIn c m l ≡ ok (some d, b) → ConstructorGiven c m d
@@ -136,7 +112,7 @@ unfolding functionIn
 function-reads c m =
     reads-bind (reads-self (nameIn c Function·name m)) λ o g.
     reads-named o (λ e. tt) λ name e.
-    reads-bind (reads-self (listIn (parameterIn c) Function·value-parameter m)) λ parameters p.
+    reads-bind (reads-self (parametersIn c Function·value-parameter m)) λ parameters p.
     reads-bind (reads-self (declaredType c Function·receiver-type Function·receiver-type-id m)) λ receiver r.
     reads-bind (reads-self (signatureIn c (some name) Function·method-signature m)) λ signature s.
     reads-bind (reads-self (declaredType c Function·return-type Function·return-type-id m)) λ returned t.

@@ -12,7 +12,7 @@ use Rattle.foundation.specs.Choices.{if_then_else_, ifSome, mapOption, bothOf, 
 use Rattle.foundation.proofs.OverlayLaws.{sets-then}
 use Rattle.wire.specs.Wire.{Message}
 use Rattle.declaration_rows.specs.Declarations.{Ty, Parameter, Constructor, Function}
-use Rattle.schema.specs.Reading.{Scope, keep}
+use Rattle.schema.specs.Reading.{Scope}
 use Rattle.schema.specs.told.SchemaTold.{Lent}
 use Rattle.erasure.specs.Erasure.{Erased, erased, Returned, ofType, erasedReturn, print, printReturned}
 use Rattle.erasure.specs.told.ErasureTold.{PutSized}
@@ -32,7 +32,7 @@ use Rattle.descriptors.specs.Defaults.{
   descriptor,
 }
 use Rattle.descriptors.specs.told.DefaultsTold.{PartWithin, PartTold, parametersPart}
-use Rattle.descriptors.specs.told.PartsTold.{PartOf, typePart, parameterPart, receiverPart, beforePart, afterPart, preceded}
+use Rattle.descriptors.specs.told.PartsTold.{PartOf, typePart, receiverPart, beforePart, afterPart, preceded}
 
 -- Two texts, or nothing.
 abbrev pub both : Option (List ℕ) → Option (List ℕ) → Option (List ℕ)
@@ -41,10 +41,6 @@ both = bothOf λ s t. s ++ t
 both-left : (y : Option (List ℕ)) → both (some []) y ≡ y
 both-left none = refl
 both-left (some t) = refl
-
-both-right : (x : Option (List ℕ)) → both x (some []) ≡ x
-both-right none = refl
-both-right (some t) = ap some (append-nil t)
 
 -- The parts of types, of parameters.
 abbrev printed : List Erased → List ℕ
@@ -63,14 +59,8 @@ types-cons : (t : Option Ty) (ts : List (Option Ty)) → typesPart (t ∷ ts) �
 types-cons none ts = refl
 types-cons (some t) ts = printed-cons (erased t) (everyOf (map erasedOption ts))
 
-pub parameter-part : (p : Parameter) → parameterPart (some p) ≡ typePart position.Parameter (p .type)
-parameter-part p = types-cons (p .type) [] ∙ both-right (typePart position.Parameter (p .type))
-
-pub parameters-cons : (o : Option Parameter) (ps : List Parameter) → parametersPart (keep o ps) ≡ both (parameterPart o) (parametersPart ps)
-parameters-cons none ps = sym (both-left (parametersPart ps))
-parameters-cons (some p) ps =
-    types-cons (p .type) (parameterTypes ps)
-    ∙ ap (λ (x : Option (List ℕ)). both x (parametersPart ps)) (sym (parameter-part p))
+pub parameters-cons : (p : Parameter) (ps : List Parameter) → parametersPart (p ∷ ps) ≡ both (typePart position.Parameter (p .type)) (parametersPart ps)
+parameters-cons p ps = types-cons (p .type) (parameterTypes ps)
 
 pub before-part : (f : Function) → beforePart f ≡ both (receiverPart f) (parametersPart (f .parameters))
 before-part f = go (f .hasReceiver)

@@ -24,11 +24,11 @@ parts es r = record { before = es; last = r }
 abbrev pub erasedOption : Option Ty → Option Erased
 erasedOption t = ifSome t none erased
 
--- the types of the kept parameters, in order
+-- the types of the parameters, in order, of all of them
 abbrev pub parameterTypes : List Parameter → List (Option Ty)
 parameterTypes = map λ p. p .type
 
--- the types that stand before the return: the receiver's where there is one, and the kept parameters'
+-- the types that stand before the return: the receiver's where there is one, and the parameters'
 abbrev pub typesBefore : Function → List (Option Ty)
 typesBefore f = if f .hasReceiver then f .receiver ∷ parameterTypes (f .parameters) else parameterTypes (f .parameters)
 

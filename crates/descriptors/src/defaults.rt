@@ -13,7 +13,7 @@ ghost use Rattle.erasure.specs.Erasure.{print};
 ghost use Rattle.erasure.specs.told.ErasureTold.{PutSized};
 ghost use Rattle.descriptors.specs.Defaults.{continuationClass, object};
 ghost use Rattle.descriptors.specs.told.DefaultsTold.{partCost, PartWithin, ParametersTold, ConstructorDefault, FunctionDefault};
-ghost use Rattle.descriptors.specs.told.PartsTold.{PartRoom, PartOf, TypeGiven, typePart, ParameterGiven, parameterPart, FunctionGiven, receiverPart, beforePart, afterPart, preceded};
+ghost use Rattle.descriptors.specs.told.PartsTold.{PartRoom, PartOf, TypeGiven, typePart, FunctionGiven, receiverPart, beforePart, afterPart, preceded};
 use crate::erased::Placement;
 use crate::erased::put_erased;
 use erasure::CONTINUATION;
@@ -29,16 +29,13 @@ use fields::FUNCTION_RETURN_TYPE;
 use fields::FUNCTION_RETURN_TYPE_ID;
 use fields::FUNCTION_VALUE_PARAMETER;
 use fields::OMITTED_FLAGS;
-use fields::VALUE_PARAMETER_NAME;
 use fields::VALUE_PARAMETER_TYPE;
 use fields::VALUE_PARAMETER_TYPE_ID;
 use messages::next_body;
-use names::name::is_there;
 use schema::FoundType;
 use schema::Tables;
 use schema::TypeSlot;
 use schema::flags::flags_in;
-use schema::name::name_in;
 use schema::places::declared_place;
 use schema::receiver::has_receiver;
 use sheet::put;
@@ -91,53 +88,7 @@ fn type_part(
     )
 }
 
-// A parameter's part. One without a name is skipped.
-fn parameter_part(
-    msg: &[u8],
-    base: u32,
-    payload: &[u8],
-    d2: &[u16],
-    ends: &[u32],
-    notes: &[u64],
-    tables: Tables,
-    area: &mut [u8],
-    at: usize,
-) -> Part
-    requires { ⌜ PartRoom (now payload) (now d2) (now msg) base partCost at ⌝ }
-    ensures { λ r. ⌜ PartOf ParameterGiven parameterPart partCost (lent (now (payload .entry)) (now (d2 .entry)) (now (ends .entry)) (now (notes .entry)) tables) base (base + length (now (msg .entry))) at r (now (area .entry)) (now (area .exit)) ⌝ }
-{
-    let name = name_in(
-        msg,
-        base,
-        VALUE_PARAMETER_NAME,
-        payload,
-        ends,
-        notes,
-        tables.records,
-    );
-    if is_there(name) {
-        return type_part(
-            msg,
-            base,
-            TypeSlot {
-                inline: VALUE_PARAMETER_TYPE,
-                indexed: VALUE_PARAMETER_TYPE_ID,
-                role: 0,
-            },
-            Position::Parameter,
-            payload,
-            d2,
-            ends,
-            notes,
-            tables,
-            area,
-            at,
-        );
-    }
-    Part::Written { size: 0 }
-}
-
-// The parts of the kept parameters in a field, one after the other.
+// The parts of the parameters in a field, one after the other: one of each message, with a name or without.
 fn parameter_parts(
     msg: &[u8],
     base: u32,
@@ -161,9 +112,15 @@ fn parameter_parts(
             return Part::Written { size };
         };
         from = end;
-        let part = parameter_part(
+        let part = type_part(
             &msg[start..end],
             base + start as u32,
+            TypeSlot {
+                inline: VALUE_PARAMETER_TYPE,
+                indexed: VALUE_PARAMETER_TYPE_ID,
+                role: 0,
+            },
+            Position::Parameter,
             payload,
             d2,
             ends,
@@ -264,7 +221,7 @@ fn receiver_part(
     Part::Written { size: 0 }
 }
 
-// The parts of the types before the return: the receiver's and the kept parameters'.
+// The parts of the types before the return: the receiver's and the parameters'.
 fn before_part(
     msg: &[u8],
     base: u32,

@@ -9,9 +9,9 @@ use Rattle.characters.specs.Characters.{isScalar, width, utf8Of, utf8, leadOf, 
 use Rattle.characters.specs.Splits.{splitAt, substringOf}
 use Rattle.names.specs.Records.{recordOf, predefinedText, baseText, replaceOf, operated, textOf}
 use Rattle.names.specs.Names.{endsFit, recordsOf, recordAt, string, withoutLast, qualifiedName, stringsFrom, d2String}
-use Rattle.schema.specs.Reading.{kept, nameIn, classNameIn}
+use Rattle.schema.specs.Reading.{kept, nameIn, classNameIn, each}
 use Rattle.schema.specs.Types.{resolveAt, typeIn, projectionIn, argumentIn, parseAt, typeAt, declaredType, typeTableIn}
-use Rattle.schema.specs.Members.{signatureOf, signatureIn, fieldOf, fieldIn, parameterIn, listIn, constructorIn, functionIn, propertyIn, aliasIn, listsIn, afterTable, bodyIn}
+use Rattle.schema.specs.Members.{signatureOf, signatureIn, fieldOf, fieldIn, parameterIn, listIn, constructorIn, functionIn, propertyIn, aliasIn, listsIn, afterTable, bodyIn, parametersIn}
 use Rattle.declaration_rows.specs.Rows.{typesRows, parameterRows, constructorRows, functionRows, propertyRows, aliasRows}
 use Rattle.inputs.specs.Refusals.{numberOf, detailOf}
 use Rattle.inputs.specs.Inputs.{laterFault, faultOf}
@@ -27,8 +27,8 @@ unfolding
     holds decoded firstAbove255 unpacked groupsFrom readVarint readBytes readDelimited readFixed readValue readField repeated cut packed
     values varintOf index flag bytesOf message bodiesOf cutAll messages joined varints isScalar width utf8Of utf8 leadOf run step fromUtf8After
     fromUtf16 recordOf predefinedText baseText splitAt substringOf replaceOf operated textOf recordsOf recordAt string withoutLast qualifiedName
-    stringsFrom d2String bodyText bodyBytes texts sheetFrom kept nameIn classNameIn resolveAt typeIn projectionIn argumentIn parseAt typeAt declaredType
-    typeTableIn signatureOf signatureIn fieldOf fieldIn parameterIn listIn constructorIn functionIn propertyIn aliasIn listsIn afterTable bodyIn
+    stringsFrom d2String bodyText bodyBytes texts sheetFrom kept each nameIn classNameIn resolveAt typeIn projectionIn argumentIn parseAt typeAt declaredType
+    typeTableIn signatureOf signatureIn fieldOf fieldIn parameterIn parametersIn listIn constructorIn functionIn propertyIn aliasIn listsIn afterTable bodyIn
     typesRows parameterRows constructorRows functionRows propertyRows aliasRows lookUp firstErased erased erasedReturn print functionParts
     constructorParts descriptor closedConstructor closedFunction numberOf detailOf endsFit laterFault faultOf payload reading declarationRows sheetWritten written read
 computed = holds

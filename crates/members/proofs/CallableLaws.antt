@@ -24,13 +24,14 @@ use Rattle.sheet.specs.declared.State.{State}
 use Rattle.sheet.proofs.PutLaws.{put-types, rows-then}
 use Rattle.declaration_rows.specs.Declarations.{Ty, Signature, Parameter, Constructor, Function, signed}
 use Rattle.schema.specs.Reading.{pure, _>>=_, Scope, nameIn}
-use Rattle.schema.specs.Members.{flagsIn, parameterIn, listIn, signatureIn, constructorIn, receiverIn, functionIn}
+use Rattle.schema.specs.Members.{flagsIn, parametersIn, signatureIn, constructorIn, receiverIn, functionIn}
 use Rattle.schema.specs.Types.{declaredType}
 use Rattle.declaration_rows.specs.Rows.{receiverRole, returnRole, typeRows, parameterRows, constructorRows, functionRows}
 use Rattle.declaration_rows.specs.told.Written.{cellLimit, signatureBy, initBy, constructorCells, functionCells}
 use Rattle.schema.specs.told.SchemaTold.{Lent, NamesOf, Scoped, WalkedSpends, WalkedTold}
-use Rattle.schema.specs.told.MembersTold.{Affords, Within, ListedTold, parameterCost, memberCost, MemberTold, ListTold}
+use Rattle.schema.specs.told.MembersTold.{Affords, Within, ListedTold, parameterCost, memberCost, MemberTold}
 use Rattle.type_references.specs.told.OptionalTold.{OptionalTold}
+use Rattle.members.specs.told.ParametersTold.{ParametersInTold}
 use Rattle.members.specs.told.SignaturesTold.{SignedTold}
 use Rattle.schema.specs.told.ReceiversTold.{ReceiverTold}
 use Rattle.members.specs.told.CallablesTold.{functionHeadCost, FunctionHead, functionTypes, FunctionTypesAre, FunctionTypesTold}
@@ -62,11 +63,11 @@ constructorOf : Message → List Parameter → Option Signature → Constructor
 constructorOf m ps g = record { flags = flagsIn Constructor·flags m; parameters = ps; signature = g }
 
 module _ (c : Scope) (m : Message) (l : ℕ) where
-  constructor-stops : {x : Cause} {p : ℕ} → listIn (parameterIn c) Constructor·value-parameter m l ≡ refused x p → constructorIn c m l ≡ refused x p
+  constructor-stops : {x : Cause} {p : ℕ} → parametersIn c Constructor·value-parameter m l ≡ refused x p → constructorIn c m l ≡ refused x p
   unfolding constructorIn
   constructor-stops e = rw e
 
-  module _ {ps : List Parameter} {b : ℕ} (e : listIn (parameterIn c) Constructor·value-parameter m l ≡ ok (ps, b)) where
+  module _ {ps : List Parameter} {b : ℕ} (e : parametersIn c Constructor·value-parameter m l ≡ ok (ps, b)) where
     constructor-unsigned : {x : Cause} {p : ℕ} → signatureIn c (some (ascii "<init>")) Constructor·constructor-signature m b ≡ refused x p
         → constructorIn c m l ≡ refused x p
     unfolding constructorIn
@@ -94,12 +95,12 @@ module _ (e : Lent) (msg : List ℕ) (base : ℕ) (s : State) (afford : Affords 
   constructor-affords = affords-after afford (parameterCost * length msg) constructor-takes (omega arith)
 
   module _ {r : Listed} {S₂ T₂ : List ℕ}
-      (t : ListTold parameterIn parameterRows (parameterCost * length msg) e msg base Constructor·value-parameter (past 2 s₁) r S₁ S₂ T₁ T₂) where
+      (t : ParametersInTold e msg base Constructor·value-parameter (past 2 s₁) r S₁ S₂ T₁ T₂) where
     listed-is : (c : Scope) → Scoped e c → (m : Message) → cut (_from_ base msg) ≡ ok m → {y : Listed} → r ≡ y
-        → ListedTold (listIn (parameterIn c) Constructor·value-parameter m (s .types)) parameterRows (past 2 s₁) y S₁ S₂ T₁ T₂
+        → ListedTold (parametersIn c Constructor·value-parameter m (s .types)) parameterRows (past 2 s₁) y S₁ S₂ T₁ T₂
     listed-is c o m k {y} w =
-        subst (λ (l : ℕ). ListedTold (listIn (parameterIn c) Constructor·value-parameter m l) parameterRows (past 2 s₁) y S₁ S₂ T₁ T₂) (put-types p)
-        (subst (λ (z : Listed). ListedTold (listIn (parameterIn c) Constructor·value-parameter m (s₁ .types)) parameterRows (past 2 s₁) z S₁ S₂ T₁ T₂) w (t .is c o m k))
+        subst (λ (l : ℕ). ListedTold (parametersIn c Constructor·value-parameter m l) parameterRows (past 2 s₁) y S₁ S₂ T₁ T₂) (put-types p)
+        (subst (λ (z : Listed). ListedTold (parametersIn c Constructor·value-parameter m (s₁ .types)) parameterRows (past 2 s₁) z S₁ S₂ T₁ T₂) w (t .is c o m k))
 
     pub constructor-refused : {x : Stop} → r ≡ listed.Refused x
         → MemberTold constructorIn constructorRows (memberCost (length msg)) e msg base s (picked.Refused x) S S₂ T T₂
@@ -233,11 +234,11 @@ module _ (c : Scope) (m : Message) (l : ℕ) {o : Option Text} (i : nameIn c Fun
   function-none e = rw (i, e)
 
   module _ {name : Text} (e : o ≡ some name) where
-    function-stops : {x : Cause} {p : ℕ} → listIn (parameterIn c) Function·value-parameter m l ≡ refused x p → functionIn c m l ≡ refused x p
+    function-stops : {x : Cause} {p : ℕ} → parametersIn c Function·value-parameter m l ≡ refused x p → functionIn c m l ≡ refused x p
     unfolding functionIn
     function-stops f = rw (i, e, f)
 
-    module _ {ps : List Parameter} {b : ℕ} (f : listIn (parameterIn c) Function·value-parameter m l ≡ ok (ps, b)) where
+    module _ {ps : List Parameter} {b : ℕ} (f : parametersIn c Function·value-parameter m l ≡ ok (ps, b)) where
       function-refused : {x : Cause} {p : ℕ} → functionTypes c (some name) m (functionOf name m ps) b ≡ refused x p → functionIn c m l ≡ refused x p
       unfolding functionIn functionOf
       function-refused g = rw (i, e, f) (ap (λ (r : Res (Function × ℕ)). Results._>>=_ r λ z. pure (some (z .0)) (z .1)) g)
@@ -298,12 +299,12 @@ module _ (e : Lent) (msg : List ℕ) (base : ℕ) (s : State) (name : Name)
     function-affords = affords-after afford (parameterCost * length msg) function-takes (omega arith)
 
     module _ {r : Listed} {S₂ T₂ : List ℕ}
-        (t : ListTold parameterIn parameterRows (parameterCost * length msg) e msg base Function·value-parameter (past 2 s₁) r S₁ S₂ T₁ T₂) where
+        (t : ParametersInTold e msg base Function·value-parameter (past 2 s₁) r S₁ S₂ T₁ T₂) where
       parameters-are : (c : Scope) → Scoped e c → (m : Message) → cut (_from_ base msg) ≡ ok m → {y : Listed} → r ≡ y
-          → ListedTold (listIn (parameterIn c) Function·value-parameter m (s .types)) parameterRows (past 2 s₁) y S₁ S₂ T₁ T₂
+          → ListedTold (parametersIn c Function·value-parameter m (s .types)) parameterRows (past 2 s₁) y S₁ S₂ T₁ T₂
       parameters-are c o m k {y} w =
-          subst (λ (l : ℕ). ListedTold (listIn (parameterIn c) Function·value-parameter m l) parameterRows (past 2 s₁) y S₁ S₂ T₁ T₂) (put-types (p .put))
-          (subst (λ (z : Listed). ListedTold (listIn (parameterIn c) Function·value-parameter m (s₁ .types)) parameterRows (past 2 s₁) z S₁ S₂ T₁ T₂) w (t .is c o m k))
+          subst (λ (l : ℕ). ListedTold (parametersIn c Function·value-parameter m l) parameterRows (past 2 s₁) y S₁ S₂ T₁ T₂) (put-types (p .put))
+          (subst (λ (z : Listed). ListedTold (parametersIn c Function·value-parameter m (s₁ .types)) parameterRows (past 2 s₁) z S₁ S₂ T₁ T₂) w (t .is c o m k))
 
       name-is : (c : Scope) → Scoped e c → (m : Message) → cut (_from_ base msg) ≡ ok m
           → nameIn c Function·name m (s .types) ≡ ok (nameText (e .payload) (e .d2) name, s .types)

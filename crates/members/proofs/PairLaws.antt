@@ -43,20 +43,30 @@ walked-spends s s₁ (walked.Refused stop) p q = tt
 
 module _ {A B : Type 0} (f : Read A) (g : Read B) where
   -- what is made of both
-  pub both-joined : {C : Type 0} (k : A → B → C) (l : ℕ)
-      → ((f >>= λ a. g >>= λ b. pure (k a b)) >>= λ x. pure (some x)) l ≡ (both f g >>= λ p. pure (some (k (p .0) (p .1)))) l
-  both-joined {C} k l = go (f l)
+  pub both-made : {C : Type 0} (k : A → B → C) (l : ℕ) → (f >>= λ a. g >>= λ b. pure (k a b)) l ≡ (both f g >>= λ p. pure (k (p .0) (p .1))) l
+  both-made {C} k l = go (f l)
     where
       last : (a : A) (q : Res (B × ℕ))
-          → Results._>>=_ (Results._>>=_ q λ y. pure (k a (y .0)) (y .1)) (λ z. pure (some (z .0)) (z .1))
-          ≡ Results._>>=_ (Results._>>=_ q λ y. pure {A = A × B} (a, y .0) (y .1)) (λ z. pure (some (k (z .0 .0) (z .0 .1))) (z .1))
+          → Results._>>=_ q (λ y. pure (k a (y .0)) (y .1))
+          ≡ Results._>>=_ (Results._>>=_ q λ y. pure {A = A × B} (a, y .0) (y .1)) (λ z. pure (k (z .0 .0) (z .0 .1)) (z .1))
       last a (ok y) = refl
       last a (refused c p) = refl
 
       go : (r : Res (A × ℕ))
-          → Results._>>=_ (Results._>>=_ r λ x. (g >>= λ b. pure (k (x .0) b)) (x .1)) (λ z. pure (some (z .0)) (z .1))
-          ≡ Results._>>=_ (Results._>>=_ r λ x. (g >>= λ b. pure {A = A × B} (x .0, b)) (x .1)) (λ z. pure (some (k (z .0 .0) (z .0 .1))) (z .1))
+          → Results._>>=_ r (λ x. (g >>= λ b. pure (k (x .0) b)) (x .1))
+          ≡ Results._>>=_ (Results._>>=_ r λ x. (g >>= λ b. pure {A = A × B} (x .0, b)) (x .1)) (λ z. pure (k (z .0 .0) (z .0 .1)) (z .1))
       go (ok x) = last (x .0) (g (x .1))
+      go (refused c p) = refl
+
+  -- the same of what may not be there
+  pub both-joined : {C : Type 0} (k : A → B → C) (l : ℕ)
+      → ((f >>= λ a. g >>= λ b. pure (k a b)) >>= λ x. pure (some x)) l ≡ (both f g >>= λ p. pure (some (k (p .0) (p .1)))) l
+  both-joined {C} k l = ap (λ (r : Res (C × ℕ)). Results._>>=_ r λ z. pure (some (z .0)) (z .1)) (both-made k l) ∙ go (both f g l)
+    where
+      go : (r : Res ((A × B) × ℕ))
+          → Results._>>=_ (Results._>>=_ r λ z. pure (k (z .0 .0) (z .0 .1)) (z .1)) (λ z. pure (some (z .0)) (z .1))
+          ≡ Results._>>=_ r (λ z. pure (some (k (z .0 .0) (z .0 .1))) (z .1))
+      go (ok z) = refl
       go (refused c p) = refl
 
   module _ (rows : A → List Row) (rows′ : B → List Row) (s : State) where

@@ -1,16 +1,15 @@
 // Value parameters: a name, whether a default is declared, a type and the type of vararg elements. The definitions: schema's specs/Members.antt,
-// `parameterIn`; what the readers tell: schema's specs/told/MembersTold.antt.
+// `parameterIn`; what the readers tell: specs/told/ParametersTold.antt.
 ghost use mathlib.Core.Path.{_≡_};
 ghost use Prim.Native.Nat.{_+_, _*_, _≤_};
 ghost use lib.ListN.{length};
 ghost use Rattle.foundation.specs.Results.{ok, _from_};
 ghost use Rattle.fields.specs.Fields.{ValueParameter·flags};
 ghost use Rattle.wire.specs.Wire.{cut, Message};
-ghost use Rattle.schema.specs.Members.{bitOf, smallFlagsIn, parameterIn};
-ghost use Rattle.declaration_rows.specs.Rows.{parameterRows};
+ghost use Rattle.schema.specs.Members.{bitOf, smallFlagsIn};
 ghost use Rattle.schema.specs.told.SchemaTold.{lent};
-ghost use Rattle.schema.specs.told.MembersTold.{Affords, parameterCost, MemberTold, ListTold};
-ghost use Rattle.schema.specs.told.ListsTold.{ListAtTold};
+ghost use Rattle.schema.specs.told.MembersTold.{Affords, parameterCost};
+ghost use Rattle.members.specs.told.ParametersTold.{ParameterTold, ParametersAtTold, ParametersInTold};
 use crate::pairs::TypePair;
 use crate::pairs::type_pair;
 use declaration_rows::PARAMETER_ROLE;
@@ -26,15 +25,13 @@ use fields::VALUE_PARAMETER_VARARG_ELEMENT_TYPE_ID;
 use messages::Checked;
 use messages::check_messages;
 use messages::next_body;
-use names::name::is_there;
 use schema::Listed;
-use schema::Picked;
 use schema::Stop;
 use schema::Tables;
 use schema::TypeSlot;
+use schema::Walked;
 use schema::flags::flags_in;
 use schema::name::name_in;
-use schema::types::picked;
 use sheet::State;
 use wire::Piece;
 
@@ -46,7 +43,7 @@ fn declares_default(msg: &[u8], base: u32) -> bool
     flags / 2 % 2 == 1
 }
 
-// A parameter. One without a name is skipped before anything inside it is read.
+// A parameter, with a name or without.
 fn parameter_in(
     msg: &[u8],
     base: u32,
@@ -58,9 +55,9 @@ fn parameter_in(
     state: State,
     sheet: &mut [u8],
     text: &mut [u8],
-) -> Picked
+) -> Walked
     requires { ⌜ Affords (now payload) (now d2) parameterCost state × (base + length (now msg) ≤ length (now payload)) ⌝ }
-    ensures { λ r. ⌜ MemberTold parameterIn parameterRows parameterCost (lent (now (payload .entry)) (now (d2 .entry)) (now (ends .entry)) (now (notes .entry)) tables) (now (msg .entry)) base state r (now (sheet .entry)) (now (sheet .exit)) (now (text .entry)) (now (text .exit)) ⌝ }
+    ensures { λ r. ⌜ ParameterTold (lent (now (payload .entry)) (now (d2 .entry)) (now (ends .entry)) (now (notes .entry)) tables) (now (msg .entry)) base state r (now (sheet .entry)) (now (sheet .exit)) (now (text .entry)) (now (text .exit)) ⌝ }
 {
     let name = name_in(
         msg,
@@ -71,9 +68,6 @@ fn parameter_in(
         notes,
         tables.records,
     );
-    if !is_there(name) {
-        return Picked::Dropped;
-    }
     let default = declares_default(msg, base);
     let head = put_parameter(payload, d2, name, default, state, sheet, text);
     let pair = TypePair {
@@ -88,7 +82,7 @@ fn parameter_in(
             role: VARARG_ROLE,
         },
     };
-    picked(type_pair(
+    type_pair(
         msg,
         base,
         pair,
@@ -100,7 +94,7 @@ fn parameter_in(
         head,
         sheet,
         text,
-    ))
+    )
 }
 
 // The parameters in a field, one after the other. All of them are cut.
@@ -118,7 +112,7 @@ fn parameters_at(
     text: &mut [u8],
 ) -> Listed
     requires { ⌜ Affords (now payload) (now d2) (parameterCost * length (now msg)) state × (base + length (now msg) ≤ length (now payload)) ⌝ }
-    ensures { λ r. ⌜ ListAtTold parameterIn parameterRows (parameterCost * length (now (msg .entry))) (lent (now (payload .entry)) (now (d2 .entry)) (now (ends .entry)) (now (notes .entry)) tables) (now (msg .entry)) base number state r (now (sheet .entry)) (now (sheet .exit)) (now (text .entry)) (now (text .exit)) ⌝ }
+    ensures { λ r. ⌜ ParametersAtTold (lent (now (payload .entry)) (now (d2 .entry)) (now (ends .entry)) (now (notes .entry)) tables) (now (msg .entry)) base number state r (now (sheet .entry)) (now (sheet .exit)) (now (text .entry)) (now (text .exit)) ⌝ }
 {
     let mut at = 0;
     let mut count: usize = 0;
@@ -142,12 +136,11 @@ fn parameters_at(
             text,
         );
         match parameter {
-            Picked::Kept { state: after } => {
+            Walked::Done { state: after } => {
                 next = after;
                 count += 1;
             }
-            Picked::Dropped => {}
-            Picked::Refused { stop } => return Listed::Refused { stop },
+            Walked::Refused { stop } => return Listed::Refused { stop },
         }
     }
 }
@@ -167,7 +160,7 @@ pub(crate) fn parameters_in(
     text: &mut [u8],
 ) -> Listed
     requires { ⌜ Affords (now payload) (now d2) (parameterCost * length (now msg)) state × (base + length (now msg) ≤ length (now payload)) ⌝ }
-    ensures { λ r. ⌜ ListTold parameterIn parameterRows (parameterCost * length (now (msg .entry))) (lent (now (payload .entry)) (now (d2 .entry)) (now (ends .entry)) (now (notes .entry)) tables) (now (msg .entry)) base number state r (now (sheet .entry)) (now (sheet .exit)) (now (text .entry)) (now (text .exit)) ⌝ }
+    ensures { λ r. ⌜ ParametersInTold (lent (now (payload .entry)) (now (d2 .entry)) (now (ends .entry)) (now (notes .entry)) tables) (now (msg .entry)) base number state r (now (sheet .entry)) (now (sheet .exit)) (now (text .entry)) (now (text .exit)) ⌝ }
 {
     let checked = check_messages(msg, base, number);
     let Checked::Whole = checked else {

@@ -21,7 +21,7 @@ use Rattle.declaration_rows.specs.Declarations.{Types, noTypes, andType, Ty, si
 use Rattle.declaration_rows.specs.Rows.{argumentRole, typesRows, typeRows, parameterRows, parametersRows, constructorRows, functionRows, propertyRows, aliasRows, aliasesRows}
 use Rattle.schema.specs.Reading.{Read, lift, keep, kept, Scope, scope, nameIn}
 use Rattle.schema.specs.Types.{declaredType, typeTableIn}
-use Rattle.schema.specs.Members.{named, signatureIn, fieldIn, ofSignature, parameterIn, listIn, constructorIn, functionIn, propertyIn, aliasIn, Head, headIn, listsIn, afterTable, bodyIn}
+use Rattle.schema.specs.Members.{named, signatureIn, fieldIn, ofSignature, parameterIn, parametersIn, listIn, constructorIn, functionIn, propertyIn, aliasIn, Head, headIn, listsIn, afterTable, bodyIn}
 use Rattle.schema.specs.told.TypeSizes.{
   sizeIfSome,
   sizeOfAll,
@@ -34,7 +34,7 @@ use Rattle.schema.specs.told.TypeSizes.{
   aliasSize,
   declarationsSize,
 }
-use Rattle.schema.proofs.Fine.{Reads, reads-pure, reads-lift, reads-bind, reads-ifSome, reads-weaken, reads-kept}
+use Rattle.schema.proofs.Fine.{Reads, reads-pure, reads-lift, reads-bind, reads-ifSome, reads-weaken, reads-each}
 use Rattle.descriptors.specs.Defaults.{defaultRow, constructorParts, closedConstructor, closedFunction}
 use Rattle.declarations.specs.Payload.{declarationRows}
 use Rattle.promises.proofs.Weights.{weight, weightOf, embedded, messages-weight, many-weight, index-weight, one-weight, two-weight, three-weight, four-weight}
@@ -153,19 +153,12 @@ module _ {A : Type 0} (cost : A → ℕ) (read : Message → Read (Option A)) (o
   list-costs k m = reads-bind (reads-lift (messages k m) (messages-weight k m)) λ ms w. reads-weaken (kept-costs ms) λ xs q. omega arith
 
 -- two bytes a parameter, and two for a name
-parameters-few : (s : Scope) (k : ℕ) (m : Message) → Reads (λ ps. 2 * length ps ≤ weightOf (values k m)) (listIn (parameterIn s) k m)
-unfolding listIn
+parameters-few : (s : Scope) (k : ℕ) (m : Message) → Reads (λ ps. 2 * length ps ≤ weightOf (values k m)) (parametersIn s k m)
+unfolding parametersIn
 parameters-few s k m =
     reads-bind (reads-lift (messages k m) (messages-weight k m)) λ ms w.
-    reads-weaken (reads-kept (λ x p. some-read (parameterIn s x)) ms (all-any ms)) λ ps q. omega (arith, many-weight ms, q .1)
+    reads-weaken (reads-each (λ x p. any-read (parameterIn s x)) ms (all-any ms)) λ ps q. omega (arith, many-weight ms, q .1)
   where
-    any-some : {A : Type 0} (o : Option A) → IfSome (λ a. Unit {0}) o
-    any-some none = tt
-    any-some (some a) = tt
-
-    some-read : {A : Type 0} (r : Read (Option A)) → Reads (IfSome λ a. Unit {0}) r
-    some-read r = reads-weaken (any-read r) λ o t. any-some o
-
     all-any : (ms : List Message) → All (λ x. Unit {0}) ms
     all-any [] = tt
     all-any (x ∷ ms) = (tt, all-any ms)

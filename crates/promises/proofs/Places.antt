@@ -50,9 +50,9 @@ use Rattle.wire.proofs.Places.{cut-in}
 use Rattle.names.specs.Names.{Names, recordsOf, recordAt, string, qualifiedName, endsFit, stringsFrom, d2String}
 use Rattle.names.specs.Records.{decides}
 use Rattle.declaration_rows.specs.Declarations.{star, Signature}
-use Rattle.schema.specs.Reading.{Read, pure, _>>=_, lift, enter, kept, TypeTable, Scope, scope, nameIn, classNameIn, allowance}
+use Rattle.schema.specs.Reading.{Read, pure, _>>=_, lift, enter, kept, TypeTable, Scope, scope, nameIn, classNameIn, allowance, each}
 use Rattle.schema.specs.Types.{Walk, maxDepth, resolveAt, typeIn, projectionIn, argumentIn, parseAt, typeAt, declaredType, typeTableIn}
-use Rattle.schema.specs.Members.{named, signatureOf, signatureIn, fieldOf, forgiven, fieldIn, ofSignature, parameterIn, listIn, constructorIn, functionIn, propertyIn, aliasIn, Head, headIn, constructorsIn, functionField, propertyField, aliasField, listsIn, afterTable, bodyIn}
+use Rattle.schema.specs.Members.{named, signatureOf, signatureIn, fieldOf, forgiven, fieldIn, ofSignature, parameterIn, listIn, constructorIn, functionIn, propertyIn, aliasIn, Head, headIn, constructorsIn, functionField, propertyField, aliasField, listsIn, afterTable, bodyIn, parametersIn}
 use Rattle.inputs.specs.Refusals.{numberOf}
 use Rattle.inputs.specs.Inputs.{Input, kindOf, carriesDeclarations, stringLimit, supportedMajor, major, laterFault, faultOf}
 use Rattle.declarations.specs.Payload.{payload}
@@ -269,6 +269,11 @@ module _ (n : ℕ) where
   places-kept h [] i = places-pure tt
   places-kept h (m ∷ ms) i = places-then (h m (i .0)) λ a t. places-then (places-kept h ms (i .1)) λ xs t. places-pure tt
 
+  places-each : {A : Type 0} {f : Message → Read A} → ((m : Message) → Inside m → Places Any (f m)) → (ms : List Message) → All Inside ms → Places Any (each f ms)
+  unfolding each
+  places-each h [] i = places-pure tt
+  places-each h (m ∷ ms) i = places-then (h m (i .0)) λ a t. places-then (places-each h ms (i .1)) λ xs t. places-pure tt
+
   -- names, of strings of d2 that refuse nothing else
   abbrev NamesPlaced : Names → Type 0
   NamesPlaced names = (i : ℕ) → Placing n Any (names .d2 i)
@@ -363,8 +368,12 @@ module _ (n : ℕ) where
     places-parameterIn : (m : Message) → Inside m → Places Any (parameterIn s m)
     unfolding parameterIn
     places-parameterIn m b =
-        places-then (places-nameIn _ m) λ o u. places-named _ o λ name.
+        places-then (places-nameIn _ m) λ name u.
         places-then (places-declaredType _ _ m b) λ type u. places-then (places-declaredType _ _ m b) λ vararg u. places-pure tt
+
+    places-parametersIn : (k : ℕ) (m : Message) → Inside m → Places Any (parametersIn s k m)
+    unfolding parametersIn
+    places-parametersIn k m b = places-then (places-lift (messages k m) (placing-messages k m b)) (places-each places-parameterIn)
 
     places-listIn : {A : Type 0} {read : Message → Read (Option A)} → ((m : Message) → Inside m → Places Any (read m)) → (k : ℕ) (m : Message) → Inside m
         → Places Any (listIn read k m)
@@ -374,13 +383,13 @@ module _ (n : ℕ) where
     places-constructorIn : (m : Message) → Inside m → Places Any (constructorIn s m)
     unfolding constructorIn
     places-constructorIn m b =
-        places-then (places-listIn places-parameterIn _ m b) λ parameters u. places-then (places-signatureIn _ _ m b) λ signature u. places-pure tt
+        places-then (places-parametersIn _ m b) λ parameters u. places-then (places-signatureIn _ _ m b) λ signature u. places-pure tt
 
     places-functionIn : (m : Message) → Inside m → Places Any (functionIn s m)
     unfolding functionIn
     places-functionIn m b =
         places-then (places-nameIn _ m) λ o u. places-named _ o λ name.
-        places-then (places-listIn places-parameterIn _ m b) λ parameters u.
+        places-then (places-parametersIn _ m b) λ parameters u.
         places-then (places-declaredType _ _ m b) λ receiver u.
         places-then (places-signatureIn _ _ m b) λ signature u.
         places-then (places-declaredType _ _ m b) λ returned u. places-pure tt

@@ -40,7 +40,6 @@ use Rattle.schema.proofs.Fine.{FineTypes, FineTy, single-fine, FineParameter, F
 use Rattle.descriptors.specs.Defaults.{Parts, functionParts, constructorParts, descriptor, defaultRow, closedConstructor, closedFunction}
 use Rattle.descriptors.proofs.WellFormedLaws.{function-well-formed, constructor-well-formed}
 use Rattle.declarations.specs.Payload.{declarationRows}
-use Rattle.promises.proofs.WalkLaws.{if-named}
 
 -- a record of the table with well-formed texts
 abbrev pub Good : Row → Type 0
@@ -70,7 +69,7 @@ type-good role (some t) r f = types-good role (single t) r (single-fine f)
 parameter-good : (p : Parameter) → FineParameter p → All Good (parameterRows p)
 unfolding parameterRows
 parameter-good p f = (
-  ((tt, (bit-fits (p .declaresDefault), tt)), (text-well-formed (p .name) (if-named (p .name) (f .name)), (bit-has (p .declaresDefault), tt))),
+  ((tt, (bit-fits (p .declaresDefault), tt)), (text-well-formed (p .name) (f .name), (bit-has (p .declaresDefault), tt))),
   all-append Good (typeRows parameterRole (p .type)) (typeRows varargRole (p .varargElement)) (type-good parameterRole (p .type) (omega arith) (f .type))
       (type-good varargRole (p .varargElement) (omega arith) (f .varargElement)),
 )

@@ -17,7 +17,7 @@ use Rattle.declaration_rows.specs.Declarations.{Types, noTypes, andType, Ty, si
 use Rattle.declaration_rows.specs.Rows.{returnRole, receiverRole, parameterRole, varargRole, argumentRole, underlyingRole, expandedRole, typesRows, typeRows, parameterRows, parametersRows, constructorRows, functionRows, propertyRows, aliasRows}
 use Rattle.characters.specs.told.CharactersTold.{Characters}
 use Rattle.characters.proofs.Utf8Laws.{utf8-back}
-use Rattle.schema.proofs.Fine.{Named, FineTypes, FineTy, single-fine, FineParameter, FineSignature, FineConstructor, FineFunction, FineProperty, FineAlias, FineDeclarations}
+use Rattle.schema.proofs.Fine.{FineTypes, FineTy, single-fine, FineParameter, FineSignature, FineConstructor, FineFunction, FineProperty, FineAlias, FineDeclarations}
 use Rattle.descriptors.specs.Defaults.{functionParts, constructorParts, descriptor, defaultRow, closedConstructor, closedFunction}
 use Rattle.declarations.specs.Payload.{declarationRows}
 use Rattle.promises.specs.Walk.{
@@ -60,10 +60,6 @@ types-walked (suc k) role (andType projection nullable name arguments after) res
     let behind = types-walked k role after rest (f .5) (omega arith) in
     rw (eq-eqb role role refl, append-assoc, inside, behind, one-bit nullable, text-back name (f .2))
 
-pub if-named : (name : Option Text) → Named name → IfSome Characters name
-if-named none n = tt
-if-named (some t) n = n
-
 -- no type of that role stands next
 abbrev Apart : ℕ → List Row → Type 0
 Apart role [] = Unit {0}
@@ -93,7 +89,7 @@ parameter-walked p rest f h =
     let vararg = type-walked varargRole (p .varargElement) rest (f .varargElement) (h .1) in
     let type = type-walked parameterRole (p .type) (typeRows varargRole (p .varargElement) ++ rest) (f .type)
     (apart-from parameterRole varargRole (p .varargElement) rest refl (h .0)) in
-    rw (append-assoc (typeRows parameterRole (p .type)) (typeRows varargRole (p .varargElement)) rest, type, vararg, one-bit (p .declaresDefault), text-back (p .name) (if-named (p .name) (f .name)))
+    rw (append-assoc (typeRows parameterRole (p .type)) (typeRows varargRole (p .varargElement)) rest, type, vararg, one-bit (p .declaresDefault), text-back (p .name) (f .name))
 
 -- a list announced by its count: each of its members is walked where another, or what follows the list, stands next
 module _ {A B : Type 0} (w : Walker B) (given : A → B) (rows : A → List Row) (Good : A → Type 0) (Next : List Row → Type 0)

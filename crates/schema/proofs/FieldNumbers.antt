@@ -13,7 +13,7 @@ use Rattle.wire.specs.Wire.{groupsFrom, readVarint, readBytes, readDelimited, r
 use Rattle.wire.specs.Messages.{values, varintOf, index, flag, bytesOf, message, bodiesOf, cutAll, messages}
 use Rattle.names.specs.Names.{Names, recordAt, string, withoutLast, qualifiedName}
 use Rattle.declaration_rows.specs.Declarations.{invariant, noTypes, andType, Ty, Signature, Parameter, Declarations}
-use Rattle.schema.specs.Reading.{kept, nameIn, classNameIn, allowance}
+use Rattle.schema.specs.Reading.{kept, nameIn, classNameIn, allowance, each}
 use Rattle.schema.specs.Types.{resolveAt, typeIn, projectionIn, argumentIn, parseAt, typeAt, declaredType, typeTableIn}
 use Rattle.schema.specs.Members.{
   signatureOf,
@@ -21,6 +21,7 @@ use Rattle.schema.specs.Members.{
   fieldOf,
   fieldIn,
   parameterIn,
+  parametersIn,
   listIn,
   constructorIn,
   functionIn,
@@ -128,8 +129,8 @@ expected = record {
 pub field-numbers : Results._>>=_ (cut (_from_ 0 class)) (λ m. bodyIn true names m allowance) ≡ ok (expected, 2024)
 unfolding
     names class expected groupsFrom readVarint readBytes readDelimited readFixed readValue readField repeated cut values varintOf index flag
-    bytesOf message bodiesOf cutAll messages recordAt string withoutLast qualifiedName kept nameIn classNameIn resolveAt typeIn projectionIn
-    argumentIn parseAt typeAt declaredType typeTableIn signatureOf signatureIn fieldOf fieldIn parameterIn listIn constructorIn functionIn propertyIn
+    bytesOf message bodiesOf cutAll messages recordAt string withoutLast qualifiedName kept each nameIn classNameIn resolveAt typeIn projectionIn
+    argumentIn parseAt typeAt declaredType typeTableIn signatureOf signatureIn fieldOf fieldIn parameterIn parametersIn listIn constructorIn functionIn propertyIn
     aliasIn listsIn afterTable bodyIn
 field-numbers = refl
 
@@ -173,7 +174,7 @@ expectedOfPackage = record {
 pub package-field-numbers : Results._>>=_ (cut (_from_ 0 file)) (λ m. bodyIn false names m allowance) ≡ ok (expectedOfPackage, 2046)
 unfolding
     names file expectedOfPackage groupsFrom readVarint readBytes readDelimited readFixed readValue readField repeated cut values varintOf
-    index flag bytesOf message bodiesOf cutAll messages recordAt string withoutLast qualifiedName kept nameIn classNameIn resolveAt typeIn
-    projectionIn argumentIn parseAt typeAt declaredType typeTableIn signatureOf signatureIn fieldOf fieldIn parameterIn listIn constructorIn functionIn
+    index flag bytesOf message bodiesOf cutAll messages recordAt string withoutLast qualifiedName kept each nameIn classNameIn resolveAt typeIn
+    projectionIn argumentIn parseAt typeAt declaredType typeTableIn signatureOf signatureIn fieldOf fieldIn parameterIn parametersIn listIn constructorIn functionIn
     propertyIn aliasIn listsIn afterTable bodyIn
 package-field-numbers = refl

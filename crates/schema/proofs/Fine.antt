@@ -24,10 +24,10 @@ use Rattle.characters.specs.Characters.{isScalar}
 use Rattle.characters.specs.told.CharactersTold.{Characters}
 use Rattle.names.specs.Names.{Names, string, qualifiedName}
 use Rattle.declaration_rows.specs.Declarations.{star, Types, noTypes, andType, Ty, Argument, projected, blank, typesOf, single, countOf, Signature, Parameter, Constructor, Function, Property, Alias, Declarations, signed}
-use Rattle.schema.specs.Reading.{Read, pure, _>>=_, lift, enter, keep, kept, Scope, scope, nameIn, classNameIn, allowance}
+use Rattle.schema.specs.Reading.{Read, pure, _>>=_, lift, enter, keep, kept, Scope, scope, nameIn, classNameIn, allowance, each}
 use Rattle.schema.specs.Types.{Walk, maxDepth, resolveAt, typeIn, projectionOf, projectionIn, argumentIn, parseAt, typeAt, declaredType, typeTableIn}
+use Rattle.schema.specs.Members.{flagsIn, named, signatureOf, signatureIn, fieldOf, forgiven, fieldIn, ofSignature, parameterIn, listIn, constructorIn, functionIn, propertyIn, aliasIn, Head, headIn, constructorsIn, functionField, propertyField, aliasField, listsIn, afterTable, bodyIn, parametersIn}
 use Rattle.schema.proofs.ArgumentLaws.{types-many}
-use Rattle.schema.specs.Members.{flagsIn, named, signatureOf, signatureIn, fieldOf, forgiven, fieldIn, ofSignature, parameterIn, listIn, constructorIn, functionIn, propertyIn, aliasIn, Head, headIn, constructorsIn, functionField, propertyField, aliasField, listsIn, afterTable, bodyIn}
 
 -- each of them a Unicode scalar value
 -- A star is blank.
@@ -58,13 +58,8 @@ pub record FineSignature (s : Signature) : Type 0 where
   pub name : Characters (s .name)
   pub descriptor : Characters (s .descriptor)
 
--- it is there, and of characters
-abbrev pub Named : Option Text → Type 0
-Named none = ⊥
-Named (some t) = Characters t
-
 pub record FineParameter (p : Parameter) : Type 0 where
-  pub name : Named (p .name)
+  pub name : IfSome Characters (p .name)
   pub type : IfSome FineTy (p .type)
   pub varargElement : IfSome FineTy (p .varargElement)
 
@@ -170,6 +165,12 @@ reads-kept {Q} h (m ∷ ms) p =
     reads-bind (h m (p .0)) λ a q.
     reads-bind (reads-kept h ms (p .1)) λ xs r.
     reads-pure (keep-fine Q a xs q (r .0), omega (arith, keep-length a xs, r .1))
+
+pub reads-each : {A : Type 0} {P : Message → Type 0} {Q : A → Type 0} {f : Message → Read A} → ((m : Message) → P m → Reads Q (f m))
+    → (ms : List Message) → All P ms → Reads (λ xs. All Q xs × (length xs ≡ length ms)) (each f ms)
+unfolding each
+reads-each h [] p = reads-pure (tt, refl)
+reads-each h (m ∷ ms) p = reads-bind (h m (p .0)) λ a q. reads-bind (reads-each h ms (p .1)) λ xs r. reads-pure ((q, r .0), ap suc (r .1))
 
 -- names
 pub record ScopeFine (n : ℕ) (s : Scope) : Type 0 where
@@ -325,18 +326,24 @@ reads-listIn h k m b =
     reads-weaken (reads-kept h ms (p .0)) λ xs q. (q .0, omega (arith, p .1, q .1))
 
 module _ {n : ℕ} (few : n < 2 ^ 16) {s : Scope} (f : ScopeFine n s) where
-  pub reads-parameterIn : (m : Message) → Bounded n m → Reads (IfSome FineParameter) (parameterIn s m)
+  pub reads-parameterIn : (m : Message) → Bounded n m → Reads FineParameter (parameterIn s m)
   unfolding parameterIn
   reads-parameterIn m b =
-      reads-bind (reads-nameIn f _ m) λ o c. reads-named o c λ name c.
+      reads-bind (reads-nameIn f _ m) λ name c.
       reads-bind (reads-declaredType few f _ _ m b) λ type t.
       reads-bind (reads-declaredType few f _ _ m b) λ vararg v.
       reads-pure (record { name = c; type = t; varargElement = v })
 
+  reads-parametersIn : (k : ℕ) (m : Message) → Bounded n m → Reads (λ ps. All FineParameter ps × (length ps ≤ n)) (parametersIn s k m)
+  unfolding parametersIn
+  reads-parametersIn k m b =
+      reads-bind (reads-lift (messages k m) (messages-bounded k m b)) λ ms p.
+      reads-weaken (reads-each reads-parameterIn ms (p .0)) λ ps q. (q .0, omega (arith, p .1, q .1))
+
   pub reads-constructorIn : (m : Message) → Bounded n m → Reads (IfSome FineConstructor) (constructorIn s m)
   unfolding constructorIn
   reads-constructorIn m b =
-      reads-bind (reads-listIn reads-parameterIn _ m b) λ parameters p.
+      reads-bind (reads-parametersIn _ m b) λ parameters p.
       reads-bind (reads-signatureIn f (some (ascii "<init>")) init-fine _ m b) λ signature t.
       reads-pure (record { flags = flagsIn-below _ m b; count = lt-of-le-of-lt (p .1) few; parameters = p .0; signature = t })
 
@@ -344,7 +351,7 @@ module _ {n : ℕ} (few : n < 2 ^ 16) {s : Scope} (f : ScopeFine n s) where
   unfolding functionIn
   reads-functionIn m b =
       reads-bind (reads-nameIn f _ m) λ o c. reads-named o c λ name c.
-      reads-bind (reads-listIn reads-parameterIn _ m b) λ parameters p.
+      reads-bind (reads-parametersIn _ m b) λ parameters p.
       reads-bind (reads-declaredType few f _ _ m b) λ receiver v.
       reads-bind (reads-signatureIn f (some name) c _ m b) λ signature t.
       reads-bind (reads-declaredType few f _ _ m b) λ returned r.

@@ -15,6 +15,7 @@ pub mod StandsLaws
 pub mod AnswerLaws
 pub mod FoundLaws
 pub mod GivenLaws
+pub mod EachLaws
 pub mod HeadLaws
 pub mod FlagLaws
 pub mod ReceiverLaws

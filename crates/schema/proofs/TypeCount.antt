@@ -19,7 +19,7 @@ use Rattle.wire.specs.Messages.{index, message, messages}
 use Rattle.names.specs.Names.{Names, string, qualifiedName}
 use Rattle.sheet.specs.Rows.{Row}
 use Rattle.declaration_rows.specs.Declarations.{star, Types, noTypes, andType, Ty, Argument, projected, typesOf, single, Signature, Parameter, Constructor, Function, Property, Alias}
-use Rattle.schema.specs.Reading.{Read, pure, _>>=_, lift, enter, keep, kept, Scope, scope, nameIn, classNameIn, allowance}
+use Rattle.schema.specs.Reading.{Read, pure, _>>=_, lift, enter, keep, kept, Scope, scope, nameIn, classNameIn, allowance, each}
 use Rattle.schema.specs.Types.{Walk, maxDepth, resolveAt, typeIn, projectionIn, argumentIn, parseAt, typeAt, declaredType, noTable, typeTableIn}
 use Rattle.schema.specs.Members.{
   named,
@@ -30,6 +30,7 @@ use Rattle.schema.specs.Members.{
   fieldIn,
   ofSignature,
   parameterIn,
+  parametersIn,
   listIn,
   constructorIn,
   functionIn,
@@ -121,6 +122,12 @@ pub enters-kept : {A : Type 0} {size : A → ℕ} {f : Message → Read (Option 
 unfolding kept
 enters-kept h [] = enters-pure [] refl
 enters-kept {size} h (m ∷ ms) = enters-bind (h m) λ a. enters-bind (enters-kept h ms) λ xs. enters-pure _ (keep-size size a xs)
+
+pub enters-each : {A : Type 0} {size : A → ℕ} {f : Message → Read A} → ((m : Message) → Enters 0 size (f m))
+    → (ms : List Message) → Enters 0 (sizeOfAll size) (each f ms)
+unfolding each
+enters-each h [] = enters-pure [] refl
+enters-each h (m ∷ ms) = enters-bind (h m) λ a. enters-bind (enters-each h ms) λ xs. enters-pure _ (omega arith)
 
 -- names
 module _ (s : Scope) (n : ℕ) (m : Message) where
@@ -226,25 +233,29 @@ unfolding listIn
 enters-listIn h n m = enters-after (quiet-lift (messages n m)) (enters-kept h)
 
 module _ (s : Scope) where
-  pub enters-parameterIn : (m : Message) → Enters 0 (sizeIfSome parameterSize) (parameterIn s m)
+  pub enters-parameterIn : (m : Message) → Enters 0 parameterSize (parameterIn s m)
   unfolding parameterIn
   enters-parameterIn m =
-      enters-after (quiet-nameIn s _ m) λ n. enters-named n λ name.
+      enters-after (quiet-nameIn s _ m) λ name.
       enters-bind (enters-declaredType s _ _ m) λ type.
       enters-bind (enters-declaredType s _ _ m) λ vararg.
       enters-pure _ (omega arith)
 
+  enters-parametersIn : (n : ℕ) (m : Message) → Enters 0 (sizeOfAll parameterSize) (parametersIn s n m)
+  unfolding parametersIn
+  enters-parametersIn n m = enters-after (quiet-lift (messages n m)) (enters-each enters-parameterIn)
+
   pub enters-constructorIn : (m : Message) → Enters 0 (sizeIfSome constructorSize) (constructorIn s m)
   unfolding constructorIn
   enters-constructorIn m =
-      enters-bind (enters-listIn enters-parameterIn _ m) λ parameters.
+      enters-bind (enters-parametersIn _ m) λ parameters.
       enters-after (quiet-signatureIn s _ _ m) λ signature. enters-pure _ (omega arith)
 
   pub enters-functionIn : (m : Message) → Enters 0 (sizeIfSome functionSize) (functionIn s m)
   unfolding functionIn
   enters-functionIn m =
       enters-after (quiet-nameIn s _ m) λ n. enters-named n λ name.
-      enters-bind (enters-listIn enters-parameterIn _ m) λ parameters.
+      enters-bind (enters-parametersIn _ m) λ parameters.
       enters-bind (enters-declaredType s _ _ m) λ receiver.
       enters-after (quiet-signatureIn s _ _ m) λ signature.
       enters-bind (enters-declaredType s _ _ m) λ returned. enters-pure _ (omega arith)

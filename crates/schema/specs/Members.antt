@@ -13,7 +13,7 @@ use Rattle.wire.specs.Wire.{Message}
 use Rattle.wire.specs.Messages.{value, varintOf, message, messages}
 use Rattle.names.specs.Names.{Names}
 use Rattle.declaration_rows.specs.Declarations.{Ty, Signature, signed, Parameter, Constructor, Function, Property, Alias, Declarations}
-use Rattle.schema.specs.Reading.{Read, pure, _>>=_, lift, kept, Scope, scope, nameIn, classNameIn}
+use Rattle.schema.specs.Reading.{Read, pure, _>>=_, lift, kept, each, Scope, scope, nameIn, classNameIn}
 use Rattle.schema.specs.Types.{declaredType, typeTableIn}
 
 -- bit n of some flags, counted from 0
@@ -64,17 +64,22 @@ abbrev pub ofSignature : (Message → Read (Option Signature)) → Option Messag
 ofSignature read none = pure none
 ofSignature read (some m) = read m
 
-unfoldable pub parameterIn : Scope → Message → Read (Option Parameter)
+-- A parameter is never skipped: one without a name is read like any other, and its name is absent.
+unfoldable pub parameterIn : Scope → Message → Read Parameter
 parameterIn s m =
-    nameIn s ValueParameter·name m >>= λ n. named n λ name.
+    nameIn s ValueParameter·name m >>= λ name.
     declaredType s ValueParameter·type ValueParameter·type-id m >>= λ type.
     declaredType s ValueParameter·vararg-element-type ValueParameter·vararg-element-type-id m >>= λ vararg.
     pure (record {
-      name = some name;
+      name = name;
       declaresDefault = bitOf 1 (smallFlagsIn ValueParameter·flags m);
       type = type;
       varargElement = vararg;
     })
+
+-- the parameters in field n: one for each of its messages, all of them cut before the first is read
+unfoldable pub parametersIn : Scope → ℕ → Message → Read (List Parameter)
+parametersIn s n m = lift (messages n m) >>= each (parameterIn s)
 
 -- the list in field n, all of it cut before the first is read
 unfoldable pub listIn : {A : Type 0} → (Message → Read (Option A)) → ℕ → Message → Read (List A)
@@ -83,7 +88,7 @@ listIn read n m = lift (messages n m) >>= kept read
 -- never skipped
 unfoldable pub constructorIn : Scope → Message → Read (Option Constructor)
 constructorIn s m =
-    listIn (parameterIn s) Constructor·value-parameter m >>= λ parameters.
+    parametersIn s Constructor·value-parameter m >>= λ parameters.
     signatureIn s (some (ascii "<init>")) Constructor·constructor-signature m >>= λ signature.
     pure (some (record { flags = flagsIn Constructor·flags m; parameters = parameters; signature = signature }))
 
@@ -94,7 +99,7 @@ receiverIn type n m = isSome type || isSome (value n m)
 unfoldable pub functionIn : Scope → Message → Read (Option Function)
 functionIn s m =
     nameIn s Function·name m >>= λ n. named n λ name.
-    listIn (parameterIn s) Function·value-parameter m >>= λ parameters.
+    parametersIn s Function·value-parameter m >>= λ parameters.
     declaredType s Function·receiver-type Function·receiver-type-id m >>= λ receiver.
     signatureIn s (some name) Function·method-signature m >>= λ signature.
     declaredType s Function·return-type Function·return-type-id m >>= λ returned.

@@ -42,6 +42,11 @@ unfoldable pub kept : {A : Type 0} → (Message → Read (Option A)) → List Me
 kept f [] = pure []
 kept f (m ∷ ms) = f m >>= λ a. kept f ms >>= λ xs. pure (keep a xs)
 
+-- what f reads of each, one after the other; all of it is there
+unfoldable pub each : {A : Type 0} → (Message → Read A) → List Message → Read (List A)
+each f [] = pure []
+each f (m ∷ ms) = f m >>= λ a. each f ms >>= λ xs. pure (a ∷ xs)
+
 -- The type table: its entries, and from which of them on all are nullable.
 pub record TypeTable : Type 0 where
   pub types : List Message

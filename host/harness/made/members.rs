@@ -40,10 +40,20 @@ impl Maker<'_> {
         }
     }
 
+    fn parameter_name(&mut self, fields: &mut Fields) {
+        if self.nameless {
+            return self.name(fields, 2);
+        }
+        let name = self.random.below((self.indices - 1).max(1)) as u64;
+        let mut out = self.tag(2, 0);
+        self.put(&mut out, name);
+        fields.push(out);
+    }
+
     pub(super) fn parameter(&mut self) -> Vec<u8> {
         let mut fields = Fields::new();
         self.flags(&mut fields, 1);
-        self.name(&mut fields, 2);
+        self.parameter_name(&mut fields);
         self.declared(&mut fields, 3, 5, 0);
         if self.random.once_in(5) {
             self.declared(&mut fields, 4, 6, 0);

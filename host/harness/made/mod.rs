@@ -33,6 +33,8 @@ pub struct Maker<'r> {
     /// Indices below this lead somewhere, mostly.
     indices: usize,
     entries: usize,
+    /// Whether a parameter's name may be missing or lead nowhere: in one input of three, so that the original can be held to the others.
+    nameless: bool,
     /// Types that may still be made, so that a payload stays short.
     types: usize,
     /// Whether arguments may be stars: an input that enters one isn't held to the original.
@@ -44,7 +46,8 @@ pub fn input(random: &mut Random) -> Input {
     let broken = *random.pick(&[0, 0, 0, 0, 40, 15, 8]);
     let types = *random.pick(&[10, 30, 30, 100, 400]);
     let stars = random.once_in(3);
-    let mut maker = Maker { random, broken, indices: 1, entries: 0, types, stars };
+    let nameless = random.once_in(3);
+    let mut maker = Maker { random, broken, indices: 1, entries: 0, nameless, types, stars };
     maker.input()
 }
 

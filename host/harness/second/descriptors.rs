@@ -68,7 +68,9 @@ pub fn of_function(function: &Function, names: &Names<'_>) -> Option<String> {
 }
 
 fn parameters(parameters: &[Parameter], names: &Names<'_>) -> Option<String> {
-    parameters.iter().map(|parameter| printed(parameter.ty.as_ref()?, Position::Parameter, names)).collect()
+    let left_out = |parameter: &&Parameter| parameter.name.is_none() && planted(Mistake::NamelessNoPart);
+    let part = |parameter: &Parameter| printed(parameter.ty.as_ref()?, Position::Parameter, names);
+    parameters.iter().filter(|parameter| !left_out(parameter)).map(part).collect()
 }
 
 fn printed(ty: &Type, position: Position, names: &Names<'_>) -> Option<String> {

@@ -16,8 +16,9 @@ pub struct Class {
     pub types: u64,
 }
 
+/// A parameter: every message of its list is one, whether its name leads to a string or not.
 pub struct Parameter {
-    pub name: u32,
+    pub name: Option<u32>,
     pub default: bool,
     pub ty: Option<Type>,
     pub vararg: Option<Type>,
@@ -77,17 +78,17 @@ const OMITTED: u64 = 6;
 const DEFAULT_VALUE: u64 = 2;
 const NOT_DEFAULT: u64 = 64;
 
-/// The body's declarations; `types` counts what is entered, also where the payload is refused later.
-pub fn class<'a>(body: &Message<'a>, kind: u8, names: &Names<'_>, types: &mut Types<'a>) -> Result<Class, Refused> {
+/// The body's declarations; `types` counts what is entered, also where the payload is refused later. `nameless` is set where a parameter without a name is met.
+pub fn class<'a>(body: &Message<'a>, kind: u8, names: &Names<'_>, types: &mut Types<'a>, nameless: &mut bool) -> Result<Class, Refused> {
     let is_class = kind == 1;
     let (function_field, property_field) = if is_class { (9, 10) } else { (3, 4) };
     let constructors = if is_class || planted(Mistake::PackageConstructors) { body.messages(8)? } else { Vec::new() };
     let constructors =
-        constructors.iter().map(|message| constructor(message, names, types)).collect::<Result<_, _>>()?;
+        constructors.iter().map(|message| constructor(message, names, types, nameless)).collect::<Result<_, _>>()?;
     let functions = body
         .messages(function_field)?
         .iter()
-        .filter_map(|message| function(message, names, types).transpose())
+        .filter_map(|message| function(message, names, types, nameless).transpose())
         .collect::<Result<_, _>>()?;
     let properties = body
         .messages(property_field)?
@@ -140,12 +141,19 @@ fn parameters<'a>(
     field: u32,
     names: &Names<'_>,
     types: &mut Types<'a>,
+    nameless: &mut bool,
 ) -> Result<Vec<Parameter>, Refused> {
     let mut parameters = Vec::new();
     for message in &owner.messages(field)? {
-        let Some(name) = usable(message, 2, names) else {
+        let name = usable(message, 2, names);
+        *nameless |= name.is_none();
+        if name.is_none() && planted(Mistake::NamelessSkipped) {
             continue;
-        };
+        }
+        if name.is_none() && planted(Mistake::NamelessUnread) {
+            parameters.push(Parameter { name, default: false, ty: None, vararg: None });
+            continue;
+        }
         parameters.push(Parameter {
             name,
             default: message.number(1).unwrap_or(0) & DEFAULT_VALUE != 0,
@@ -156,8 +164,13 @@ fn parameters<'a>(
     Ok(parameters)
 }
 
-fn constructor<'a>(message: &Message<'a>, names: &Names<'_>, types: &mut Types<'a>) -> Result<Constructor, Refused> {
-    let parameters = parameters(message, 2, names, types)?;
+fn constructor<'a>(
+    message: &Message<'a>,
+    names: &Names<'_>,
+    types: &mut Types<'a>,
+    nameless: &mut bool,
+) -> Result<Constructor, Refused> {
+    let parameters = parameters(message, 2, names, types, nameless)?;
     let recorded = message.message(100)?;
     Ok(Constructor {
         flags: message.number(1).unwrap_or(OMITTED),
@@ -173,14 +186,19 @@ fn has_receiver(message: &Message<'_>, receiver: &Option<Type>, index: u32) -> b
     receiver.is_some() || message.first(index).is_some()
 }
 
-fn function<'a>(message: &Message<'a>, names: &Names<'_>, types: &mut Types<'a>) -> Result<Option<Function>, Refused> {
+fn function<'a>(
+    message: &Message<'a>,
+    names: &Names<'_>,
+    types: &mut Types<'a>,
+    nameless: &mut bool,
+) -> Result<Option<Function>, Refused> {
     let Some(name) = usable(message, 2, names) else {
         if planted(Mistake::SkippedRead) {
             message.messages(6)?;
         }
         return Ok(None);
     };
-    let parameters = parameters(message, 6, names, types)?;
+    let parameters = parameters(message, 6, names, types, nameless)?;
     let receiver = types.declared(message, 5, 8)?;
     let recorded = message.message(100)?;
     let returned = types.declared(message, 3, 7)?;

@@ -42,6 +42,8 @@ pub struct Reading {
     pub aliases: bool,
     /// Whether a record of the name table that decides its indices has operation 2.
     pub descriptor_operation: bool,
+    /// Whether a parameter that was met has no name.
+    pub nameless: bool,
     /// Whether a message that was cut has a field with a number that the encoding guide forbids, also where that is forgiven.
     pub forbidden: bool,
     /// Whether a star was entered, also where the payload is refused later.
@@ -60,6 +62,7 @@ pub fn read(input: &Input) -> Reading {
         old_form: false,
         aliases: false,
         descriptor_operation: false,
+        nameless: false,
         forbidden: false,
         star: false,
     };
@@ -100,7 +103,7 @@ fn payload(bytes: &[u8], input: &Input, kind: u8, reading: &mut Reading) -> Resu
     let body = wire::cut(whole.from(at))?;
     reading.aliases = members::has_aliases(&body, kind);
     let mut types = types::Types::of(&body)?;
-    let class = members::class(&body, kind, &names, &mut types);
+    let class = members::class(&body, kind, &names, &mut types, &mut reading.nameless);
     reading.star = types.met_star;
     let class = class?;
     let mut out = sheet::Writer::default();

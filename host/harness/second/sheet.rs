@@ -173,7 +173,7 @@ impl Writer {
     fn parameters(&mut self, parameters: &[Parameter], names: &Names<'_>) {
         for parameter in parameters {
             self.record(5);
-            self.text(names.string(parameter.name));
+            self.text(parameter.name.and_then(|name| names.string(name)));
             self.number(u64::from(parameter.default), 1);
             self.declared(3, &parameter.ty, names);
             self.declared(4, &parameter.vararg, names);

@@ -19,7 +19,7 @@ import java.util.concurrent.TimeUnit;
  */
 public final class SheetReader {
     /** The number of the sheets' format. It goes up whenever sheets change; who keeps sheets keeps it beside them. */
-    public static final int FORMAT = 6;
+    public static final int FORMAT = 7;
 
     /** More units of d1 or of d2 are refused. */
     public static final int UNIT_LIMIT = 32768;

@@ -10,7 +10,7 @@ use Rattle.foundation.specs.Results.{ok}
 use Rattle.wire.specs.Wire.{Message}
 use Rattle.declaration_rows.specs.Declarations.{Ty, single, Parameter, Constructor, Function}
 use Rattle.schema.specs.Reading.{Scope}
-use Rattle.schema.specs.Members.{listIn, parameterIn, constructorIn, functionIn}
+use Rattle.schema.specs.Members.{parametersIn, constructorIn, functionIn}
 use Rattle.schema.specs.told.SchemaTold.{Lent, Scoped, EntryAt}
 use Rattle.schema.specs.told.TypesTold.{orNullable}
 use Rattle.schema.specs.told.PlacesTold.{TypeFound}
@@ -48,15 +48,15 @@ pub record ErasedTold (e : Lent) (start end left : ℕ) (nullable : Bool) (posit
   pub is : (c : Scope) → Scoped e c → (t : Ty) → TypeFound (e .payload) c start end left t
       → PartTold (mapOption printReturned (erasedAt position (orNullable nullable t))) at r A A′
 
--- what the parts of kept parameters come to
+-- what the parts of parameters come to
 abbrev pub parametersPart : List Parameter → Option (List ℕ)
 parametersPart ps = mapOption (λ es. concat (map print es)) (everyOf (map erasedOption (parameterTypes ps)))
 
--- the parts of the kept parameters in field `number` of the message from start to end
+-- the parts of the parameters in field `number` of the message from start to end
 pub record ParametersTold (e : Lent) (start end number at : ℕ) (r : Part) (A A′ : List ℕ) : Type 0 where
   pub within : PartWithin (partCost * (end - start)) r
   pub is : (c : Scope) → Scoped e c → (m : Message) → EntryAt (e .payload) start end m → (ps : List Parameter) (l b : ℕ)
-      → listIn (parameterIn c) number m l ≡ ok (ps, b) → PartTold (parametersPart ps) at r A A′
+      → parametersIn c number m l ≡ ok (ps, b) → PartTold (parametersPart ps) at r A A′
 
 -- the default descriptors of the constructor or function in the message from start to end
 pub record ConstructorDefault (e : Lent) (start end at : ℕ) (r : Part) (A A′ : List ℕ) : Type 0 where

@@ -1,4 +1,4 @@
--- What the writers of the parts of default descriptors tell: the part of a type, of a parameter, of what stands before and after the ).
+-- What the writers of the parts of default descriptors tell: the part of a type, of what stands before and after the ).
 -- Assumes nothing.
 use mathlib.Core.Path.{_≡_}
 use mathlib.Core.List.{List, [], _∷_, _++_, map}
@@ -9,10 +9,10 @@ use Rattle.foundation.specs.Choices.{if_then_else_, ifSome, mapOption, everyOf,
 use Rattle.foundation.specs.Results.{ok}
 use Rattle.fields.specs.Fields.{Function·return-type, Function·receiver-type, Function·value-parameter, Function·return-type-id, Function·receiver-type-id, Function·flags}
 use Rattle.wire.specs.Wire.{Message}
-use Rattle.declaration_rows.specs.Declarations.{Ty, Parameter, Function}
-use Rattle.schema.specs.Reading.{Read, Scope, keep}
+use Rattle.declaration_rows.specs.Declarations.{Ty, Function}
+use Rattle.schema.specs.Reading.{Read, Scope}
 use Rattle.schema.specs.Types.{declaredType}
-use Rattle.schema.specs.Members.{flagsIn, receiverIn, listIn, parameterIn}
+use Rattle.schema.specs.Members.{flagsIn, receiverIn, parametersIn}
 use Rattle.schema.specs.told.SchemaTold.{Lent, Scoped, EntryAt, Stands}
 use Rattle.erasure.specs.Erasure.{erasedReturn, print, printReturned}
 use Rattle.erasure.specs.declared.Position.{Position}
@@ -20,7 +20,7 @@ use Rattle.erasure.specs.declared.Position.the-variants as position
 use Rattle.erasure.specs.declared.Part.{Part}
 use Rattle.erasure.specs.declared.Part.the-variants as part
 use Rattle.descriptors.specs.Defaults.{erasedOption, typesBefore, suspends, continuationClass, object}
-use Rattle.descriptors.specs.told.DefaultsTold.{erasedAt, PartWithin, PartTold, parametersPart}
+use Rattle.descriptors.specs.told.DefaultsTold.{erasedAt, PartWithin, PartTold}
 
 -- What a writer of parts starts from: decoded bytes and d2 of 32,768 at most, a message that stands among the decoded bytes, and n bytes
 -- that can be counted from a place on.
@@ -49,16 +49,9 @@ TypeGiven inline indexed c m = Gave (declaredType c inline indexed m)
 abbrev pub typePart : Position → Option Ty → Option (List ℕ)
 typePart position t = ifSome t none λ t. mapOption printReturned (erasedAt position t)
 
-abbrev pub ParameterGiven : Scope → Message → Option Parameter → Type 0
-ParameterGiven c m = Gave (parameterIn c m)
-
--- of a parameter; one that is skipped has no text
-abbrev pub parameterPart : Option Parameter → Option (List ℕ)
-parameterPart o = parametersPart (keep o [])
-
 -- what was read of a function, in the order of its fields
 pub record FunctionGiven (c : Scope) (m : Message) (f : Function) : Type 0 where
-  pub parameters : Gave (listIn (parameterIn c) Function·value-parameter m) (f .parameters)
+  pub parameters : Gave (parametersIn c Function·value-parameter m) (f .parameters)
   pub receiver : TypeGiven Function·receiver-type Function·receiver-type-id c m (f .receiver)
   pub returned : TypeGiven Function·return-type Function·return-type-id c m (f .returned)
   pub flags : f .flags ≡ flagsIn Function·flags m

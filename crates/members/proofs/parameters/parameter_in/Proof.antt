@@ -1,71 +1,53 @@
-use borrow.Author.Tests.{not-true, not-false}
 use Rattle.schema.specs.told.SchemaTold.{lent}
 use Rattle.schema.proofs.CountLaws.{affords-after, affords-ready}
-use Rattle.members.proofs.ParameterLaws.{parameter-nameless, parameter-within, parameter-told}
+use Rattle.members.proofs.ParameterLaws.{parameter-within, parameter-told}
 use native.Mathlib.Omega.{arith}
 use borrow.Author.Needs.{needs}
 use Rattle.members.proofs.parameters.parameter_in.Statement.{statement}
 use Rattle.members.proofs.parameters.parameter_in.Tie as tie
 use Rattle.members.proofs.parameters.parameter_in.Reads as reads
 use Rattle.members.proofs.parameters.parameter_in.Lts as lts
-use Rattle.names.proofs.name.is_there.Reads as is-there-reads
-use Rattle.schema.proofs.name.name_in.Reads as name-in-reads
-use Rattle.members.proofs.parameters.declares_default.Reads as declares-default-reads
-use Rattle.members.proofs.pairs.type_pair.Reads as type-pair-reads
 use Rattle.declaration_rows.proofs.put_parameter.Reads as put-parameter-reads
-use Rattle.schema.proofs.types.picked.Reads as picked-reads
+use Rattle.members.proofs.pairs.type_pair.Reads as type-pair-reads
+use Rattle.members.proofs.parameters.declares_default.Reads as declares-default-reads
+use Rattle.schema.proofs.name.name_in.Reads as name-in-reads
 
--- src/parameters.rt:141:9
+-- src/parameters.rt:62:9
 name-in-requires : tie.Need-name-in-requires
 name-in-requires c κs = search needs
 
--- src/parameters.rt:152:9
-is-there-requires : tie.Need-is-there-requires
-is-there-requires c κs = search needs
-
--- src/parameters.rt:153:9
-returns : tie.Need-returns
-returns c = let a = c .before .before .before .before .before .before .before .before .before .before .args in let e = lent (a .payload .now) (a .d2 .now) (a .ends .now) (a .notes .now) (a .tables) in parameter-nameless e (a .msg .now) (a .base) (a .state) (c .before .before .name-in .result) (c .before .before .name-in .ensures) (c .before .is-there .ensures) (not-true _ (c .if1 .taken))
-
--- src/parameters.rt:155:9
+-- src/parameters.rt:71:9
 declares-default-requires : tie.Need-declares-default-requires
 declares-default-requires c κs = search needs
 
--- src/parameters.rt:156:9
+-- src/parameters.rt:72:9
 put-parameter-requires : tie.Need-put-parameter-requires
 put-parameter-requires c κs = search needs
 
--- src/parameters.rt:157:12
+-- src/parameters.rt:85:5
 type-pair-requires : tie.Need-type-pair-requires
-type-pair-requires c κs = (affords-ready (affords-after (c .before .before .before .before .before .before .before .before .before .before .before .before .before .before .before .before .before .before .before .before .pre .0) 0 (parameter-within (c .before .before .before .before .before .before .before .before .before .before .before .before .before .before .before .before .before .before .before .before .pre .0) (c .before .before .before .before .before .before .before .before .before .before .before .before .name-in .result) (c .before .before .before .before .before .before .before .before .before .declares-default .result) (c .before .before .before .before .before .before .put-parameter .ensures)) (omega arith)), c .before .before .before .before .before .before .before .before .before .before .before .before .before .before .before .before .before .before .before .before .pre .1)
+type-pair-requires c κs = (affords-ready (affords-after (c .before .before .before .before .before .before .before .before .before .before .before .before .before .before .before .before .before .before .pre .0) 0 (parameter-within (c .before .before .before .before .before .before .before .before .before .before .before .before .before .before .before .before .before .before .pre .0) (c .before .before .before .before .before .before .before .before .before .before .name-in .result) (c .before .before .before .before .before .before .before .before .before .declares-default .result) (c .before .before .before .before .before .before .put-parameter .ensures)) (omega arith)), c .before .before .before .before .before .before .before .before .before .before .before .before .before .before .before .before .before .before .pre .1)
 
--- src/parameters.rt:157:5
-picked-requires : tie.Need-picked-requires
-picked-requires c κs = search needs
-
--- src/parameters.rt:122:1
+-- src/parameters.rt:47:1
 same-length : tie.Need-same-length
 same-length c = search needs
 
--- src/parameters.rt:122:1
+-- src/parameters.rt:47:1
 same-length-2 : tie.Need-same-length-2
 same-length-2 c = search needs
 
--- src/parameters.rt:122:1
-returns-2 : tie.Need-returns-2
-returns-2 c = let a = c .before .before .before .before .before .before .before .before .before .before .before .before .before .before .before .before .before .before .before .before .before .before .before .before .before .before .args in let e = lent (a .payload .now) (a .d2 .now) (a .ends .now) (a .notes .now) (a .tables) in parameter-told e (a .msg .now) (a .base) (a .state) (c .before .before .before .before .before .before .before .before .before .before .before .before .before .before .before .before .before .before .name-in .result) (c .before .before .before .before .before .before .before .before .before .before .before .before .before .before .before .before .before .before .name-in .ensures) (c .before .before .before .before .before .before .before .before .before .before .before .before .before .before .before .before .before .is-there .ensures) (c .before .before .before .before .before .before .before .before .before .before .before .before .before .before .before .before .before .before .before .before .before .before .before .before .before .before .pre .0) (not-false _ (c .before .before .before .before .before .before .before .before .before .before .before .before .before .before .before .before .if1 .left)) (c .before .before .before .before .before .before .before .before .before .before .before .before .before .before .before .declares-default .result) (c .before .before .before .before .before .before .before .before .before .before .before .before .before .before .before .declares-default .ensures) (c .before .before .before .before .before .before .before .before .before .before .before .before .put-parameter .ensures) (c .before .before .before .before .before .type-pair .ensures) (c .picked .ensures)
+-- src/parameters.rt:47:1
+returns : tie.Need-returns
+returns c = let a = c .before .before .before .before .before .before .before .before .before .before .before .before .before .before .before .before .before .before .before .before .before .before .before .args in let e = lent (a .payload .now) (a .d2 .now) (a .ends .now) (a .notes .now) (a .tables) in parameter-told e (a .msg .now) (a .base) (a .state) (c .before .before .before .before .before .before .before .before .before .before .before .before .before .before .before .name-in .result) (c .before .before .before .before .before .before .before .before .before .before .before .before .before .before .before .name-in .ensures) (c .before .before .before .before .before .before .before .before .before .before .before .before .before .before .before .before .before .before .before .before .before .before .before .pre .0) (c .before .before .before .before .before .before .before .before .before .before .before .before .before .before .declares-default .result) (c .before .before .before .before .before .before .before .before .before .before .before .before .before .before .declares-default .ensures) (c .before .before .before .before .before .before .before .before .before .before .before .put-parameter .ensures) (c .before .before .before .before .type-pair .ensures)
 
 pub parameter-in-spec : {M : Type 1} → statement M
 parameter-in-spec =
     tie.close
     (tie.spec
     name-in-requires
-    is-there-requires
-    returns
     declares-default-requires
     put-parameter-requires
     type-pair-requires
-    picked-requires
     same-length
     same-length-2
-    returns-2)
+    returns)

@@ -1,4 +1,4 @@
-use Rattle.schema.proofs.ListLaws.{list-uncut, list-cut}
+use Rattle.members.proofs.ParameterLaws.{parameters-uncut, parameters-cut}
 use borrow.Author.Needs.{needs}
 use Rattle.members.proofs.parameters.parameters_in.Statement.{statement}
 use Rattle.members.proofs.parameters.parameters_in.Tie as tie
@@ -25,7 +25,7 @@ error-requires c κs = search needs
 
 -- src/parameters.rt:255:9
 returns : tie.Need-returns
-returns c = list-uncut (c .before .before .before .check-messages .result) (c .before .before .before .check-messages .ensures) (c .before .enum-told2 .given .1) (c .error .ensures _ (c .before .enum-told2 .given .1))
+returns c = parameters-uncut (c .before .before .before .check-messages .result) (c .before .before .before .check-messages .ensures) (c .before .enum-told2 .given .1) (c .error .ensures _ (c .before .enum-told2 .given .1))
 
 -- src/parameters.rt:261:5
 parameters-at-requires : tie.Need-parameters-at-requires
@@ -41,7 +41,7 @@ same-length-2 c = search needs
 
 -- src/parameters.rt:233:1
 returns-2 : tie.Need-returns-2
-returns-2 c = list-cut (c .before .before .before .before .before .before .before .before .before .check-messages .result) (c .before .before .before .before .before .before .before .before .before .check-messages .ensures) (c .before .before .before .before .before .before .before .enum-told .given .1) (c .before .before .before .before .parameters-at .ensures)
+returns-2 c = parameters-cut (c .before .before .before .before .before .before .before .before .before .check-messages .result) (c .before .before .before .before .before .before .before .before .before .check-messages .ensures) (c .before .before .before .before .before .before .before .enum-told .given .1) (c .before .before .before .before .parameters-at .ensures)
 
 pub parameters-in-spec : {M : Type 1} → statement M
 parameters-in-spec =
