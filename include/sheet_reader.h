@@ -108,6 +108,8 @@ enum {
  *
  * What the caller gets: if answer[SHEET_NUMBER] is 0, the sheet stands in the first answer[SHEET_LENGTH] bytes of its area and the text in the
  * first answer[SHEET_TEXT_LENGTH] bytes of its own. All other bytes of both areas are as they were; after a refusal all of them are.
+ *
+ * Strings of d2 that the reading doesn't fall to don't matter to the answer, but their number does: docs/MANUAL.md, "Strings that may be blanked".
  */
 void sheet_read(int32_t k, int32_t major, int32_t minor, int32_t patch,
                 const uint16_t *d1, size_t d1_count,

@@ -4,7 +4,7 @@
        trusted.py --write     writes the table there
 
 Who believes these files, and the kit that proves and compiles, needs to believe neither the code nor the proofs. They are the files that the
-contracts in crates/sheet_calls/src name, and all that these name in turn. The program's own definitions and the marked examples are told after
+contracts in crates/sheet_calls/src name, and all that these name in turn. The program's own definitions and the examples are told after
 them, with what they name besides.
 
 A file to believe stands in crates/CRATE/specs, every other file of definitions in crates/CRATE/specs/told: the vocabulary in which the contracts
@@ -26,12 +26,14 @@ ORDER = [
     ('promises', 'characters: WellFormed; sheet: Reading Refs; schema: Counting; promises: Walk Promises'),
     ('demand 3', 'grammar: Grammar; schema: OneForOne; defaults: Needs Messages Descriptor Demand'),
     ('the room', 'room: Room Exact'),
+    ('strings nobody refers to', 'strings: FallsTo Unused'),
     ('conversions of d1', 'converter: Conversions Statements'),
     ('the exported functions', 'sheet_calls: Calls'),
 ]
 # what only the program's line and the examples rest on
-BESIDE = [('beside the library: the program', 'line: Input Line Wrote; answer_lines: Program'), ('the marked examples', 'examples: Cases Marked')]
-BESIDE_FROM = {('answer_lines', 'Program'), ('examples', 'Marked')}
+BESIDE = [('beside the library: the program', 'line: Input Line Wrote; answer_lines: Program'), ('the marked examples', 'examples: Cases Marked'),
+          ('examples of strings nobody refers to', 'strings: Examples')]
+BESIDE_FROM = {('answer_lines', 'Program'), ('examples', 'Marked'), ('strings', 'Examples')}
 
 # names that several files define: "and then" of results, readings and walks; the JVM's base types, as parts and in the grammar
 SEVERAL = {'_>>=_', 'byte', 'char', 'double', 'float', 'int', 'long', 'short', 'boolean'}

@@ -5,6 +5,7 @@ mod once;
 mod options;
 mod run;
 mod self_test;
+mod strings;
 
 use options::{Options, Task};
 

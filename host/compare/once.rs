@@ -6,6 +6,7 @@ use harness::expected::{expected, original_answer};
 use harness::input::Input;
 use harness::limits::Areas;
 use harness::reader::Caller;
+use harness::second;
 
 /// Prints the line that is right and how the reader's answer differs from it, if it does.
 pub fn one(bytes: &[u8], options: &Options) -> bool {
@@ -21,6 +22,8 @@ pub fn one(bytes: &[u8], options: &Options) -> bool {
         println!("the second reading has {line}");
     }
     println!("room {:?}", expected.room.to_array());
+    let fallen = second::read(&input).fallen;
+    println!("strings fallen to {:?}", (0..fallen.len()).filter(|place| fallen[*place]).collect::<Vec<_>>());
     let mut caller = Caller::default();
     let difference = caller.difference(options.reader, &input, areas, &expected.whole);
     let difference = difference.or_else(|| caller.difference_in_room(options.reader, &input, &expected.room));

@@ -4,7 +4,7 @@ use harness::input::from_hex;
 use harness::reader::Reader;
 
 pub const USAGE: &str =
-    "compare [--seed N] [--count N] [--mode exhaustive|made|damaged|boundaries|room|slow|convert|all] [--show N]
+    "compare [--seed N] [--count N] [--mode exhaustive|made|damaged|boundaries|room|strings|slow|convert|all] [--show N]
 compare --file INPUT | --hex HEX    one program input: the line that is right, and whether the reader's is it
 compare --lines FILE                the line that is right for each input of a file of inputs
 compare --original-lines FILE       the Rust's own line for each, without what sheets have got since
@@ -18,18 +18,21 @@ pub enum Mode {
     Damaged,
     Boundaries,
     Room,
+    /// Inputs with other strings that nobody refers to.
+    Strings,
     Slow,
     /// The conversions of d1, and not the reader alone.
     Convert,
 }
 
 impl Mode {
-    pub const ALL: [Self; 7] = [
+    pub const ALL: [Self; 8] = [
         Self::Exhaustive,
         Self::Made,
         Self::Damaged,
         Self::Boundaries,
         Self::Room,
+        Self::Strings,
         Self::Slow,
         Self::Convert,
     ];

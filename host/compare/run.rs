@@ -2,6 +2,7 @@
 
 use crate::convert;
 use crate::options::{Mode, Options};
+use crate::strings;
 use harness::answer::{Answer, NUMBERS};
 use harness::comparison::{Basis, Change};
 use harness::exhaustive::Exhaustive;
@@ -46,7 +47,9 @@ impl Source {
                     shapes::input(&mut random)
                 }
             }
-            Mode::Room => self.classes.get(number as usize).cloned().unwrap_or_else(|| self.made(&mut random)),
+            Mode::Room | Mode::Strings => {
+                self.classes.get(number as usize).cloned().unwrap_or_else(|| self.made(&mut random))
+            }
             Mode::Slow => self.slow.get(number as usize)?.input.clone(),
             Mode::Convert => return None,
         })
@@ -82,7 +85,7 @@ fn areas(mode: Mode, judge: &Judge) -> Vec<(Areas, Option<u64>)> {
         Mode::Boundaries => around(judge).into_iter().chain([LARGE, Areas::PROGRAM]).collect(),
         Mode::Room => return fitting(&judge.room()).into_iter().map(|(areas, number)| (areas, Some(number))).collect(),
         Mode::Slow => vec![Areas::PROGRAM, LARGE],
-        Mode::Convert => Vec::new(),
+        Mode::Strings | Mode::Convert => Vec::new(),
     };
     areas.into_iter().map(|areas| (areas, None)).collect()
 }
@@ -203,6 +206,7 @@ pub fn modes(modes: &[Mode], options: &Options) -> bool {
         let count = if fewer { options.count / 20 } else { options.count };
         fine &= match mode {
             Mode::Convert => convert::mode(count, options),
+            Mode::Strings => strings::mode(&source, count, options),
             _ => one_mode(&source, *mode, count, options),
         };
     }

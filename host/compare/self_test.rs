@@ -3,6 +3,7 @@
 use crate::convert;
 use crate::options::{Mode, Options};
 use crate::run::{Run, Source};
+use crate::strings;
 use harness::conversion::{self, Converter, Inputs};
 use harness::reader::Reader;
 use harness::second::Mistake;
@@ -21,7 +22,20 @@ pub fn run(options: &Options) -> bool {
         println!("{mistake:?} ({}): {shown}", mistake.words());
     }
     println!("{} mistakes, {missed} not found", Mistake::ALL.len());
-    converters(options) && missed == 0
+    let all = strings_found(&source, options) & converters(options);
+    all && missed == 0
+}
+
+/// Mistakes by which strings matter that nobody refers to, in the mode that changes these alone.
+fn strings_found(source: &Source, options: &Options) -> bool {
+    let mut missed = 0;
+    for mistake in [Mistake::SurrogateAcross, Mistake::FallsToStrings] {
+        let found = strings::found_after(source, mistake, options);
+        missed += usize::from(found.is_none());
+        let shown = found.map_or("NOT FOUND".to_string(), |number| format!("strings {}", number + 1));
+        println!("{mistake:?} ({}): {shown}", mistake.words());
+    }
+    missed == 0
 }
 
 /// The same of mistakes of the conversions.

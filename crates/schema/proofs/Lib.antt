@@ -1,3 +1,4 @@
+pub mod AbsentLaws
 pub mod Falls
 pub mod TypeNext
 pub mod TypeCount

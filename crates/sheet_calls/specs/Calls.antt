@@ -11,7 +11,8 @@ use Rattle.inputs.specs.Inputs.{Input, input}
 use Rattle.inputs.specs.Outcomes as definition
 use Rattle.metadata.specs.Read.{read}
 use Rattle.defaults.specs.Demand.{Demand}
-use Rattle.room.specs.Room.{Room}
+use Rattle.room.specs.Room.{Room, room}
+use Rattle.strings.specs.Unused.{AlikeButStrings, NoneOfThree}
 
 -- an answer as five numbers, and what both areas hold afterwards
 abbrev pub toldIn : List ℕ → List ℕ → List ℕ → definition.Answer
@@ -43,6 +44,10 @@ roomIn a = record {
       getD a 5 0 ∷ getD a 6 0 ∷ getD a 7 0 ∷ getD a 8 0 ∷ getD a 9 0 ∷ getD a 10 0 ∷ getD a 11 0 ∷ getD a 12 0 ∷ getD a 13 0 ∷ [];
   listTexts = getD a 14 0 ∷ getD a 15 0 ∷ getD a 16 0 ∷ getD a 17 0 ∷ getD a 18 0 ∷ [];
 }
+
+-- The room of an input is that of any second one that is alike but for strings that the first one's reading doesn't fall to. Both may be refused.
+abbrev pub UnusedInRoom : Input → Room → Type 0
+UnusedInRoom i r = (j : Input) (q : Room) → room j ≡ q → NoneOfThree (r .number) → NoneOfThree (q .number) → AlikeButStrings i j → r ≡ q
 
 -- a conversion's answer as three numbers, and what its area holds afterwards
 abbrev pub convertedIn : List ℕ → List ℕ → Conversion

@@ -10,9 +10,10 @@ ghost use Rattle.metadata.specs.Read.{read};
 ghost use Rattle.promises.specs.Promises.{Promised, Enough, tellsOffset, BrokeAt};
 ghost use Rattle.room.specs.Room.{room};
 ghost use Rattle.room.specs.Exact.{RoomExact};
+ghost use Rattle.strings.specs.Unused.{UnusedStrings};
 ghost use Rattle.converter.specs.Conversions.{oldToNew, newToOld};
 ghost use Rattle.converter.specs.Statements.{OldToNewNumber, NewToOldNumber, AnswerKept, oldBytesLimit, longestNew, longestOld, writtenUnits, ComesBackNew, ComesBackOld};
-ghost use Rattle.sheet_calls.specs.Calls.{toldIn, DemandWithAny, roomIn, convertedIn, SameSheets};
+ghost use Rattle.sheet_calls.specs.Calls.{toldIn, DemandWithAny, roomIn, UnusedInRoom, convertedIn, SameSheets};
 use converter::new_to_old;
 use converter::old_to_new;
 use metadata::read;
@@ -20,7 +21,8 @@ use room::room;
 
 // `read`, with the answer's number, detail, sheet length, text length and types in this order. Areas of 413,695 and 65,534 bytes are always enough.
 // The detail of a 7, 8, 9, 13, 14 or 17 is an offset among the decoded bytes. Of an accepted answer (number 0) it ensures what is promised of every sheet
-// and, with any second one, demand 3. Nothing is asked of what is handed in.
+// and, with any second one, demand 3. Of any answer it ensures that it is that of every input which differs only in strings of d2 that the reading
+// doesn't fall to (`UnusedStrings`). Nothing is asked of what is handed in.
 #[no_mangle]
 pub extern "C" fn sheet_read(
     k: i32,
@@ -40,6 +42,7 @@ pub extern "C" fn sheet_read(
     ensures units { λ _. ⌜ Units (now (d2 .entry)) ⌝ }
     ensures promised { λ _. ⌜ (getD (now (answer .exit)) 0 0 ≡ 0 → Promised (input k (major ∷ minor ∷ patch ∷ []) (now (d1 .entry)) (now (d2 .entry)) (now (ends .entry))) (toldIn (now (answer .exit)) (now (sheet .exit)) (now (text .exit)))) ⌝ }
     ensures demanded { λ _. ⌜ (getD (now (answer .exit)) 0 0 ≡ 0 → DemandWithAny (input k (major ∷ minor ∷ patch ∷ []) (now (d1 .entry)) (now (d2 .entry)) (now (ends .entry))) (toldIn (now (answer .exit)) (now (sheet .exit)) (now (text .exit)))) ⌝ }
+    ensures unused { λ _. ⌜ UnusedStrings (now (sheet .entry)) (now (text .entry)) (input k (major ∷ minor ∷ patch ∷ []) (now (d1 .entry)) (now (d2 .entry)) (now (ends .entry))) (toldIn (now (answer .exit)) (now (sheet .exit)) (now (text .exit))) ⌝ }
 {
     let version = [major, minor, patch];
     let r = read(k, version, &*d1, &*d2, &*ends, sheet, text);
@@ -55,7 +58,8 @@ pub extern "C" fn sheet_read(
 // `room`, with number, detail, sheet length, text length, types, how many records of kind 1, 2, .., 9, and the bytes of text of the properties, functions,
 // constructors, aliases and head, in this order. It takes the input of `sheet_read` and no areas. A refusal is the one that reading gives short of 11 and
 // 12, with all else 0. A text that is too long for any area is told at its true length, and the five numbers add up to it. What is told is exact, with the
-// areas of any `sheet_read` of the same input (`RoomExact`). Nothing is asked of what is handed in.
+// areas of any `sheet_read` of the same input (`RoomExact`), and doesn't depend on strings of d2 that the reading doesn't fall to (`UnusedInRoom`). Nothing is
+// asked of what is handed in.
 #[no_mangle]
 pub extern "C" fn sheet_room(
     k: i32,
@@ -70,6 +74,7 @@ pub extern "C" fn sheet_room(
     ensures { λ _. ⌜ room (input k (major ∷ minor ∷ patch ∷ []) (now (d1 .entry)) (now (d2 .entry)) (now (ends .entry))) ≡ roomIn (now (answer .exit)) ⌝ }
     ensures units { λ _. ⌜ Units (now (d2 .entry)) ⌝ }
     ensures exact { λ _. ⌜ RoomExact (input k (major ∷ minor ∷ patch ∷ []) (now (d1 .entry)) (now (d2 .entry)) (now (ends .entry))) (roomIn (now (answer .exit))) ⌝ }
+    ensures unused { λ _. ⌜ UnusedInRoom (input k (major ∷ minor ∷ patch ∷ []) (now (d1 .entry)) (now (d2 .entry)) (now (ends .entry))) (roomIn (now (answer .exit))) ⌝ }
 {
     let version = [major, minor, patch];
     let r = room(k, version, &*d1, &*d2, &*ends);

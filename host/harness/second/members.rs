@@ -81,6 +81,8 @@ const NOT_DEFAULT: u64 = 64;
 /// The body's declarations; `types` counts what is entered, also where the payload is refused later. `nameless` is set where a parameter without a name is met.
 pub fn class<'a>(body: &Message<'a>, kind: u8, names: &Names<'_>, types: &mut Types<'a>, nameless: &mut bool) -> Result<Class, Refused> {
     let is_class = kind == 1;
+    let name = body.index(3).filter(|_| is_class);
+    name.map(|index| names.look_up(index));
     let (function_field, property_field) = if is_class { (9, 10) } else { (3, 4) };
     let constructors = if is_class || planted(Mistake::PackageConstructors) { body.messages(8)? } else { Vec::new() };
     let constructors =
@@ -102,7 +104,7 @@ pub fn class<'a>(body: &Message<'a>, kind: u8, names: &Names<'_>, types: &mut Ty
         .collect::<Result<_, _>>()?;
     Ok(Class {
         kind,
-        name: body.index(3).filter(|_| is_class),
+        name,
         flags: if is_class { body.number(1).unwrap_or(OMITTED) } else { OMITTED },
         constructors,
         functions,
@@ -128,12 +130,18 @@ pub fn has_aliases(body: &Message<'_>, kind: u8) -> bool {
 
 /// An index that leads to a string.
 fn usable(message: &Message<'_>, field: u32, names: &Names<'_>) -> Option<u32> {
-    message.index(field).filter(|index| names.has(*index))
+    message.index(field).filter(|index| names.look_up(*index))
 }
 
 fn signature(message: &Message<'_>, names: &Names<'_>, instead: Option<SignatureName>) -> Option<Signature> {
     let own = usable(message, 1, names).map(SignatureName::Index);
     Some(Signature { name: own.or(instead)?, descriptor: usable(message, 2, names)? })
+}
+
+/// A backing field's name and descriptor; both are looked up.
+fn backing_field(message: &Message<'_>, names: &Names<'_>) -> Option<Signature> {
+    let (name, descriptor) = (usable(message, 1, names), usable(message, 2, names));
+    Some(Signature { name: SignatureName::Index(name?), descriptor: descriptor? })
 }
 
 fn parameters<'a>(
@@ -201,11 +209,12 @@ fn function<'a>(
     let parameters = parameters(message, 6, names, types, nameless)?;
     let receiver = types.declared(message, 5, 8)?;
     let recorded = message.message(100)?;
+    let signature = recorded.and_then(|recorded| signature(&recorded, names, Some(SignatureName::Index(name))));
     let returned = types.declared(message, 3, 7)?;
     Ok(Some(Function {
         name,
         flags: message.number(9).unwrap_or(OMITTED),
-        signature: recorded.and_then(|recorded| signature(&recorded, names, Some(SignatureName::Index(name)))),
+        signature,
         has_receiver: has_receiver(message, &receiver, 8),
         parameters,
         receiver,
@@ -224,12 +233,13 @@ fn property<'a>(message: &Message<'a>, names: &Names<'_>, types: &mut Types<'a>)
         Err(refused @ Refused::ForbiddenField(_)) if planted(Mistake::ForbiddenRefuses) => return Err(refused),
         field => field.ok().flatten(),
     };
+    let field = field.and_then(|field| backing_field(&field, names));
     let receiver = types.declared(message, 5, 10)?;
-    let getter = part(3)?;
-    let setter = part(4)?;
-    let ty = types.declared(message, 3, 9)?;
     let instead = planted(Mistake::AccessorFallsBack).then_some(SignatureName::Index(name));
     let accessor = |part: Option<Message<'_>>| part.and_then(|part| signature(&part, names, instead));
+    let getter = accessor(part(3)?);
+    let setter = accessor(part(4)?);
+    let ty = types.declared(message, 3, 9)?;
     let omitted = if planted(Mistake::AccessorFlagsSix) { 70 } else { 0 };
     let is_default = |field| message.number(field).unwrap_or(omitted) & NOT_DEFAULT == 0;
     Ok(Some(Property {
@@ -238,9 +248,9 @@ fn property<'a>(message: &Message<'a>, names: &Names<'_>, types: &mut Types<'a>)
         has_receiver: has_receiver(message, &receiver, 10),
         getter_default: is_default(7),
         setter_default: is_default(8),
-        field: field.and_then(|field| signature(&field, names, None)),
-        getter: accessor(getter),
-        setter: accessor(setter),
+        field,
+        getter,
+        setter,
         receiver,
         ty,
     }))

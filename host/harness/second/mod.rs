@@ -44,6 +44,8 @@ pub struct Reading {
     pub descriptor_operation: bool,
     /// Whether a parameter that was met has no name.
     pub nameless: bool,
+    /// Which strings of d2 the reading falls to: looked up, decided by no record, and there, before it ends or is refused.
+    pub fallen: Vec<bool>,
     /// Whether a message that was cut has a field with a number that the encoding guide forbids, also where that is forgiven.
     pub forbidden: bool,
     /// Whether a star was entered, also where the payload is refused later.
@@ -63,6 +65,7 @@ pub fn read(input: &Input) -> Reading {
         aliases: false,
         descriptor_operation: false,
         nameless: false,
+        fallen: vec![false; input.ends.len()],
         forbidden: false,
         star: false,
     };
@@ -102,9 +105,10 @@ fn payload(bytes: &[u8], input: &Input, kind: u8, reading: &mut Reading) -> Resu
     let names = names::Names::of(table, &strings, reading)?;
     let body = wire::cut(whole.from(at))?;
     reading.aliases = members::has_aliases(&body, kind);
-    let mut types = types::Types::of(&body)?;
+    let mut types = types::Types::of(&body, &names)?;
     let class = members::class(&body, kind, &names, &mut types, &mut reading.nameless);
     reading.star = types.met_star;
+    reading.fallen = names.fallen();
     let class = class?;
     let mut out = sheet::Writer::default();
     out.class(&class, &names);

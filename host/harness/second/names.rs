@@ -3,6 +3,7 @@
 use super::mistakes::{planted, Mistake};
 use super::wire::{cut, Message, Part, Refused};
 use super::Reading;
+use std::cell::RefCell;
 
 /// A record of the name table that serves the indices from `first` on, up to the next record's.
 struct Record<'a> {
@@ -26,6 +27,8 @@ pub struct Names<'a> {
     records: Vec<Record<'a>>,
     served: u64,
     strings: &'a [&'a [u16]],
+    /// The strings of d2 that were looked up so far.
+    fallen: RefCell<Vec<bool>>,
 }
 
 impl<'a> Names<'a> {
@@ -48,7 +51,8 @@ impl<'a> Names<'a> {
         reading.ranges = served;
         // Which names are local isn't told, but the list has to be there whole.
         table.numbers(5)?;
-        Ok(Self { records, served, strings })
+        let fallen = RefCell::new(vec![false; strings.len()]);
+        Ok(Self { records, served, strings, fallen })
     }
 
     pub fn string(&self, index: u32) -> Option<String> {
@@ -74,8 +78,18 @@ impl<'a> Names<'a> {
         Some(from_utf16(units))
     }
 
-    pub fn has(&self, index: u32) -> bool {
+    /// Looks a name up where the reading order has it, and notes the string of d2 that this falls to. Whether there is a name.
+    pub fn look_up(&self, index: u32) -> bool {
+        let decided = self.record(index).is_some_and(Record::decides);
+        if let (false, Some(fallen)) = (decided, self.fallen.borrow_mut().get_mut(index as usize)) {
+            *fallen = true;
+        }
         self.string(index).is_some()
+    }
+
+    /// Which strings of d2 were looked up.
+    pub fn fallen(&self) -> Vec<bool> {
+        self.fallen.borrow().clone()
     }
 
     fn record(&self, index: u32) -> Option<&Record<'a>> {

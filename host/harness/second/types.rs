@@ -1,6 +1,7 @@
 //! Types, inline or from the type table, and the allowance of 2,048.
 
 use super::mistakes::{planted, Mistake};
+use super::names::Names;
 use super::wire::{Message, Refused};
 use crate::limits::TYPES;
 
@@ -39,6 +40,7 @@ impl Projection {
 
 /// The type table, and how many types were entered.
 pub struct Types<'a> {
+    names: &'a Names<'a>,
     entries: Vec<Message<'a>>,
     first_nullable: Option<u32>,
     pub entered: u64,
@@ -49,8 +51,8 @@ pub struct Types<'a> {
 const DEPTH: u64 = 64;
 
 impl<'a> Types<'a> {
-    pub fn of(body: &Message<'a>) -> Result<Self, Refused> {
-        let mut types = Self { entries: Vec::new(), first_nullable: None, entered: 0, met_star: false };
+    pub fn of(body: &Message<'a>, names: &'a Names<'a>) -> Result<Self, Refused> {
+        let mut types = Self { names, entries: Vec::new(), first_nullable: None, entered: 0, met_star: false };
         if let Some(table) = body.message(30)? {
             types.entries = table.messages(1)?;
             types.first_nullable = table.index(2);
@@ -112,9 +114,11 @@ impl<'a> Types<'a> {
                 None => first_dropped |= place == 0,
             }
         }
+        let name = message.index(6);
+        name.map(|index| self.names.look_up(index));
         Ok(Type {
             nullable: message.number(3).unwrap_or(0) != 0,
-            name: message.index(6),
+            name,
             arguments,
             projection: Projection::Invariant,
             first_dropped,

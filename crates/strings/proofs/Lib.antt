@@ -1,0 +1,5 @@
+pub mod Agree
+pub mod LookupLaws
+pub mod AgreeLaws
+pub mod Unused
+pub mod Examples

@@ -1,0 +1,3 @@
+pub mod FallsTo
+pub mod Unused
+pub mod Examples
