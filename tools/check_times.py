@@ -42,7 +42,7 @@ def page(log):
         yield '| part of the gate | time |\n|---|---|'
         yield from (f'| {name} | {minutes(seconds)} |' for name, seconds in log.parts)
         yield f'| all | {minutes(sum(seconds for _, seconds in log.parts))} |\n'
-    yield '| crate | proof, s | edits | all its edits, s |\n|---|---|---|---|'
+    yield '| crate | proof, s | checks of edits | all of them, s |\n|---|---|---|---|'
     for crate, seconds in log.crates.items():
         edits = log.edits.get(crate, [])
         yield f'| `{crate}` | {seconds} | {len(edits) or "-"} | {sum(edits) if edits else "-"} |'

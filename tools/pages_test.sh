@@ -25,7 +25,7 @@ cat > "$here/expected" <<'T'
 | static library | 20 s |
 | all | 2 min 0 s |
 
-| crate | proof, s | edits | all its edits, s |
+| crate | proof, s | checks of edits | all of them, s |
 |---|---|---|---|
 | `low` | 3 | - | - |
 | `high` | 61 | 2 | 19 |

@@ -164,6 +164,8 @@ fi
 bash tools/tables_test.sh || failed=1
 # pages that tools make or hold to the crates
 bash tools/pages_test.sh || failed=1
+# wrong edits that are tried at once
+bash tools/edits_test.sh || failed=1
 
 # proofs and their templates
 bash tools/proofs/test.sh || failed=1

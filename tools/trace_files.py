@@ -43,7 +43,8 @@ class Names:
             for name in re.findall(CLAUSE, text, re.M):
                 self.parts[name].add(str(at))
         elif path.suffix == '.edit':
-            self.files[path.stem].add(str(at))
+            for name in [path.stem, *re.findall(r'^# (\w+) in \w', path.read_text(encoding='utf-8'), re.M)]:
+                self.files[name].add(str(at))
 
     def of(self, name):
         """The files of a name as it stands in backquotes, and its module if it says one."""

@@ -126,6 +126,20 @@ def proof_of(edit):
     return '/'.join(above + (shared or [name]))
 
 
+def refusals(edit, log):
+    """The needs of a function's proof that the log refuses; whether the proof is by hand; why it no longer fits, if so."""
+    place, needs = proof_of(edit), []
+    proof = ROOT / 'crates' / edit.crate / 'proofs' / place / 'Proof.antt'
+    asked = set(re.findall(r'^(\S+) : (?:\(t : ℕ\) → )?\S+\.Need-', proof.read_text(), re.M)) if proof.exists() else set()
+    by_hand = proof.exists() and not asked
+    for name, words in re.findall(rf'/proofs/{re.escape(place)}/Proof\.antt:\d+:\d+: error: `([^`]*)`: (.*)', log):
+        if 'not in scope' in words:
+            return needs, by_hand, words
+        if 'was not admitted' not in words and name not in needs and (name in asked or by_hand):
+            needs.append(name)
+    return needs, by_hand, None
+
+
 def verdict(edit, log):
     """AT_NEED, BY_HAND or WRONG, and in which words the log says so."""
     line = re.search(rf'^fn {edit.crate}::{re.escape(edit.function)}: (.*)$', log, re.M)
@@ -136,16 +150,11 @@ def verdict(edit, log):
         return WRONG, 'PROVED'
     if 'which is not proved' in said and 'does not close' not in said:
         return WRONG, 'not tried, for ' + said.split('; ')[-1]
-    needs = [name.strip('`') for name in re.findall(r'`search` does not close (.*)', said)]
-    place = proof_of(edit)
-    proof = ROOT / 'crates' / edit.crate / 'proofs' / place / 'Proof.antt'
-    asked = set(re.findall(r'^(\S+) : (?:\(t : ℕ\) → )?\S+\.Need-', proof.read_text(), re.M)) if proof.exists() else set()
-    by_hand = proof.exists() and not asked
-    for name, words in re.findall(rf'/proofs/{re.escape(place)}/Proof\.antt:\d+:\d+: error: `([^`]*)`: (.*)', log):
-        if 'not in scope' in words:
-            return WRONG, f'its proof no longer fits: {words[:100]}'
-        if 'was not admitted' not in words and name not in needs and (name in asked or by_hand):
-            needs.append(name)
+    unclosed = [name.strip('`') for name in re.findall(r'`search` does not close (.*)', said)]
+    needs, by_hand, misfit = refusals(edit, log)
+    if misfit:
+        return WRONG, f'its proof no longer fits: {misfit[:100]}'
+    needs = unclosed + [name for name in needs if name not in unclosed]
     if not needs:
         return WRONG, said
     return BY_HAND if by_hand else AT_NEED, f'refused{" in a proof by hand" if by_hand else ""} at {", ".join(needs)}'

@@ -5,6 +5,7 @@ use mathlib.Core.Logic.{_≢_}
 use Prim.Native.Nat.{ℕ}
 use native.Mathlib.Omega.{arith}
 use lib.ListN.{getD}
+use Rattle.foundation.specs.Choices.{All}
 use Rattle.encoding.specs.Encoding.{decoded, firstAbove255, unpacked}
 use Rattle.wire.specs.Wire.{groupsFrom, readVarint, readBytes, readDelimited, readFixed, readValue, readField, repeated, cut, packed}
 use Rattle.wire.specs.Messages.{values, varintOf, index, flag, bytesOf, message, bodiesOf, cutAll, messages, joined, varints}
@@ -25,7 +26,7 @@ use Rattle.declarations.specs.Payload.{payload, declarationRows}
 use Rattle.passes.specs.Answered.{sheetWritten, written}
 use Rattle.metadata.specs.Read.{reading, read}
 use Rattle.strings.specs.FallsTo.{stoppedAt, FallsTo, PassesBy}
-use Rattle.strings.specs.Examples.{Examples, ChangedStrings}
+use Rattle.strings.specs.Examples.{Shown, examples, ChangedStrings}
 
 -- everything that a reading opens
 unfoldable opened : ℕ
@@ -37,17 +38,32 @@ unfolding
     endsFit laterFault faultOf payload reading
 opened = 0
 
-pub examples-hold : Examples
+pub examples-hold : All Shown examples
 unfolding opened stoppedAt FallsTo PassesBy
 examples-hold = (
   ((λ c p. refl, (λ c p. refl, tt)), (λ c p. refl, tt)),
-  ((λ c p. refl, (λ c p. refl, (λ c p. refl, tt))), tt),
-  ((λ c p. refl, (λ c p. refl, tt)), (λ c p. refl, tt)),
-  (tt, (λ c p. refl, (λ c p. refl, (λ c p. refl, (λ c p. refl, tt))))),
-  ((λ c p. refl, tt), (λ c p. refl, (λ c p. refl, tt))),
-  ((λ c p. refl, tt), (λ c p. refl, (λ c p. refl, tt))),
-  ((λ c p. refl, tt), (λ c p. refl, (λ c p. refl, tt))),
-  (tt, (λ c p. refl, (λ c p. refl, (λ c p. refl, tt)))),
+  (
+    ((λ c p. refl, (λ c p. refl, (λ c p. refl, tt))), tt),
+    (
+      ((λ c p. refl, (λ c p. refl, tt)), (λ c p. refl, tt)),
+      (
+        (tt, (λ c p. refl, (λ c p. refl, (λ c p. refl, (λ c p. refl, tt))))),
+        (
+          ((λ c p. refl, tt), (λ c p. refl, (λ c p. refl, tt))),
+          (
+            ((λ c p. refl, tt), (λ c p. refl, (λ c p. refl, tt))),
+            (
+              ((λ c p. refl, tt), (λ c p. refl, (λ c p. refl, tt))),
+              (
+                (tt, (λ c p. refl, (λ c p. refl, (λ c p. refl, tt)))),
+                tt,
+              ),
+            ),
+          ),
+        ),
+      ),
+    ),
+  ),
 )
 
 module _ (n : ℕ) where

@@ -59,16 +59,17 @@ brokenConstructor = 0 ∷ 24 ∷ 0 ∷ 66 ∷ 1 ∷ 11 ∷ []
 abbrev pub decidedName : List ℕ
 decidedName = 8 ∷ 10 ∷ 2 ∷ 16 ∷ 2 ∷ 10 ∷ 2 ∷ 8 ∷ 1 ∷ 26 ∷ 6 ∷ 16 ∷ 0 ∷ 26 ∷ 2 ∷ 48 ∷ 1 ∷ []
 
-abbrev pub Examples : Type 0
-Examples =
-    Shown (withThree 2 signatureName (0 ∷ 1 ∷ []) (2 ∷ []))
-    × Shown (withThree 2 signatureBoth (0 ∷ 1 ∷ 2 ∷ []) [])
-    × Shown (withThree 2 getterDescriptor (0 ∷ 1 ∷ []) (2 ∷ []))
-    × Shown (withThree 2 skippedFunction [] (0 ∷ 1 ∷ 2 ∷ 3 ∷ []))
-    × Shown (withThree 2 brokenArgument (0 ∷ []) (1 ∷ 2 ∷ []))
-    × Shown (withThree 1 brokenConstructor (0 ∷ []) (1 ∷ 2 ∷ []))
-    × Shown (withThree 2 decidedName (1 ∷ []) (0 ∷ 2 ∷ []))
-    × Shown (withThree 3 signatureName [] (0 ∷ 1 ∷ 2 ∷ []))
+abbrev pub examples : List Example
+examples =
+    withThree 2 signatureName (0 ∷ 1 ∷ []) (2 ∷ [])
+    ∷ withThree 2 signatureBoth (0 ∷ 1 ∷ 2 ∷ []) []
+    ∷ withThree 2 getterDescriptor (0 ∷ 1 ∷ []) (2 ∷ [])
+    ∷ withThree 2 skippedFunction [] (0 ∷ 1 ∷ 2 ∷ 3 ∷ [])
+    ∷ withThree 2 brokenArgument (0 ∷ []) (1 ∷ 2 ∷ [])
+    ∷ withThree 1 brokenConstructor (0 ∷ []) (1 ∷ 2 ∷ [])
+    ∷ withThree 2 decidedName (1 ∷ []) (0 ∷ 2 ∷ [])
+    ∷ withThree 3 signatureName [] (0 ∷ 1 ∷ 2 ∷ [])
+    ∷ []
 
 -- the answer to a package, with its strings of one unit each, read into areas of 64 and 8 bytes
 abbrev pub answerTo : List ℕ → List ℕ → Answer
