@@ -40,31 +40,7 @@ opened = 0
 
 pub examples-hold : All Shown examples
 unfolding opened stoppedAt FallsTo PassesBy
-examples-hold = (
-  ((λ c p. refl, (λ c p. refl, tt)), (λ c p. refl, tt)),
-  (
-    ((λ c p. refl, (λ c p. refl, (λ c p. refl, tt))), tt),
-    (
-      ((λ c p. refl, (λ c p. refl, tt)), (λ c p. refl, tt)),
-      (
-        (tt, (λ c p. refl, (λ c p. refl, (λ c p. refl, (λ c p. refl, tt))))),
-        (
-          ((λ c p. refl, tt), (λ c p. refl, (λ c p. refl, tt))),
-          (
-            ((λ c p. refl, tt), (λ c p. refl, (λ c p. refl, tt))),
-            (
-              ((λ c p. refl, tt), (λ c p. refl, (λ c p. refl, tt))),
-              (
-                (tt, (λ c p. refl, (λ c p. refl, (λ c p. refl, tt)))),
-                tt,
-              ),
-            ),
-          ),
-        ),
-      ),
-    ),
-  ),
-)
+examples-hold = (((λ c p. refl, (λ c p. refl, tt)), (λ c p. refl, tt)), (((λ c p. refl, (λ c p. refl, (λ c p. refl, tt))), tt), (((λ c p. refl, (λ c p. refl, tt)), (λ c p. refl, tt)), ((tt, (λ c p. refl, (λ c p. refl, (λ c p. refl, (λ c p. refl, tt))))), (((λ c p. refl, (λ c p. refl, tt)), (λ c p. refl, tt)), (((λ c p. refl, tt), (λ c p. refl, (λ c p. refl, tt))), (((λ c p. refl, tt), (λ c p. refl, (λ c p. refl, tt))), (((λ c p. refl, tt), (λ c p. refl, (λ c p. refl, tt))), ((tt, (λ c p. refl, (λ c p. refl, (λ c p. refl, tt)))), tt)))))))))
 
 module _ (n : ℕ) where
   -- answers whose texts differ in unit n

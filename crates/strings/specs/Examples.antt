@@ -47,6 +47,10 @@ getterDescriptor = 0 ∷ 34 ∷ 13 ∷ 16 ∷ 0 ∷ 162 ∷ 6 ∷ 8 ∷ 10 ∷ 2
 abbrev pub skippedFunction : List ℕ
 skippedFunction = 0 ∷ 26 ∷ 6 ∷ 16 ∷ 3 ∷ 26 ∷ 2 ∷ 48 ∷ 1 ∷ []
 
+-- A function with the name 0 whose return type has the name 2 and a star, in which the type with the name 1 is never read.
+abbrev pub starArgument : List ℕ
+starArgument = 0 ∷ 26 ∷ 14 ∷ 16 ∷ 0 ∷ 26 ∷ 10 ∷ 18 ∷ 6 ∷ 8 ∷ 3 ∷ 18 ∷ 2 ∷ 48 ∷ 1 ∷ 48 ∷ 2 ∷ []
+
 -- A function with the name 0 whose return type has a broken argument, and the name 1: refused before that name is looked up.
 abbrev pub brokenArgument : List ℕ
 brokenArgument = 0 ∷ 26 ∷ 9 ∷ 16 ∷ 0 ∷ 26 ∷ 5 ∷ 18 ∷ 1 ∷ 11 ∷ 48 ∷ 1 ∷ []
@@ -65,6 +69,7 @@ examples =
     ∷ withThree 2 signatureBoth (0 ∷ 1 ∷ 2 ∷ []) []
     ∷ withThree 2 getterDescriptor (0 ∷ 1 ∷ []) (2 ∷ [])
     ∷ withThree 2 skippedFunction [] (0 ∷ 1 ∷ 2 ∷ 3 ∷ [])
+    ∷ withThree 2 starArgument (0 ∷ 2 ∷ []) (1 ∷ [])
     ∷ withThree 2 brokenArgument (0 ∷ []) (1 ∷ 2 ∷ [])
     ∷ withThree 1 brokenConstructor (0 ∷ []) (1 ∷ 2 ∷ [])
     ∷ withThree 2 decidedName (1 ∷ []) (0 ∷ 2 ∷ [])
