@@ -1,4 +1,6 @@
 // The line for an input that was read: what is kept of it goes to the reader, with areas of 65,536 bytes.
+#![tactic(auto)]
+
 ghost use Rattle.std.specs.Prelude.{◌<◌, ◌≤◌, ◌^◌};
 ghost use Rattle.line.specs.told.Pieces.{CountsFit};
 ghost use Rattle.answer_lines.specs.Program.{WroteLine};

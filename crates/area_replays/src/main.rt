@@ -1,6 +1,8 @@
 // Reads the files that its arguments name: inputs one after the other, each with three numbers of 4 bytes in front, its length and the sizes of the
 // areas for sheet and text. Writes the file's name, and then a line for each input: both lengths and the number of types, number, detail and all of
 // both areas, which held a pattern before.
+#![tactic(auto)]
+
 ghost use Rattle.std.specs.Prelude.{◌≡◌, length};
 
 use libc::STDOUT_FILENO;

@@ -1,5 +1,7 @@
 // Characters: UTF-8 and UTF-16 read with replacement, UTF-8 written. The definitions: specs/Characters.antt; how the answers tell them:
 // specs/told/CharactersTold.antt.
+#![tactic(auto)]
+
 ghost use Rattle.std.specs.Prelude.{◌≡◌, [], ◌∷◌, ◌+◌, ◌*◌, ◌^◌, ◌≤◌, ◌<◌, length, drop};
 ghost use Rattle.std.proofs.lemmas.List.Edits.{sets};
 ghost use Rattle.characters.specs.Characters.{width};

@@ -1,5 +1,7 @@
 // d1 from its old form to the form with the marker, and back, into a lent area of units. The definitions: specs/Conversions.antt; how the
 // answers tell them: specs/told/ConversionTold.antt.
+#![tactic(auto)]
+
 ghost use Rattle.std.specs.Prelude.{◌≡◌, ◌∷◌, ◌≤◌, length, get_or};
 ghost use Rattle.std.proofs.Math.Option.{none};
 ghost use Rattle.std.proofs.lemmas.List.Edits.{sets};

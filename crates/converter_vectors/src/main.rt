@@ -1,4 +1,6 @@
 // Both conversions on the inputs of BitEncoding's own test, and on cases made for each refusal. README.md says what a line shows.
+#![tactic(auto)]
+
 use converter::{new_to_old, old_to_new};
 use libc::STDOUT_FILENO;
 

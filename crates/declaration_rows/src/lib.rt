@@ -1,5 +1,7 @@
 // Records written from values that are looked up, all kinds but 6. A count stands last in its record and is left out here: it is
 // written once what it counts is (sheet's `row-counted`, `row-patch`). The cells: specs/told/Written.antt.
+#![tactic(auto)]
+
 ghost use Rattle.std.specs.Prelude.{◌≡◌, List, [], ◌∷◌, ℕ, ◌+◌, ◌^◌, ◌≤◌, length};
 ghost use Rattle.std.proofs.Math.Option.{none, some};
 ghost use Rattle.std.proofs.lemmas.List.Edits.{sets};

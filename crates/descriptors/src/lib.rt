@@ -1,3 +1,5 @@
 // The parts of types at their positions, and default descriptors. The definitions: erasure's specs/Erasure.antt and specs/Defaults.antt.
+#![tactic(auto)]
+
 mod erased; // erased.rt: the part of a type at its position
 pub mod defaults; // defaults.rt: default descriptors

@@ -1,4 +1,6 @@
 // From d1's units to bytes, into a lent area. The definitions: specs/Encoding.antt, specs/told/Outcome.antt.
+#![tactic(auto)]
+
 ghost use Rattle.std.specs.Prelude.{◌≡◌, true, ◌*◌, ◌/◌, ◌≤◌, length, set};
 ghost use Rattle.std.proofs.Math.Option.{none};
 ghost use Rattle.std.proofs.lemmas.List.Edits.{sets};

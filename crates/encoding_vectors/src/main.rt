@@ -1,4 +1,6 @@
 // Some inputs of `decode`, a line each: the bytes in hex ("-" if there are none), or document 01's number and detail, or "room".
+#![tactic(auto)]
+
 use encoding::Decoded;
 use libc::STDOUT_FILENO;
 

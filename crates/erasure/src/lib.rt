@@ -1,5 +1,7 @@
 // What class names mean, and the erased parts that are printed whatever the input. The definitions: specs/Erasure.antt; how numbers and answers
 // tell them: specs/told/ErasureTold.antt.
+#![tactic(auto)]
+
 ghost use Rattle.std.specs.Prelude.{◌≡◌, ◌++◌, ◌<◌, min};
 ghost use Rattle.foundation.specs.Texts.{same};
 ghost use Rattle.erasure.specs.Erasure.{letter};

@@ -1,4 +1,5 @@
 // Field numbers, under the names that the definitions (specs/Fields.antt) have: Class-flags is CLASS_FLAGS. Those that code asks for.
+#![tactic(auto)]
 
 // StringTableTypes
 pub const STRING_TABLE_TYPES_RECORD: u32 = 1;

@@ -1,4 +1,6 @@
 // Definitions and laws that every other crate shares: see specs/ and proofs/.
+#![tactic(auto)]
+
 ghost use Rattle.std.specs.Prelude.{◌≡◌};
 
 // A number of 32 bits as a place.

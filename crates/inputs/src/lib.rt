@@ -1,5 +1,7 @@
 // What is refused of every kind before the payload is looked at, and the metadata kind. The definitions: specs/Inputs.antt; how the answers
 // tell them: specs/told/OutcomesTold.antt.
+#![tactic(auto)]
+
 ghost use Rattle.std.specs.Prelude.{◌≡◌, ℤ};
 ghost use Rattle.names.specs.Names.{ends_fit};
 ghost use Rattle.inputs.specs.Inputs.{kind_of, fault_of, input};

@@ -1,4 +1,6 @@
 // Names by their index. The definitions: names' specs/Names.antt and specs/told/Index.antt; what look-ups tell: specs/told/Lookups.antt.
+#![tactic(auto)]
+
 ghost use Rattle.std.specs.Prelude.{◌≡◌, true, List, ℕ, ◌*◌, ◌≤◌, length};
 ghost use Rattle.std.proofs.Math.ListN.{get_elem?};
 ghost use Rattle.names.specs.Records.{Record};

@@ -1,6 +1,8 @@
 // Parameters, constructors, functions, properties and type aliases, read from their messages and written as records, in the specification's order; each
 // constructor and function closed by its default descriptor; one loop for the lists of a body. The definitions: schema's specs/Members.antt,
 // declaration_rows' specs/Rows.antt, descriptors' specs/Defaults.antt; what the readers tell: schema's specs/told/MembersTold.antt.
+#![tactic(auto)]
+
 mod signatures; // signatures.rt: the JVM signatures of members
 mod pairs; // pairs.rt: two types of one declaration
 mod parameters; // parameters.rt: value parameters

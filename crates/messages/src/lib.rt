@@ -1,5 +1,7 @@
 // Messages: a slice that is cut into fields, and what it says of a field. A function that asks a message tells what the definitions say
 // where the slice can be cut, and is safe on any. The definitions: wire's specs/Messages.antt; how the answers tell them: specs/told/Asked.antt.
+#![tactic(auto)]
+
 ghost use Rattle.std.specs.Prelude.{◌≡◌, ◌≤◌, length};
 ghost use Rattle.foundation.specs.Results.{ok, ◌from◌};
 ghost use Rattle.wire.specs.Wire.{cut, Message};

@@ -1,6 +1,8 @@
 // The reader of Kotlin class metadata: from the parts of an annotation to a sheet of records and its text, in two lent areas. `read` is
 // the public entry; its contract says number, detail, both lengths, the type count and every byte of both areas, for any input. `measure` tells
 // what they would take, in the same frames.
+#![tactic(auto)]
+
 ghost use Rattle.std.specs.Prelude.{◌≡◌, ◌≤◌, length};
 ghost use Rattle.inputs.specs.Inputs.{input, kind_of};
 ghost use Rattle.inputs.specs.told.OutcomesTold.{told};

@@ -1,5 +1,7 @@
 // Looks names up, a line of the input each: a note, the name table, d2's units and where its strings end, all in hex, the index, and s for
 // a string or q for a class name. Writes the note and the name's text in UTF-8, in hex.
+#![tactic(auto)]
+
 ghost use Rattle.std.specs.Prelude.{◌≤◌, ◌<◌, length};
 
 use characters::Character;

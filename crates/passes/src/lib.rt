@@ -1,6 +1,8 @@
 // The two passes. d1 is decoded. The first pass walks the body into scratch areas, clipped, and finds refusals 7 to 10 and both lengths. What comes
 // after it goes by the task: 11, 12 and the lent areas written (areas.rt), or the room that they would take. What the functions tell:
 // specs/told/PassTold.antt and specs/told/TaskTold.antt.
+#![tactic(auto)]
+
 ghost use Rattle.std.specs.Prelude.{◌≡◌, ◌-◌, ◌≤◌};
 ghost use Rattle.schema.specs.Reading.{allowance};
 ghost use Rattle.declarations.specs.Payload.{payload};

@@ -1,5 +1,7 @@
 // What a record of the name table builds: its name and its class name, with the size of the text, in two words. The definitions of records and
 // names: names' specs/Records.antt, specs/Names.antt; what the answers tell: specs/told/Named.antt.
+#![tactic(auto)]
+
 ghost use Rattle.std.specs.Prelude.{◌≡◌, ◌^◌, ◌≤◌, ◌<◌, length};
 ghost use Rattle.record_names.specs.told.Named.{PredefinedTold, NamedTold, RecordWords};
 

@@ -1,4 +1,6 @@
 // Reads inputs one after the other, each with its length in 4 bytes in front, and writes a line for each.
+#![tactic(auto)]
+
 use libc::{STDIN_FILENO, STDOUT_FILENO};
 
 // One input; false at the end, or where a line can't be written.

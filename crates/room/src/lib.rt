@@ -1,4 +1,6 @@
 // The room that the sheet and text of a class take, without areas to write into: `room`, by the definition of the same name (specs/Room.antt).
+#![tactic(auto)]
+
 ghost use Rattle.std.specs.Prelude.{◌≡◌, ◌≤◌};
 ghost use Rattle.inputs.specs.Inputs.{input};
 ghost use Rattle.promises.specs.Promises.{longest_sheet};

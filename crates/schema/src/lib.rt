@@ -1,5 +1,7 @@
 // Declarations read from messages, in the specification's order. The definitions: specs/Types.antt, specs/Members.antt; how the answers
 // tell them: specs/told/SchemaTold.antt.
+#![tactic(auto)]
+
 ghost use Rattle.std.specs.Prelude.{◌≡◌};
 
 use sheet::State;

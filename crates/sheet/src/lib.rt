@@ -1,5 +1,7 @@
 // Writing into a lent area. A write is clipped: what stands past the area's end is left out, and nothing else changes, so that an
 // area of length 0 serves to measure. `sets l i vs` is l with vs written over it from place i on.
+#![tactic(auto)]
+
 ghost use Rattle.std.specs.Prelude.{◌≡◌, ◌+◌, ◌≤◌, length, set};
 ghost use Rattle.std.proofs.lemmas.List.Edits.{sets};
 ghost use Rattle.foundation.specs.Digits.{little};

@@ -1,4 +1,6 @@
 // The functions that the static library exports: a slice is a pointer and a length.
+#![tactic(auto)]
+
 ghost use Rattle.std.specs.Prelude.{◌≡◌, [], ◌∷◌, ◌+◌, ◌≤◌, T, length, get_or};
 ghost use Rattle.characters.specs.WellFormed.{Units};
 ghost use Rattle.inputs.specs.Inputs.{input};

@@ -1,4 +1,6 @@
 // The program: the input of one class on standard input, its line on standard output (document 01, "A whole line").
+#![tactic(auto)]
+
 use libc::{STDIN_FILENO, STDOUT_FILENO};
 
 fn main() {

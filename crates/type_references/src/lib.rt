@@ -1,6 +1,8 @@
 // Type references: a declaration's own type and those in its arguments, inline or by their index in the type table. Depth is counted down from
 // 64, and so are the types that may still be entered. The definitions: schema's specs/Types.antt; what waits while inner types are read:
 // specs/told/Pending.antt.
+#![tactic(auto)]
+
 ghost use Rattle.std.specs.Prelude.{◌≡◌, ◌+◌, ◌≤◌, ◌<◌, length};
 ghost use Rattle.schema.specs.told.SchemaTold.{lent, Ready};
 ghost use Rattle.schema.specs.told.TypesTold.{ParseTold};

@@ -1,5 +1,7 @@
 // The wire format: varints and fields in a slice `s` whose first byte has the offset `base` among the decoded bytes. A place in it is
 // `at`. The definitions: specs/Wire.antt; how the answers tell them: specs/told/WireTold.antt.
+#![tactic(auto)]
+
 ghost use Rattle.std.specs.Prelude.{◌≡◌, List, ℕ, ◌+◌, ◌-◌, ◌^◌, ◌≤◌, ◌<◌, length, take, drop};
 ghost use Rattle.foundation.specs.Results.{Res, Part, Got, got, map_got};
 ghost use Rattle.foundation.specs.Digits.{number};

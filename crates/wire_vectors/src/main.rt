@@ -1,5 +1,7 @@
 // Runs the encoding guide's published examples and damaged messages through `wire` and writes what it reads: each field's number, kind and
 // value or places, or the refusal with its offset.
+#![tactic(auto)]
+
 use libc::STDOUT_FILENO;
 use messages::repeated::{FirstTwo, Two};
 use messages::{Checked, Found};
