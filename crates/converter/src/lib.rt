@@ -15,7 +15,7 @@ use encoding::{Above, UNIT_LIMIT, first_above_255, put_unit, unpack};
 const BYTE_STRING_MARKER: u16 = 0;
 
 // Number and detail of a refusal (0 and 0: converted), and how many units were written.
-#[derive(Drop)]
+#[derive(Clone, Copy)]
 pub struct Converted {
     pub number: u64,
     pub detail: u64,
@@ -23,7 +23,7 @@ pub struct Converted {
 }
 
 // What is found of d1 before its units are written: a refusal's number and detail, or nothing.
-#[derive(Drop)]
+#[derive(Clone, Copy)]
 enum Checked {
     Faulty { number: u64, detail: u64 },
     Convertible,

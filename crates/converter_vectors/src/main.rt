@@ -5,7 +5,7 @@ use converter::{new_to_old, old_to_new};
 use libc::STDOUT_FILENO;
 
 // What came of several inputs: how many were converted, how many of these came back, and a checksum of the old units.
-#[derive(Drop)]
+#[derive(Clone, Copy)]
 struct Tally {
     converted: u64,
     back: u64,

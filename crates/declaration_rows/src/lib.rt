@@ -34,14 +34,14 @@ pub const UNDERLYING_ROLE: u8 = 6;
 pub const EXPANDED_ROLE: u8 = 7;
 
 // The two names of a signature. It is there if both are.
-#[derive(Drop)]
+#[derive(Clone, Copy)]
 pub struct SignatureNames {
     pub name: Name,
     pub descriptor: Name,
 }
 
 // A property's flags as a number, whether it has a receiver, and whether its getter and its setter are default.
-#[derive(Drop)]
+#[derive(Clone, Copy)]
 pub struct PropertyFlags {
     pub word: u64,
     pub receiver: bool,

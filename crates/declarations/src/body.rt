@@ -19,14 +19,14 @@ use schema::{Listed, Stop, Tables};
 use sheet::State;
 
 // After a list: how far both areas are written, and how many it has.
-#[derive(Drop)]
+#[derive(Clone, Copy)]
 pub struct Section {
     pub state: State,
     pub count: usize,
 }
 
 // The same after the head, which has no count, and after each list. Kind 9 stands where the properties end.
-#[derive(Drop)]
+#[derive(Clone, Copy)]
 pub struct Sections {
     pub head: State,
     pub constructors: Section,
@@ -35,7 +35,7 @@ pub struct Sections {
     pub aliases: Section,
 }
 
-#[derive(Drop)]
+#[derive(Clone, Copy)]
 pub enum Body {
     Done { sections: Sections },
     Refused { stop: Stop },

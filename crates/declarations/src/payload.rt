@@ -18,7 +18,7 @@ use schema::table::{TypeIndex, index_types};
 use wire::WireError;
 
 // The body begins at a place of the decoded bytes, or why there is none.
-#[derive(Drop)]
+#[derive(Clone, Copy)]
 pub enum Opened {
     Body { at: usize, tables: Tables },
     Refused { error: WireError },

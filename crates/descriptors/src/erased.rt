@@ -21,7 +21,7 @@ use sheet::put;
 
 // How a type is placed: whether it is nullable by its place in the type table, what is left of the depth there, and its position in the
 // descriptor.
-#[derive(Drop)]
+#[derive(Clone, Copy)]
 pub(crate) struct Placement {
     pub nullable: bool,
     pub left: usize,
@@ -29,7 +29,7 @@ pub(crate) struct Placement {
 }
 
 // What one type comes to.
-#[derive(Drop)]
+#[derive(Clone, Copy)]
 enum TypePart {
     // Its part is written.
     Whole { size: usize },

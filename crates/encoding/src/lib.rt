@@ -13,7 +13,7 @@ pub const UNIT_LIMIT: usize = 32768;
 // The first unit of the form whose other units are the bytes.
 const BYTE_STRING_MARKER: u16 = 0;
 
-#[derive(Drop)]
+#[derive(Clone, Copy)]
 pub enum Decoded {
     // The bytes stand at the area's front.
     Bytes { length: usize },
@@ -25,7 +25,7 @@ pub enum Decoded {
 }
 
 // The first, in order, of the units above 255, if there is one.
-#[derive(Drop)]
+#[derive(Clone, Copy)]
 pub enum Above {
     Unit(u16),
     Nothing,

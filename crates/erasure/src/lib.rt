@@ -8,7 +8,7 @@ ghost use Rattle.erasure.specs.Erasure.{letter};
 ghost use Rattle.erasure.specs.told.ErasureTold.{Means, CanBe, listed_name, MeansRow, primitive_at, PutSized, PutPart, row_text, boxed_at, PrintsAs};
 
 // What a class name means. A primitive and a class are numbers: `primitive_at`, `class_at`.
-#[derive(Drop)]
+#[derive(Clone, Copy)]
 pub enum Meaning {
     Primitive { primitive: usize },
     PrimitiveArray { primitive: usize },
@@ -21,7 +21,7 @@ pub enum Meaning {
 }
 
 // Where a type stands.
-#[derive(Drop)]
+#[derive(Clone, Copy)]
 pub enum Position {
     Parameter,
     Element,
@@ -29,7 +29,7 @@ pub enum Position {
 }
 
 // What is printed of a type.
-#[derive(Drop)]
+#[derive(Clone, Copy)]
 pub enum Printed {
     // A part that no name of the input enters: `fixed_part`.
     Fixed { part: usize },
@@ -42,7 +42,7 @@ pub enum Printed {
 }
 
 // Some text was written, or a needed type has no descriptor.
-#[derive(Drop)]
+#[derive(Clone, Copy)]
 pub enum Part {
     Written { size: usize },
     Absent,

@@ -17,7 +17,7 @@ const STRING_LIMIT: usize = 4096;
 const SUPPORTED_MAJOR: i32 = 2;
 
 // Refusals 1 to 4.
-#[derive(Drop)]
+#[derive(Clone, Copy)]
 pub enum Fault {
     D1TooLong,
     D2TooLong,
@@ -26,7 +26,7 @@ pub enum Fault {
 }
 
 // What is found of an input before its payload is looked at.
-#[derive(Drop)]
+#[derive(Clone, Copy)]
 pub enum Inspected {
     Faulty { fault: Fault },
     Sound,

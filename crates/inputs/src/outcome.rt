@@ -8,7 +8,7 @@ use crate::Fault;
 use schema::Stop;
 use wire::WireError;
 
-#[derive(Drop)]
+#[derive(Clone, Copy)]
 pub struct Outcome {
     pub number: u64,
     pub detail: u64,

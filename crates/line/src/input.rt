@@ -6,7 +6,7 @@ ghost use Rattle.line.specs.Input.{number_at, numbers_at, signed_of, input_end};
 ghost use Rattle.line.specs.told.Pieces.{byte_in, number_in_piece, counts_in, CountsFit};
 
 // How many units of d1, units of d2 and string ends are announced.
-#[derive(Drop)]
+#[derive(Clone, Copy)]
 pub struct Counts {
     pub d1: usize,
     pub d2: usize,

@@ -7,7 +7,7 @@ ghost use Rattle.line.specs.told.Taken.{kept_limit, TookSome, PieceRead, PassedO
 use crate::input::{Counts, counts_in};
 
 // What was read: the counts, how many bytes, and how many of them are kept.
-#[derive(Drop)]
+#[derive(Clone, Copy)]
 pub struct Taken {
     pub counts: Counts,
     pub total: usize,

@@ -24,7 +24,7 @@ use names::records::RECORD_WORDS;
 use record_names::note::noted_as;
 use record_names::{Decided, Extent};
 
-#[derive(Drop)]
+#[derive(Clone, Copy)]
 enum Served {
     Record { at: usize },
     Nothing,

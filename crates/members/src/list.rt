@@ -15,7 +15,7 @@ use sheet::State;
 use wire::Piece;
 
 // A kind of member that a body has a list of.
-#[derive(Drop)]
+#[derive(Clone, Copy)]
 pub enum Member {
     Constructor,
     Function,
@@ -24,7 +24,7 @@ pub enum Member {
 }
 
 // A list of a body: what its members are, and the field that they stand in.
-#[derive(Drop)]
+#[derive(Clone, Copy)]
 pub struct MemberList {
     pub member: Member,
     pub number: u32,

@@ -8,7 +8,7 @@ use sheet::State;
 use type_references::declared_type;
 
 // Where the two types stand in a message, and their roles.
-#[derive(Drop)]
+#[derive(Clone, Copy)]
 pub(crate) struct TypePair {
     pub first: TypeSlot,
     pub second: TypeSlot,

@@ -34,7 +34,7 @@ fn is_default(msg: &[u8], base: u32, number: u32) -> bool
 }
 
 // A property's own name and those of its signatures.
-#[derive(Drop)]
+#[derive(Clone, Copy)]
 struct Named {
     name: Name,
     names: PropertyNames,

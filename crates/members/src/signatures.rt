@@ -23,7 +23,7 @@ use schema::name::name_in;
 use wire::WireError;
 
 // The names that are looked up of a signature, before any that its own falls back to.
-#[derive(Drop)]
+#[derive(Clone, Copy)]
 pub(crate) enum Signed {
     Names { names: SignatureNames },
     Refused { error: WireError },
@@ -160,14 +160,14 @@ impl Signed {
 }
 
 // What is looked up of a property's signature message. The refusals of its accessors are due after its receiver's type.
-#[derive(Drop)]
+#[derive(Clone, Copy)]
 pub(crate) struct PropertyNames {
     pub field: SignatureNames,
     pub getter: Signed,
     pub setter: Signed,
 }
 
-#[derive(Drop)]
+#[derive(Clone, Copy)]
 pub(crate) enum PropertySigned {
     Names { names: PropertyNames },
     Refused { error: WireError },

@@ -19,7 +19,7 @@ use wire::{
 // No field whose tag has one or two bytes has this number.
 const NO_NUMBER: u32 = 4294967295;
 
-#[derive(Drop)]
+#[derive(Clone, Copy)]
 pub enum Checked {
     Whole,
     Refused { error: WireError },
@@ -79,7 +79,7 @@ fn check_part(s: &[u8], base: u32, start: usize, end: usize) -> Checked
     check(&s[start..end], place as u32)
 }
 
-#[derive(Drop)]
+#[derive(Clone, Copy)]
 pub enum Found {
     Value { value: WireValue },
     Nothing,
@@ -170,7 +170,7 @@ pub fn find(s: &[u8], base: u32, number: u32) -> Found
     find_from(&*s, base, number, 0)
 }
 
-#[derive(Drop)]
+#[derive(Clone, Copy)]
 pub struct TwoFound {
     pub first: Found,
     pub second: Found,
@@ -207,7 +207,7 @@ pub fn find_two(s: &[u8], base: u32, first: u32, second: u32) -> TwoFound
     }
 }
 
-#[derive(Drop)]
+#[derive(Clone, Copy)]
 pub struct ThreeFound {
     pub first: Found,
     pub second: Found,
@@ -313,7 +313,7 @@ pub fn bytes(s: &[u8], base: u32, number: u32) -> Piece
     value.bytes()
 }
 
-#[derive(Drop)]
+#[derive(Clone, Copy)]
 pub enum Indexed {
     At { index: u32 },
     Nothing,
@@ -335,7 +335,7 @@ pub fn index(s: &[u8], base: u32, number: u32) -> Indexed
     }
 }
 
-#[derive(Drop)]
+#[derive(Clone, Copy)]
 pub enum Embedded {
     Inline { start: usize, end: usize },
     Nothing,

@@ -7,7 +7,7 @@ ghost use Rattle.messages.specs.told.Reader.{after_delimited, DelimitedRead, par
 
 use wire::{Delimited, WireError, delimited_at};
 
-#[derive(Drop)]
+#[derive(Clone, Copy)]
 struct WireReader<'a> {
     data: &'a [u8],
     offset: usize,
@@ -59,7 +59,7 @@ impl<'a> WireReader<'a> {
 }
 
 // A payload's two parts, by their places: the name table from `start` to `end`, the declarations from `rest` on.
-#[derive(Drop)]
+#[derive(Clone, Copy)]
 pub enum Split {
     Parts {
         start: usize,

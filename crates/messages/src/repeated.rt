@@ -11,7 +11,7 @@ use crate::Checked;
 use wire::{FieldStep, Varint, WireError, WireValue, field_at, varint_at};
 
 // The first two numbers of a list, mod 2^32, as far as it has them.
-#[derive(Drop)]
+#[derive(Clone, Copy)]
 pub enum Two {
     Neither,
     One { first: u32 },
@@ -29,7 +29,7 @@ fn push(two: Two, value: u64) -> Two
     }
 }
 
-#[derive(Drop)]
+#[derive(Clone, Copy)]
 pub enum FirstTwo {
     Numbers { two: Two },
     Refused { error: WireError },

@@ -22,7 +22,7 @@ use passes::{Asked, Passed, Reply, Task, decode_in, start, without_lists};
 use sheet::State;
 
 // Number and detail of a refusal (0 and 0: accepted), both lengths, the types entered, and the version as it came.
-#[derive(Drop)]
+#[derive(Clone, Copy)]
 pub struct Answer {
     pub number: u64,
     pub detail: u64,

@@ -7,7 +7,7 @@ ghost use Rattle.names.specs.told.Name.{name_text, absent_name};
 ghost use Rattle.names.specs.Records.{predefined_text};
 ghost use Rattle.names.specs.told.Stream.{listed_text, base_of, change_of, with_dollars, changed};
 
-#[derive(Drop)]
+#[derive(Clone, Copy)]
 pub struct Name {
     // What the characters are a part of: 0 nothing, the name is absent; 1 the payload; 2 the predefined list; 3 d2.
     pub source: u8,
@@ -62,7 +62,7 @@ const STARTS: [u16; 45] = [
     748, 775, 809, 840, 878,
 ];
 
-#[derive(Drop)]
+#[derive(Clone, Copy)]
 pub enum PredefinedPart {
     Part { start: usize, end: usize },
     Nothing,
@@ -143,7 +143,7 @@ pub fn base_part<'a>(
 }
 
 // What is done to each character of a name, in this order.
-#[derive(Drop)]
+#[derive(Clone, Copy)]
 pub struct Change {
     pub from: u32,
     pub to: u32,

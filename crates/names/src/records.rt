@@ -19,7 +19,7 @@ use messages::{Checked, Found, Indexed, check, index, next_body};
 use wire::{FieldStep, Number, Piece, WireError, WireValue, field_at};
 
 // The first occurrence of each field of a record.
-#[derive(Drop)]
+#[derive(Clone, Copy)]
 struct Firsts {
     range: Found,
     predefined: Found,
@@ -129,7 +129,7 @@ fn two_in(s: &[u8], base: u32, number: u32, found: Found) -> Two
     two
 }
 
-#[derive(Drop)]
+#[derive(Clone, Copy)]
 pub struct Record {
     pub range: u32,
     // its place in the slice that was read
@@ -162,7 +162,7 @@ pub fn record_in(s: &[u8], base: u32) -> Record
     }
 }
 
-#[derive(Drop)]
+#[derive(Clone, Copy)]
 pub enum RecordIndex {
     Records { count: usize },
     NoRoom,

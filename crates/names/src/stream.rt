@@ -180,7 +180,7 @@ fn put_listed(start: usize, end: usize, change: Change, area: &mut [u8], at: usi
 }
 
 // What is written next of a text whose size is noted, and where it goes on.
-#[derive(Drop)]
+#[derive(Clone, Copy)]
 struct Fitted {
     pub code: u32,
     pub next: usize,

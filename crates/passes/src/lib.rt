@@ -24,7 +24,7 @@ use sheet::State;
 mod areas; // areas.rt: what was measured, written into both areas
 
 // What the first pass has found: where the body begins, its tables, and how far it is written after each list.
-#[derive(Drop)]
+#[derive(Clone, Copy)]
 pub(crate) struct Measured {
     pub at: usize,
     pub tables: Tables,
@@ -32,7 +32,7 @@ pub(crate) struct Measured {
 }
 
 // The first pass, or why it stops.
-#[derive(Drop)]
+#[derive(Clone, Copy)]
 enum FirstPass {
     Done { measured: Measured },
     Refused { stop: Stop },
@@ -41,27 +41,27 @@ enum FirstPass {
 
 // What is to be done with an input: its sheet and text written, or the room that they take told. It goes by value through the frames; `read_in`
 // alone looks at it, and `head_alone` of metadata, which needs no frame.
-#[derive(Drop)]
+#[derive(Clone, Copy)]
 pub enum Task {
     Read,
     Room,
 }
 
-#[derive(Drop)]
+#[derive(Clone, Copy)]
 pub struct Asked {
     pub task: Task,
     pub kind: u8,
 }
 
 // Number, detail, both lengths and the types; and, where a room is told, how far both areas reach after each list and how many it has.
-#[derive(Drop)]
+#[derive(Clone, Copy)]
 pub struct Reply {
     pub outcome: Outcome,
     pub sections: Sections,
 }
 
 // A reply, or no room in the frame for the decoded bytes or their notes.
-#[derive(Drop)]
+#[derive(Clone, Copy)]
 pub enum Passed {
     Answered { reply: Reply },
     NoRoom,

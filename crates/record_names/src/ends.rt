@@ -4,7 +4,7 @@ ghost use Rattle.record_names.specs.told.Ends.{LastTold, EndsTold};
 use crate::Extent;
 use characters::{Character, utf8_at};
 
-#[derive(Drop)]
+#[derive(Clone, Copy)]
 pub(crate) enum Last {
     Character { place: usize, code: u32 },
     Nothing,

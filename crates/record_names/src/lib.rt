@@ -19,13 +19,13 @@ use names::name::{Name, PredefinedPart, absent, predefined};
 use names::records::record_in;
 
 // A part of a slice, `&s[start..end]`.
-#[derive(Drop)]
+#[derive(Clone, Copy)]
 pub enum Extent {
     Part { start: usize, end: usize },
     Nothing,
 }
 
-#[derive(Drop)]
+#[derive(Clone, Copy)]
 pub enum Decided {
     Yes { name: Name },
     No,

@@ -5,7 +5,7 @@ ghost use Rattle.record_names.specs.told.Note.{noted, noted_class, noted_as, cla
 use crate::Decided;
 use names::name::Name;
 
-#[derive(Drop)]
+#[derive(Clone, Copy)]
 pub struct Words {
     pub place: u64,
     pub steps: u64,

@@ -42,7 +42,7 @@ fn substring(s: &[u8], first: usize, last: usize) -> Extent
 }
 
 // A part of the payload, source 1, or of the predefined list, 2.
-#[derive(Drop)]
+#[derive(Clone, Copy)]
 enum Base {
     Part {
         source: u8,
@@ -175,7 +175,7 @@ fn substring_of(payload: &[u8], source: u8, start: usize, end: usize, numbers: T
 }
 
 // Two places in a source.
-#[derive(Drop)]
+#[derive(Clone, Copy)]
 struct Span {
     start: usize,
     end: usize,

@@ -12,7 +12,7 @@ use inputs::outcome::Outcome;
 use metadata::measure;
 
 // How many records of each kind, 1 to 9; `counts` are those of kind 9.
-#[derive(Drop)]
+#[derive(Clone, Copy)]
 pub struct Records {
     pub heads: usize,
     pub constructors: usize,
@@ -26,7 +26,7 @@ pub struct Records {
 }
 
 // The bytes of text of each list, of its records and of all they own; the head's last.
-#[derive(Drop)]
+#[derive(Clone, Copy)]
 pub struct ListTexts {
     pub properties: usize,
     pub functions: usize,
@@ -36,7 +36,7 @@ pub struct ListTexts {
 }
 
 // Number and detail of a refusal (0 and 0: none), both lengths, the types, the records, the text by lists.
-#[derive(Drop)]
+#[derive(Clone, Copy)]
 pub struct RoomAnswer {
     pub number: u64,
     pub detail: u64,

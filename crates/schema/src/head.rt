@@ -13,7 +13,7 @@ use messages::{Found, Indexed};
 use wire::{FieldStep, Number, Piece, WireValue, field_at};
 
 // The index of its class name, whether it says that it is nullable, and whether it has an argument.
-#[derive(Drop)]
+#[derive(Clone, Copy)]
 pub struct TypeHead {
     pub name: Indexed,
     pub nullable: bool,
@@ -21,7 +21,7 @@ pub struct TypeHead {
 }
 
 // The same of the fields before a place: of the class name and of nullable the first counts, once it was seen.
-#[derive(Drop)]
+#[derive(Clone, Copy)]
 struct Seen {
     named: bool,
     name: Indexed,

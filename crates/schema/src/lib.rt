@@ -24,7 +24,7 @@ pub const ALLOWANCE: usize = 2048;
 
 // The sizes of what is lent beside the slices: how many records the name table has, how many entries the type table, and from which of
 // these on all are nullable; 2^32 or more: none.
-#[derive(Drop)]
+#[derive(Clone, Copy)]
 pub struct Tables {
     pub records: usize,
     pub types: usize,
@@ -32,7 +32,7 @@ pub struct Tables {
 }
 
 // The two fields of a message in which a type may stand, inline or by its index in the type table, and the type's role on the sheet.
-#[derive(Drop)]
+#[derive(Clone, Copy)]
 pub struct TypeSlot {
     pub inline: u32,
     pub indexed: u32,
@@ -40,14 +40,14 @@ pub struct TypeSlot {
 }
 
 // Why a reading stops.
-#[derive(Drop)]
+#[derive(Clone, Copy)]
 pub enum Stop {
     Wire { error: WireError },
     TooManyTypes,
 }
 
 // What was read is written, up to a state.
-#[derive(Drop)]
+#[derive(Clone, Copy)]
 pub enum Walked {
     Done { state: State },
     Refused { stop: Stop },
@@ -66,7 +66,7 @@ impl Walked {
 }
 
 // The answer of a reader of something that may be skipped: written, skipped or refused.
-#[derive(Drop)]
+#[derive(Clone, Copy)]
 pub enum Picked {
     Kept { state: State },
     Dropped,
@@ -74,7 +74,7 @@ pub enum Picked {
 }
 
 // A list, and how many of it are kept.
-#[derive(Drop)]
+#[derive(Clone, Copy)]
 pub enum Listed {
     Done { state: State, count: usize },
     Refused { stop: Stop },
@@ -94,7 +94,7 @@ impl Listed {
 
 // Where the message of a type stands among the decoded bytes, whether it is nullable by its place in the type table, and what is left of
 // the depth there.
-#[derive(Drop)]
+#[derive(Clone, Copy)]
 pub enum FoundType {
     Type {
         start: usize,

@@ -18,14 +18,14 @@ use wire::{Piece, WireError};
 // No entry is nullable by its place.
 const NONE: u64 = 4294967296;
 
-#[derive(Drop)]
+#[derive(Clone, Copy)]
 pub enum TypeIndex {
     Types { count: usize, first: u64 },
     NoRoom,
     Refused { error: WireError },
 }
 
-#[derive(Drop)]
+#[derive(Clone, Copy)]
 enum Entries {
     Noted { count: usize },
     NoRoom,

@@ -8,7 +8,7 @@ ghost use Rattle.foundation.specs.Digits.{little};
 ghost use Rattle.sheet.specs.Rows.{one_if, present_bytes, absent_bytes};
 
 // How far a sheet is written: the places after the last record and the last text, and how many types may still be entered.
-#[derive(Drop)]
+#[derive(Clone, Copy)]
 pub struct State {
     pub sheet: usize,
     pub text: usize,

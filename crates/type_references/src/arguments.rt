@@ -10,7 +10,7 @@ use schema::types::entry_at;
 use wire::{Piece, WireError};
 
 // The type of a declaration: inline, by its index, or not there.
-#[derive(Drop)]
+#[derive(Clone, Copy)]
 pub(crate) enum TypeField {
     Inline { start: usize, end: usize },
     ByIndex { index: u32 },
@@ -43,7 +43,7 @@ pub(crate) fn type_field(msg: &[u8], base: u32, inline: u32, indexed: u32) -> Ty
 }
 
 // An argument: a star, or its projection and its type, which is inline, by its index, or not there.
-#[derive(Drop)]
+#[derive(Clone, Copy)]
 pub(crate) enum Argument {
     Star,
     Inline {

@@ -25,14 +25,14 @@ use sheet::{State, put, put_bit, put_number};
 use wire::WireError;
 
 // How a type's record shows it, apart from what its message says: its role and its projection.
-#[derive(Drop)]
+#[derive(Clone, Copy)]
 pub(crate) struct Shown {
     pub role: u8,
     pub projection: u8,
 }
 
 // Where a type stands: what is left of the depth there, its role and projection, and whether it is nullable by its place in the type table.
-#[derive(Drop)]
+#[derive(Clone, Copy)]
 pub(crate) struct TypePlace {
     pub left: usize,
     pub role: u8,
@@ -78,7 +78,7 @@ fn put_type(
 }
 
 // How many arguments of a type are kept, or why one isn't cut.
-#[derive(Drop)]
+#[derive(Clone, Copy)]
 enum Counted {
     Count { count: usize },
     Refused { error: WireError },

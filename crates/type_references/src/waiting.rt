@@ -4,7 +4,7 @@ ghost use Rattle.std.specs.Prelude.{◌≡◌, ◌≤◌, ◌<◌, length, set, 
 ghost use Rattle.type_references.specs.told.Pending.{waiting_code, at_in, end_in, left_in};
 
 // The arguments from a place to an end of the message, and what is left of the depth there.
-#[derive(Drop)]
+#[derive(Clone, Copy)]
 pub(crate) struct Waiting {
     pub at: usize,
     pub end: usize,

@@ -9,7 +9,7 @@ ghost use Rattle.wire.specs.Wire.{group, read_varint, read_fixed, read_value, is
 ghost use Rattle.wire.specs.told.WireTold.{rest_of, value_number, piece_of, GroupsTold, varint_told, VarintAt, DelimitedTold, DelimitedAt, ValueTold, FieldTold, FieldAt, ShortTold, ShortField, SkipTold};
 
 // The refusals of a reading. Each tells the offset, among the decoded bytes, of what was being read.
-#[derive(Drop)]
+#[derive(Clone, Copy)]
 pub enum WireError {
     VarintCutShort { place: usize },
     OversizedVarint { place: usize },
@@ -19,7 +19,7 @@ pub enum WireError {
     WireType { kind: u8, place: usize },
 }
 
-#[derive(Drop)]
+#[derive(Clone, Copy)]
 pub enum Varint {
     Read { value: u64, next: usize },
     Refused { error: WireError },
@@ -43,7 +43,7 @@ fn group_of(byte: u8, earlier: usize) -> u8
 }
 
 // What the first step gives: how many groups the varint has, which is how many bytes, or its refusal.
-#[derive(Drop)]
+#[derive(Clone, Copy)]
 enum Groups {
     Read { count: usize },
     Refused { error: WireError },
@@ -126,7 +126,7 @@ fn long_varint_at(s: &[u8], base: u32, at: usize) -> Varint
 }
 
 // What is read of a varint of one or two bytes.
-#[derive(Drop)]
+#[derive(Clone, Copy)]
 pub struct ShortVarint {
     pub value: u64,
     // How many bytes it has; 0 if no such varint stands there.
@@ -198,7 +198,7 @@ fn fixed_number(s: &[u8], at: usize, width: usize) -> u64
     value
 }
 
-#[derive(Drop)]
+#[derive(Clone, Copy)]
 pub enum WireValue {
     Varint { value: u64 },
     Fixed { width: usize, number: u64 },
@@ -206,14 +206,14 @@ pub enum WireValue {
     Body { start: usize, end: usize },
 }
 
-#[derive(Drop)]
+#[derive(Clone, Copy)]
 pub enum Number {
     Value { value: u64 },
     Nothing,
 }
 
 // The bytes `&s[start..end]`.
-#[derive(Drop)]
+#[derive(Clone, Copy)]
 pub enum Piece {
     Body { start: usize, end: usize },
     Nothing,
@@ -247,7 +247,7 @@ impl WireValue {
     }
 }
 
-#[derive(Drop)]
+#[derive(Clone, Copy)]
 enum ValueStep {
     Value { value: WireValue, next: usize },
     Refused { error: WireError },
@@ -271,7 +271,7 @@ fn fixed_at(s: &[u8], base: u32, at: usize, width: usize) -> ValueStep
     }
 }
 
-#[derive(Drop)]
+#[derive(Clone, Copy)]
 pub enum Delimited {
     Body { start: usize, end: usize },
     Refused { error: WireError },
@@ -376,7 +376,7 @@ fn value_at(s: &[u8], base: u32, place: usize, kind: u8, at: usize) -> ValueStep
     }
 }
 
-#[derive(Drop)]
+#[derive(Clone, Copy)]
 pub enum FieldStep {
     Field {
         number: u32,

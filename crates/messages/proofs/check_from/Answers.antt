@@ -1,0 +1,40 @@
+use mathlib.Core.List.{[]}
+use Prim.Native.Nat.{◌-◌}
+use native.Mathlib.Omega.{arith}
+use lib.ListN.{length}
+use Rattle.wire.specs.Wire.{cut}
+use Rattle.wire.specs.told.WireTold.{rest_of}
+use Rattle.messages.specs.told.Asked.{CheckedTold}
+use Rattle.messages.specs.declared.Checked.{Checked}
+use Rattle.messages.specs.declared.Checked.TheVariants as checked
+use Rattle.wire.proofs.WalkLaws.{field-inside, cut-end, cut-refused}
+use Rattle.messages.proofs.CheckLaws.{checked-field, skip-checked}
+use Rattle.messages.proofs.check_from.Goals as goal
+
+pub loop-i-init : goal.loop-i-init
+loop-i-init c = skip-checked c.args.base c.skip_fields-i.ensures
+
+pub returns-in_default : goal.returns-in_default
+returns-in_default c =
+    let a = c.args in
+    let l = c.loop-i in
+    l.invariant (checked.Refused c.error.result) (cut-refused a.base a.s.now l.i (c.field_at-step.ensures.inside (omega arith)) c.loop-i-test.true c.in_default.is (c.error.ensures _ c.in_default.is))
+
+pub loop-i-smaller : goal.loop-i-smaller
+loop-i-smaller c =
+    let a = c.args in
+    let h = field-inside a.base a.s.now c.loop-i.i (c.field_at-step.ensures.inside (omega arith)) (omega arith) c.in-Field.is in
+    let f = c.skip_fields-i-in-loop-i.ensures.later in
+    omega arith
+
+pub loop-i-preserved : goal.loop-i-preserved
+loop-i-preserved c =
+    let a = c.args in
+    let l = c.loop-i in
+    λ r h. l.invariant r (checked-field a.base a.s.now l.i (c.field_at-step.ensures.inside (omega arith)) c.loop-i-test.true _ c.in-Field.is r (skip-checked a.base c.skip_fields-i-in-loop-i.ensures r h))
+
+pub returns : goal.returns
+returns c =
+    let a = c.args in
+    let l = c.loop-i in
+    l.invariant checked.Whole ([], cut-end a.base a.s.now l.i c.loop-i-test.false)

@@ -1,0 +1,16 @@
+use Rattle.messages.proofs.FindLaws.{find_none, find-here}
+use Rattle.messages.proofs.SkippedLaws.{found-skipped}
+use Rattle.messages.proofs.find_from.Goals as goal
+
+pub returns-then-s-i : goal.returns-then-s-i
+returns-then-s-i c =
+    let a = c.args in
+    found-skipped a.base c.skip_fields-i.ensures (find_none a.number a.base a.s.now c.skip_fields-i.result c.if-s-i.true)
+
+pub returns-in_default : goal.returns-in_default
+returns-in_default c =
+    let a = c.args in
+    found-skipped a.base c.skip_fields-i.ensures (find-here a.number a.base a.s.now c.skip_fields-i.result c.short_found-here.ensures c.in_default.is)
+
+pub returns : goal.returns
+returns c = found-skipped c.args.base c.skip_fields-i.ensures c.long_find.ensures

@@ -1,0 +1,43 @@
+use Prim.Native.Nat.{◌-◌}
+use native.Mathlib.Omega.{arith}
+use lib.ListN.{length}
+use Rattle.wire.proofs.WalkLaws.{field-inside}
+use Rattle.messages.proofs.FindLaws.{Occur, find-start, find-end, find-never, find-found, find-passed}
+use Rattle.messages.proofs.SkippedLaws.{occur-skipped}
+use Rattle.messages.proofs.long_find.Goals as goal
+
+pub loop-i-init : goal.loop-i-init
+loop-i-init c =
+    let a = c.args in
+    find-start a.number a.base a.s.now a.at
+
+pub returns-in_default : goal.returns-in_default
+returns-in_default c =
+    let a = c.args in
+    let l = c.loop-i in
+    find-never a.number a.base a.s.now a.at l.i l.invariant (c.field_at-step.ensures.inside (omega arith)) c.loop-i-test.true c.in_default.is
+
+pub returns-then-n-number : goal.returns-then-n-number
+returns-then-n-number c =
+    let a = c.args in
+    let l = c.loop-i in
+    find-found a.number a.base a.s.now a.at l.i l.invariant (c.field_at-step.ensures.inside (omega arith)) c.loop-i-test.true c.in-Field.is c.if-n-number.true
+
+pub loop-i-smaller : goal.loop-i-smaller
+loop-i-smaller c =
+    let a = c.args in
+    let h = field-inside a.base a.s.now c.loop-i.i (c.field_at-step.ensures.inside (omega arith)) (omega arith) c.in-Field.is in
+    let f = c.skip_fields-i.ensures.later in
+    omega arith
+
+pub loop-i-preserved : goal.loop-i-preserved
+loop-i-preserved c =
+    let a = c.args in
+    let l = c.loop-i in
+    occur-skipped a.base c.skip_fields-i.ensures a.at (find-passed a.number a.base a.s.now a.at l.i l.invariant (c.field_at-step.ensures.inside (omega arith)) c.loop-i-test.true _ c.in-Field.is c.if-n-number.false)
+
+pub returns : goal.returns
+returns c =
+    let a = c.args in
+    let l = c.loop-i in
+    find-end a.number a.base a.s.now a.at l.i l.invariant c.loop-i-test.false

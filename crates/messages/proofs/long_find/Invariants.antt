@@ -1,0 +1,13 @@
+use Prim.Native.Nat.{◌-◌}
+use native.Mathlib.Omega.{arith}
+use lib.ListN.{length}
+use Rattle.wire.proofs.WalkLaws.{field-inside}
+use Rattle.messages.proofs.FindLaws.{Occur, find-start, find-end, find-never, find-found, find-passed}
+use Rattle.messages.proofs.SkippedLaws.{occur-skipped}
+use Rattle.messages.proofs.long_find.Given as goal
+
+abbrev pub invariant-loop-i : goal.invariant-loop-i
+invariant-loop-i l = Occur l.number l.base l.s l.at l.i
+
+abbrev pub decreases-loop-i : goal.decreases-loop-i
+decreases-loop-i l = length l.s - l.i

@@ -1,0 +1,45 @@
+use Prim.Native.Nat.{◌-◌, ◌≤◌}
+use native.Mathlib.Omega.{arith}
+use lib.ListN.{length}
+use Rattle.wire.proofs.WalkLaws.{field-inside}
+use Rattle.messages.proofs.BodyLaws.{Bodies, bodies-start, bodies-end, bodies-never, bodies-on, bodies-here}
+use Rattle.messages.proofs.SkippedLaws.{bodies-skipped}
+use Rattle.messages.proofs.long_next_body.Goals as goal
+
+pub loop-i-init : goal.loop-i-init
+loop-i-init c =
+    let a = c.args in
+    (omega arith, bodies-start a.number a.base a.s.now a.at)
+
+pub returns-in_default : goal.returns-in_default
+returns-in_default c =
+    let a = c.args in
+    let l = c.loop-i in
+    bodies-never a.number a.base a.s.now a.at l.i l.invariant.1 (c.field_at-step.ensures.inside (omega arith)) c.loop-i-test.true c.in_default.is
+
+pub returns-in_default-piece : goal.returns-in_default-piece
+returns-in_default-piece c =
+    let a = c.args in
+    let l = c.loop-i in
+    bodies-here a.number a.base a.s.now a.at l.i l.invariant.1 (c.field_at-step.ensures.inside (omega arith)) c.loop-i-test.true _ c.in-Field.is c.body_of-piece.ensures l.invariant.0 c.in_default-piece.is
+
+pub loop-i-smaller : goal.loop-i-smaller
+loop-i-smaller c =
+    let a = c.args in
+    let h = field-inside a.base a.s.now c.loop-i.i (c.field_at-step.ensures.inside (omega arith)) (omega arith) c.in-Field.is in
+    let f = c.skip_fields-i.ensures.later in
+    omega arith
+
+pub loop-i-preserved : goal.loop-i-preserved
+loop-i-preserved c =
+    let a = c.args in
+    let l = c.loop-i in
+    let h = field-inside a.base a.s.now l.i (c.field_at-step.ensures.inside (omega arith)) (omega arith) c.in-Field.is in
+    let f = c.skip_fields-i.ensures.later in
+    (omega arith, bodies-skipped a.base c.skip_fields-i.ensures a.at (bodies-on a.number a.base a.s.now a.at l.i l.invariant.1 (c.field_at-step.ensures.inside (omega arith)) c.loop-i-test.true _ c.in-Field.is c.body_of-piece.ensures c.in-Nothing.is))
+
+pub returns : goal.returns
+returns c =
+    let a = c.args in
+    let l = c.loop-i in
+    bodies-end a.number a.base a.s.now a.at l.i l.invariant.1 c.loop-i-test.false

@@ -1,0 +1,58 @@
+use Prim.Native.Nat.{◌-◌}
+use native.Mathlib.Omega.{arith}
+use lib.ListN.{length}
+use Rattle.wire.proofs.WalkLaws.{field_is, field-inside}
+use Rattle.messages.proofs.RepeatedLaws.{Pushing, pushing-start, pushing-end, pushing-never, pushing-passed, pushing-next, pushing-refused}
+use Rattle.messages.proofs.repeated.first_two.Goals as goal
+
+pub loop-at-init : goal.loop-at-init
+loop-at-init c =
+    let a = c.args in
+    pushing-start _ a.base a.s.now
+
+pub returns-in_default : goal.returns-in_default
+returns-in_default c =
+    let a = c.args in
+    let l = c.loop-at in
+    λ m w. pushing-never a.number a.base a.s.now l.at l.two l.invariant (c.field_at-step.ensures.inside (omega arith)) c.loop-at-test.true c.in_default.is m w
+
+pub loop-at-smaller-then-n-number : goal.loop-at-smaller-then-n-number
+loop-at-smaller-then-n-number c =
+    let a = c.args in
+    let h = field-inside a.base a.s.now c.loop-at.at (c.field_at-step.ensures.inside (omega arith)) (omega arith) c.in-Field.is in
+    omega arith
+
+pub loop-at-preserved-then-n-number : goal.loop-at-preserved-then-n-number
+loop-at-preserved-then-n-number c =
+    let a = c.args in
+    let l = c.loop-at in
+    pushing-passed a.number a.base a.s.now l.at l.two l.invariant (c.field_at-step.ensures.inside (omega arith)) c.loop-at-test.true _ c.in-Field.is c.if-n-number.true
+
+pub push_value-pushed-requires : goal.push_value-pushed-requires
+push_value-pushed-requires c =
+    let a = c.args in
+    (field_is a.base a.s.now c.loop-at.at (c.field_at-step.ensures.inside (omega arith)) c.in-Field.is).1
+
+pub returns-in_default-pushed : goal.returns-in_default-pushed
+returns-in_default-pushed c =
+    let a = c.args in
+    let l = c.loop-at in
+    pushing-refused a.number a.base a.s.now l.at l.two l.invariant (c.field_at-step.ensures.inside (omega arith)) c.loop-at-test.true _ c.in-Field.is c.if-n-number.false c.push_value-pushed.ensures c.in_default-pushed.is
+
+pub loop-at-smaller : goal.loop-at-smaller
+loop-at-smaller c =
+    let a = c.args in
+    let h = field-inside a.base a.s.now c.loop-at.at (c.field_at-step.ensures.inside (omega arith)) (omega arith) c.in-Field.is in
+    omega arith
+
+pub loop-at-preserved : goal.loop-at-preserved
+loop-at-preserved c =
+    let a = c.args in
+    let l = c.loop-at in
+    pushing-next a.number a.base a.s.now l.at l.two l.invariant (c.field_at-step.ensures.inside (omega arith)) c.loop-at-test.true _ c.in-Field.is c.if-n-number.false c.push_value-pushed.ensures c.in-Numbers.is
+
+pub returns : goal.returns
+returns c =
+    let a = c.args in
+    let l = c.loop-at in
+    λ m w. pushing-end a.number a.base a.s.now l.at l.two l.invariant c.loop-at-test.false m w
