@@ -96,9 +96,9 @@ module _ (s : State) (S T : List ℕ) {S' : List ℕ} where
 
 -- More cells after cells, or in a record, with as many types left.
 module _ {b : ℕ} {s s₁ s₂ : State} {S S₁ S₂ T T₁ T₂ : List ℕ} where
-  pub cells-next : (cs ds : List Cell) → PutCells cs b s s₁ S S₁ T T₁ → PutCells ds s₁.types s₁ s₂ S₁ S₂ T₁ T₂
+  pub cells_next : (cs ds : List Cell) → PutCells cs b s s₁ S S₁ T T₁ → PutCells ds s₁.types s₁ s₂ S₁ S₂ T₁ T₂
       → PutCells (cs ++ ds) b s s₂ S S₂ T T₂
-  cells-next cs ds p q = cells_then cs ds p (put-left q (put-types p))
+  cells_next cs ds p q = cells_then cs ds p (put-left q (put-types p))
 
   pub head-next : (k : ℕ) (cs ds : List Cell) → PutHead k cs b s s₁ S S₁ T T₁ → PutCells ds s₁.types s₁ s₂ S₁ S₂ T₁ T₂
       → PutHead k (cs ++ ds) b s s₂ S S₂ T T₂
@@ -151,7 +151,7 @@ module _ {b : ℕ} {s s' : State} {S S' T T' : List ℕ} where
     pub signature-both : {s₁ : State} {S₁ T₁ : List ℕ} → is_some x ≡ true → is_some y ≡ true
         → PutCells (name_cell x ∷ []) b s s₁ S S₁ T T₁ → PutCells (name_cell y ∷ []) s₁.types s₁ s' S₁ S' T₁ T'
         → PutCells (signature_cells (both_of signed x y)) b s s' S S' T T'
-    signature-both e f p q = cells_same (both-signed x y e f) (cells-next (name_cell x ∷ []) (name_cell y ∷ []) p q)
+    signature-both e f p q = cells_same (both-signed x y e f) (cells_next (name_cell x ∷ []) (name_cell y ∷ []) p q)
 
 -- A constructor's signature, its own name or the one that it falls back to.
 own_else : {A : Type 0} (x : Option A) (i : A) → is_some x ≡ true → or_else x (some i) ≡ x

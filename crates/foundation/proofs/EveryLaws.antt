@@ -49,9 +49,9 @@ module _ {A : Type 0} (P : A → Type 0) where
 
 -- what holds of a value, and so of what is made of it
 module _ {A B : Type 0} (P : A → Type 0) (Q : B → Type 0) where
-  pub some-map : (f : A → B) (o : Option A) → IfSome P o → ((a : A) → P a → Q (f a)) → IfSome Q (map_option f o)
-  some-map f none p h = tt
-  some-map f (some a) p h = h a p
+  pub some_map : (f : A → B) (o : Option A) → IfSome P o → ((a : A) → P a → Q (f a)) → IfSome Q (map_option f o)
+  some_map f none p h = tt
+  some_map f (some a) p h = h a p
 
   pub some_then : (o : Option A) (f : A → Option B) → IfSome P o → ((a : A) → P a → IfSome Q (f a)) → IfSome Q (if_some o none f)
   some_then none f p h = tt

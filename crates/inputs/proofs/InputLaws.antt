@@ -99,6 +99,6 @@ module _ (i : Input) where
           unfolding fault_of later_fault
           version-newer v = simp (le-ltb _ _ h, le-ltb _ _ d, le-ltb _ _ s, e, v)
 
-          pub no-fault : lt_z supported_major (major i) ≡ false → fault_of i ≡ none
+          pub no_fault : lt_z supported_major (major i) ≡ false → fault_of i ≡ none
           unfolding fault_of later_fault
-          no-fault v = simp (le-ltb _ _ h, le-ltb _ _ d, le-ltb _ _ s, e, v)
+          no_fault v = simp (le-ltb _ _ h, le-ltb _ _ d, le-ltb _ _ s, e, v)

@@ -298,9 +298,9 @@ module _ (k base : ℕ) (s : List ℕ) where
 
 -- the message in a field
 module _ (k base : ℕ) (s : List ℕ) {x : Piece} (t : BytesTold base s k x) where
-  pub message-none : x ≡ piece.Nothing → EmbeddedTold base s k embedded.Nothing
+  pub message_none : x ≡ piece.Nothing → EmbeddedTold base s k embedded.Nothing
   unfolding message
-  message-none g = record { is = λ m w. ap cut_option (t.is m w ∙ ap (piece_told base s) g); inside = tt }
+  message_none g = record { is = λ m w. ap cut_option (t.is m w ∙ ap (piece_told base s) g); inside = tt }
 
   module _ {a b : ℕ} (g : x ≡ piece.Body a b) where
     pub message-in : (a ≤ b) × (b ≤ length s) × (0 < a)

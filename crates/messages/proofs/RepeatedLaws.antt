@@ -144,8 +144,8 @@ module _ (r : Res (List ℕ)) {x : FirstTwo} (e : first_two_of r ≡ two_told x)
   pub two-sound : {t : Two} → x ≡ first.Numbers t → CheckedTold r checked.Whole
   two-sound g = let b = bind_ok r first_two (e ∙ ap two_told g) in (b.0, b.1)
 
-  pub two-refused : {error err : WireError} → x ≡ first.Refused error → err ≡ error → CheckedTold r (checked.Refused err)
-  two-refused {error} {err} g q = go r (e ∙ ap two_told g) ∙ ap (wire_refused {A = List ℕ}) (sym q)
+  pub two_refused : {error err : WireError} → x ≡ first.Refused error → err ≡ error → CheckedTold r (checked.Refused err)
+  two_refused {error} {err} g q = go r (e ∙ ap two_told g) ∙ ap (wire_refused {A = List ℕ}) (sym q)
     where
       go : (r : Res (List ℕ)) → first_two_of r ≡ wire_refused error → r ≡ wire_refused error
       go (ok ns) e = let z : ◌≡◌ {A = ℕ} 0 1 = cc in absurd (omega arith)

@@ -192,18 +192,18 @@ pub record Passed (f : Message → Read (Option Argument)) (base : ℕ) (msg : L
 
 module _ (f : Message → Read (Option Argument)) (base : ℕ) (msg : List ℕ) (at : ℕ) (ts : List Argument) (g : Passed f base msg at ts) {x : Piece}
     (t : NextBodyTold base msg Type-argument at x) where
-  pub next-is : {y : Piece} → x ≡ y → NextIs base msg Type-argument g.rest y
-  next-is e = subst (NextIs base msg Type-argument g.rest) e (t.is g.rest g.cuts)
+  pub next_is : {y : Piece} → x ≡ y → NextIs base msg Type-argument g.rest y
+  next_is e = subst (NextIs base msg Type-argument g.rest) e (t.is g.rest g.cuts)
 
   pub passed-all : x ≡ piece.Nothing → ts ≡ []
   unfolding cut_all kept
   passed-all e =
-      let none_left : g.others ≡ [] = ok_same (sym g.many ∙ ap cut_all (next-is e)) in
+      let none_left : g.others ≡ [] = ok_same (sym g.many ∙ ap cut_all (next_is e)) in
       sym (first-same (ap (λ (ms : List Message). kept f ms g.before) (sym none_left) ∙ g.given))
 
   module _ {a b : ℕ} (e : x ≡ piece.Body a b) where
-    pub next : First (part_between base msg a b) (bodies Type-argument (next-is e).0) g.others
-    next = cut-first (part_between base msg a b) (bodies Type-argument (next-is e).0) g.others (ap cut_all (sym (next-is e).2) ∙ g.many)
+    pub next : First (part_between base msg a b) (bodies Type-argument (next_is e).0) g.others
+    next = cut-first (part_between base msg a b) (bodies Type-argument (next_is e).0) g.others (ap cut_all (sym (next_is e).2) ∙ g.many)
 
     pub next-given : Kept f next.first next.others g.before ts
     next-given =
@@ -217,9 +217,9 @@ module _ (f : Message → Read (Option Argument)) (base : ℕ) (msg : List ℕ) 
     passed-dropped h =
         let same : next-given.others ≡ ts = sym (next-given.are ∙ ap (λ (o : Option Argument). keep o next-given.others) h) in
         record {
-          rest = (next-is e).0;
+          rest = (next_is e).0;
           others = next.others;
-          cuts = (next-is e).1;
+          cuts = (next_is e).1;
           many = next.many;
           before = next-given.between;
           after = next-given.after;

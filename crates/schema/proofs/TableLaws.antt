@@ -171,8 +171,8 @@ module _ (bytes : List ℕ) (start : ℕ) (notes : List ℕ) (count at : ℕ) (i
 
 -- from which entry on all are nullable
 module _ (o : Option ℕ) {y : Indexed} (e : o ≡ index_told y) where
-  pub first-none : y ≡ indexed.Nothing → o ≡ as32 4294967296
-  first-none g = rw (e, g)
+  pub first_none : y ≡ indexed.Nothing → o ≡ as32 4294967296
+  first_none g = rw (e, g)
 
   pub first_some : {i : ℕ} → y ≡ indexed.At i → i < 2 ^ 32 → o ≡ as32 i
   first_some {i} g h = rw (e, g, lt-ltb i (2 ^ 32) h)
@@ -214,9 +214,9 @@ module _ (payload : List ℕ) (at n : ℕ) (notes : List ℕ) where
     found : {y : Embedded} → x ≡ y → EmbeddedIs at (take (length payload - at) (drop at payload)) n m y
     found g = subst (EmbeddedIs at (take (length payload - at) (drop at payload)) n m) g (t.is m body_is)
 
-    pub index-none : x ≡ embedded.Nothing → TypeIndexTold payload at n m notes (types.Types 0 4294967296)
+    pub index_none : x ≡ embedded.Nothing → TypeIndexTold payload at n m notes (types.Types 0 4294967296)
     unfolding type_table_in
-    index-none g = (no_table, (λ l. rw (found g)), entries_none payload notes, refl)
+    index_none g = (no_table, (λ l. rw (found g)), entries_none payload notes, refl)
 
     pub index-refused : {error : WireError} → x ≡ embedded.Refused error → TypeIndexTold payload at n m notes (types.Refused error)
     unfolding type_table_in

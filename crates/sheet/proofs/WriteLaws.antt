@@ -20,8 +20,8 @@ module _ (src : List ℕ) where
       → whole ≡ sets (set area (at + i) (get_or src i 0)) (at + (i + 1)) (drop (i + 1) src)
   copy_step whole area at i h e = e ∙ rw (drop-cons src i 0 h, add-one, add-suc)
 
-  pub copy-end : (whole area : List ℕ) (at i : ℕ) → length src ≤ i → whole ≡ sets area (at + i) (drop i src) → area ≡ whole
-  copy-end whole area at i h e = sym (e ∙ rw (drop_of_length-le src h))
+  pub copy_end : (whole area : List ℕ) (at i : ℕ) → length src ≤ i → whole ≡ sets area (at + i) (drop i src) → area ≡ whole
+  copy_end whole area at i h e = sym (e ∙ rw (drop_of_length-le src h))
 
 -- the byte and what is left of the number
 pub number_step : (whole area : List ℕ) (i left rest : ℕ) → 0 < left → whole ≡ sets area i (little left rest)

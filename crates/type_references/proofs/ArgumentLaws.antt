@@ -114,8 +114,8 @@ module _ (base : ℕ) (msg : List ℕ) (start end : ℕ) (ordered : start ≤ en
     bytes-here : BytesTold (base + start) (part_from start end msg) Type-Argument-type (piece.Body a b)
     bytes-here = inline-bytes (base + start) (part_from start end msg) t g
 
-    pub inline-in : (0 < a) × (a ≤ b) × (start + b ≤ end)
-    inline-in = let i = bytes-here.inside in (i.2, i.0, omega (arith, i.1, part-short msg start end))
+    pub inline_in : (0 < a) × (a ≤ b) × (start + b ≤ end)
+    inline_in = let i = bytes-here.inside in (i.2, i.0, omega (arith, i.1, part-short msg start end))
 
     typed-here : (m : Message) → cut (◌from◌ (base + start) (part_from start end msg)) ≡ ok m → NoStar p m
     typed-here = inline-typed (base + start) (part_from start end msg) t g
@@ -137,7 +137,7 @@ module _ (base : ℕ) (msg : List ℕ) (start end : ℕ) (ordered : start ≤ en
           let whole_is = message-cut Type-Argument-type (base + start) part bytes-here refl checked-here h in
           record {
             is = λ m c. let it = whole_is.is m c in (it.0, same-part ∙ it.1, it.2, typed-here m c);
-            inside = (omega (arith, inline-in), omega (arith, inline-in), omega (arith, inline-in));
+            inside = (omega (arith, inline_in), omega (arith, inline_in), omega (arith, inline_in));
           }
 
       pub argument-refused : {error err : WireError} → w ≡ checked.Refused error → err ≡ error → ArgumentTold base msg start end (argument.Refused err)

@@ -426,8 +426,8 @@ module _ {e : Lent} {msg : List ℕ} {base left : ℕ} {s₀ : State} {S₀ T₀
 
           -- its type inline, from `first` to `last`
           module _ {projection first last : ℕ} (v : r ≡ argument.Inline projection first last) where
-            pub inline-in : (a < first) × (first ≤ last) × (last ≤ b) × (last ≤ length msg)
-            inline-in =
+            pub inline_in : (a < first) × (first ≤ last) × (last ≤ b) × (last ≤ length msg)
+            inline_in =
                 let i = subst (ArgumentInside a b) v u.inside in
                 (i.0, i.1, i.2, omega (arith, i.2, body-in))
 
@@ -470,13 +470,13 @@ module _ {e : Lent} {msg : List ℕ} {base left : ℕ} {s₀ : State} {S₀ T₀
 
                   pub loop-entered : {deep' : ℕ} → deep' ≡ deep - 1 → Looping e msg base left s₀ S₀ T₀ first last deep' (height + 1) s' S' T' nest'
                   loop-entered {deep'} less = record {
-                    ordered = inline-in.1;
-                    short = inline-in.3;
+                    ordered = inline_in.1;
+                    short = inline_in.3;
                     shallow = omega (arith, g.shallow);
                     room = omega (arith, g.room, one_less);
                     fewer =
                         let pushed = weight-push nest height b end deep room p few-here.0 few-here.1 in
-                        omega (arith, g.fewer, pushed, inline-in, body-in);
+                        omega (arith, g.fewer, pushed, inline_in, body-in);
                     spends = spends_then g.spends (subst (WalkedSpends s) h n.spends);
                     inside = pushed-inside;
                     going = λ c o m k ms f d l.
@@ -497,7 +497,7 @@ module _ {e : Lent} {msg : List ℕ} {base left : ℕ} {s₀ : State} {S₀ T₀
                   pub entered-falls : turns nest' (height + 1) first last < turns nest height at end
                   entered-falls =
                       let pushed = weight-push nest height b end deep room p few-here.0 few-here.1 in
-                      omega (arith, pushed, inline-in, body-in)
+                      omega (arith, pushed, inline_in, body-in)
 
           -- its type by an index
           module _ {projection i : ℕ} (v : r ≡ argument.ByIndex projection i) {p : Picked} {S' T' : List ℕ}

@@ -1,11 +1,5 @@
 use mathlib.Core.List.{[]}
-use Prim.Native.Nat.{◌-◌}
 use native.Mathlib.Omega.{arith}
-use lib.ListN.{length}
-use Rattle.wire.specs.Wire.{cut}
-use Rattle.wire.specs.told.WireTold.{rest_of}
-use Rattle.messages.specs.told.Asked.{CheckedTold}
-use Rattle.messages.specs.declared.Checked.{Checked}
 use Rattle.messages.specs.declared.Checked.TheVariants as checked
 use Rattle.wire.proofs.WalkLaws.{field-inside, cut-end, cut-refused}
 use Rattle.messages.proofs.CheckLaws.{checked-field, skip-checked}

@@ -1,14 +1,9 @@
-use mathlib.Core.List.{[]}
 use Prim.Native.Nat.{◌-◌}
-use native.Mathlib.Omega.{arith}
 use lib.ListN.{length}
 use Rattle.wire.specs.Wire.{cut}
 use Rattle.wire.specs.told.WireTold.{rest_of}
 use Rattle.messages.specs.told.Asked.{CheckedTold}
 use Rattle.messages.specs.declared.Checked.{Checked}
-use Rattle.messages.specs.declared.Checked.TheVariants as checked
-use Rattle.wire.proofs.WalkLaws.{field-inside, cut-end, cut-refused}
-use Rattle.messages.proofs.CheckLaws.{checked-field, skip-checked}
 use Rattle.messages.proofs.check_from.Given as goal
 
 abbrev pub invariant-loop-i : goal.invariant-loop-i

@@ -1,9 +1,6 @@
 use Prim.Native.Nat.{◌-◌}
-use native.Mathlib.Omega.{arith}
 use lib.ListN.{length}
-use Rattle.wire.proofs.WalkLaws.{field-inside}
-use Rattle.messages.proofs.FindLaws.{Occur, find-start, find-end, find-never, find-found, find-passed}
-use Rattle.messages.proofs.SkippedLaws.{occur-skipped}
+use Rattle.messages.proofs.FindLaws.{Occur}
 use Rattle.messages.proofs.long_find.Given as goal
 
 abbrev pub invariant-loop-i : goal.invariant-loop-i

@@ -1,8 +1,6 @@
-use Prim.Native.Nat.{◌-◌}
 use native.Mathlib.Omega.{arith}
-use lib.ListN.{length}
 use Rattle.wire.proofs.WalkLaws.{field_is, field-inside}
-use Rattle.messages.proofs.RepeatedLaws.{Pushing, pushing-start, pushing-end, pushing-never, pushing-passed, pushing-next, pushing-refused}
+use Rattle.messages.proofs.RepeatedLaws.{pushing-start, pushing-end, pushing-never, pushing-passed, pushing-next, pushing-refused}
 use Rattle.messages.proofs.repeated.first_two.Goals as goal
 
 pub loop-at-init : goal.loop-at-init

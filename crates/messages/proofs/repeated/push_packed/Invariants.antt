@@ -1,13 +1,9 @@
-use mathlib.Core.Path.{◌≡◌, refl, ◌∙◌, sym, ap}
+use mathlib.Core.Path.{◌≡◌}
 use Prim.Native.Nat.{◌-◌}
-use native.Mathlib.Omega.{arith}
 use lib.ListN.{length}
 use Rattle.wire.specs.Wire.{packed}
 use Rattle.wire.specs.told.WireTold.{rest_of}
 use Rattle.messages.specs.told.Repeated.{pushed_to}
-use Rattle.messages.specs.declared.repeated.Two.{Two}
-use Rattle.wire.proofs.FieldLaws.{varint-inside}
-use Rattle.messages.proofs.RepeatedLaws.{run_end, run-next, run-refused}
 use Rattle.messages.proofs.repeated.push_packed.Given as goal
 
 abbrev pub invariant-loop-i : goal.invariant-loop-i
