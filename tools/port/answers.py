@@ -202,6 +202,7 @@ def turn(crate, at, told):
             continue
         helpers.append("\n".join(block))
     module = f"Rattle.{crate}.proofs." + os.path.relpath(at, os.path.join(ROOT, "crates", crate, "proofs")).replace("/", ".")
+    uses = [re.sub(r"use borrow\.Author\.Tests\.", "use Rattle.std.proofs.lemmas.Bool.", u) for u in uses]
     keep = [u for u in uses if not re.search(r"\.(Statement|Tie|Reads|Lts)\b|borrow\.Author", u)]
     if any("rules" in a for a in answers + helpers):
         keep.insert(0, "use Rattle.std.proofs.Common.{rules}")

@@ -1,3 +1,4 @@
+use Rattle.std.proofs.lemmas.Bool.{eq-eqb, ne_eqb}
 use Rattle.messages.proofs.body_of.Goals as goal
 
 pub returns-then-number-asked : goal.returns-then-number-asked

@@ -1,7 +1,5 @@
-use Prim.Native.Nat.{◌-◌}
 use native.Mathlib.Omega.{arith}
-use lib.ListN.{length}
-use Rattle.messages.proofs.BodyLaws.{Cutting, cutting-start, cutting-end, piece-in, cutting-none, cutting-refused, cutting-next}
+use Rattle.messages.proofs.BodyLaws.{cutting-start, cutting-end, piece-in, cutting-none, cutting-refused, cutting-next}
 use Rattle.messages.proofs.check_messages.Goals as goal
 
 pub loop-at-init : goal.loop-at-init

@@ -1,7 +1,6 @@
 use Prim.Native.Nat.{◌-◌}
-use native.Mathlib.Omega.{arith}
 use lib.ListN.{length}
-use Rattle.messages.proofs.BodyLaws.{Cutting, cutting-start, cutting-end, piece-in, cutting-none, cutting-refused, cutting-next}
+use Rattle.messages.proofs.BodyLaws.{Cutting}
 use Rattle.messages.proofs.check_messages.Given as goal
 
 abbrev pub invariant-loop-at : goal.invariant-loop-at

@@ -1,8 +1,6 @@
-use Prim.Native.Nat.{◌-◌}
 use native.Mathlib.Omega.{arith}
-use lib.ListN.{length}
 use Rattle.wire.proofs.WalkLaws.{field-inside}
-use Rattle.messages.proofs.SeenLaws.{SeenBefore, seen_start, seen_end, seen_never, seen_next}
+use Rattle.messages.proofs.SeenLaws.{seen_start, seen_end, seen_never, seen_next}
 use Rattle.messages.proofs.find_three.Goals as goal
 
 pub loop-at-init : goal.loop-at-init

@@ -1,8 +1,6 @@
 use Prim.Native.Nat.{◌-◌}
-use native.Mathlib.Omega.{arith}
 use lib.ListN.{length}
-use Rattle.wire.proofs.WalkLaws.{field-inside}
-use Rattle.messages.proofs.SeenLaws.{SeenBefore, seen_start, seen_end, seen_never, seen_next}
+use Rattle.messages.proofs.SeenLaws.{SeenBefore}
 use Rattle.messages.proofs.find_three.Given as goal
 
 abbrev pub invariant-loop-at : goal.invariant-loop-at

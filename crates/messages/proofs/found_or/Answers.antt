@@ -1,3 +1,4 @@
+use Rattle.std.proofs.lemmas.Bool.{eq-eqb, ne_eqb}
 use Rattle.messages.proofs.found_or.Goals as goal
 
 pub returns-in_default : goal.returns-in_default

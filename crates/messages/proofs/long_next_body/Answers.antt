@@ -1,8 +1,6 @@
-use Prim.Native.Nat.{◌-◌, ◌≤◌}
 use native.Mathlib.Omega.{arith}
-use lib.ListN.{length}
 use Rattle.wire.proofs.WalkLaws.{field-inside}
-use Rattle.messages.proofs.BodyLaws.{Bodies, bodies-start, bodies-end, bodies-never, bodies-on, bodies-here}
+use Rattle.messages.proofs.BodyLaws.{bodies-start, bodies-end, bodies-never, bodies-on, bodies-here}
 use Rattle.messages.proofs.SkippedLaws.{bodies-skipped}
 use Rattle.messages.proofs.long_next_body.Goals as goal
 
