@@ -26,10 +26,12 @@ module _ (src : List ℕ) where
 -- the byte and what is left of the number
 pub number_step : (whole area : List ℕ) (i left rest : ℕ) → 0 < left → whole ≡ sets area i (little left rest)
     → whole ≡ sets (set area i (rest % 256)) (i + 1) (little (left - 1) (rest / 256))
+number_step whole area i zero rest h e = elim h [ ]
 number_step whole area i (suc left) rest h e = e ∙ rw (add-one, sub-one)
 
 pub number-end : (whole area : List ℕ) (i left rest : ℕ) → left ≤ 0 → whole ≡ sets area i (little left rest) → area ≡ whole
 number-end whole area i zero rest h e = sym e
+number-end whole area i (suc _) rest h e = elim h [ ]
 
 -- what there is no room for may be left out
 pub put-part : (src area : List ℕ) (at room : ℕ) → length area ≤ at + room → room ≤ length src → sets area at (take room src) ≡ sets area at src
