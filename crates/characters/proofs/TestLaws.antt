@@ -4,7 +4,7 @@ use mathlib.Core.Path.{◌≡◌, refl, ap, ◌∙◌, subst}
 use mathlib.Core.Bool.{Bool, true, false, ◌&&◌, ◌||◌, and-false}
 use Prim.Native.Nat.{ℕ, suc, ◌≤◌, ◌<◌}
 use native.Mathlib.Omega.{arith}
-use borrow.Author.Tests.{ltb-true, ltb-false, lt-ltb, le-ltb, lt_leb}
+use borrow.Author.Tests.{ltb-true, ltb-false, lt-ltb, le-ltb, lt-leb}
 use lib.Dec.{T, leb, ltb, le→leb, leb→le}
 use Rattle.foundation.proofs.EveryLaws.{each}
 use Rattle.characters.specs.Characters.{is_scalar, between}
@@ -40,10 +40,10 @@ pub bounds : (low high n : ℕ) → T (between low high n) → (low ≤ n) × (n
 bounds low high n h = let e = each (leb low n) (leb n high) h in (leb→le low n e.0, leb→le n high e.1)
 
 pub above : (low high n : ℕ) → high < n → between low high n ≡ false
-above low high n h = ap (λ (t : Bool). leb low n && t) (lt_leb n high h) ∙ and-false (leb low n)
+above low high n h = ap (λ (t : Bool). leb low n && t) (lt-leb n high h) ∙ and-false (leb low n)
 
 pub under : (low high n : ℕ) → n < low → between low high n ≡ false
-under low high n h = ap (λ (t : Bool). t && leb n high) (lt_leb low n h)
+under low high n h = ap (λ (t : Bool). t && leb n high) (lt-leb low n h)
 
 pub outside : (low high n : ℕ) → between low high n ≡ false → low ≤ n → high < n
 outside low high n e h = below (suc high) n (λ k. absurd (subst T e (in_between low high n (omega arith)))) λ k. k

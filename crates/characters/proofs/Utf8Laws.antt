@@ -4,7 +4,7 @@ use mathlib.Core.Path.{◌≡◌, refl, ap, sym, ◌∙◌, subst}
 use mathlib.Core.Bool.{Bool, true, ◌&&◌}
 use mathlib.Core.List.{List, [], ◌∷◌, ◌++◌, append_assoc, Memᴰ}
 use mathlib.Core.Option.{some}
-use Prim.Native.Nat.{ℕ, suc, ◌+◌, ◌-◌, ◌*◌, ◌/◌, ◌%◌, ◌≤◌, ◌<◌}
+use Prim.Native.Nat.{ℕ, suc, ◌+◌, ◌*◌, ◌/◌, ◌%◌, ◌≤◌, ◌<◌}
 use native.Mathlib.Omega.{arith}
 use borrow.Author.Tests.{lt-ltb, le-ltb, eq-eqb}
 use lib.Dec.{T}
@@ -150,7 +150,7 @@ ascending : ℕ → List Lead → Bool
 ascending n [] = true
 ascending n (l ∷ ls) = between n l.first.high l.first.low && ascending (suc l.first.high) ls
 
-lead_among : (n : ℕ) {ls : List Lead} {l : Lead} (b : ℕ) → Memᴰ l ls → T (ascending n ls) → T (in_range l.first b)
+lead_among : {l : Lead} (n : ℕ) {ls : List Lead} (b : ℕ) → Memᴰ l ls → T (ascending n ls) → T (in_range l.first b)
     → (n ≤ b) × (lead_of b ls ≡ some l)
 unfolding ascending lead_of
 lead_among n b (Memᴰ.head {x} {xs} e) t p =

@@ -11,7 +11,7 @@ ghost use Rattle.characters.specs.told.CharactersTold.{lead_byte_of, lead_byte_t
 pub mod ascii; // ascii.rt: texts of characters below 128
 pub mod measure; // measure.rt: how long texts of 16-bit units are in UTF-8
 
-#[derive(Clone, Copy)]
+#[derive(Drop)]
 pub enum Character {
     Read { code: u32, next: usize },
     End,
@@ -32,7 +32,7 @@ pub fn wide(byte: u8) -> u32
 
 // What the first byte of several says of its character: its own bits, how many bytes follow it, and the least and the greatest of what
 // may follow first.
-#[derive(Clone, Copy)]
+#[derive(Drop)]
 enum FirstByte {
     Leads(u32, usize, u32, u32),
     Stray,
@@ -179,7 +179,7 @@ pub fn width_of(code: u32) -> usize
     4
 }
 
-#[derive(Clone, Copy)]
+#[derive(Drop)]
 pub enum Place {
     At { source: usize },
     Nothing,
