@@ -142,12 +142,51 @@ def loop_body(function, old, params, body):
     return body
 
 
+STEP = r"c(?:\.before)*(?![\w.'-])"
+
+
+def written_out(text, bodies):
+    """Helpers over a step of the code, and answers that other answers cite, written out where they stand: a step has no type to name now."""
+    if not bodies:
+        return text
+    cited = re.compile(r"(?<![\w.'-])(" + "|".join(map(re.escape, sorted(bodies, key=len, reverse=True))) + r") (" + STEP + ")")
+
+    def out(m):
+        var, body = bodies[m.group(1)]
+        body = re.sub(r"(?<![\w.'-])" + re.escape(var) + r"(?![\w'-])", m.group(2), " ".join(body.split()))
+        alone = " " not in body or m.string[m.start() - 1:m.start()] == "(" and m.string[m.end():m.end() + 1] == ")"
+        return body if alone else f"({body})"
+
+    for _ in range(20):
+        text, n = cited.subn(out, text)
+        if not n:
+            break
+    return text
+
+
+def bodies_of(text):
+    """Of each helper over a step, and of each answer that is no tactic alone: its variable, its body."""
+    bodies = {}
+    for block in blocks(text):
+        head = re.match(r"(?:abbrev )?([^\s:]+)\s*:\s*(?:\(c : tie\.[A-Z]|tie\.[A-Z])", re.sub(r"^(--.*\n)*", "", "\n".join(block)))
+        if not head:
+            continue
+        line = next((i for i, x in enumerate(block) if re.match(re.escape(head.group(1)) + r" [^:]*=", x)), None)
+        if line is None:
+            continue
+        left, body = "\n".join(block[line:]).split("=", 1)
+        if len(left.split()) == 2 or left.split()[2:] == ["κs"]:
+            bodies[head.group(1)] = (left.split()[1], body.strip())
+    return bodies
+
+
 def turn(crate, at, told):
     said = []
     function = Function(crate, told, said)
     with open(os.path.join(at, "Proof.antt"), encoding="utf-8") as f:
         text = f.read()
     uses, answers, invariants, helpers = [], [], [], []
+    bodies = bodies_of(text)
     for block in blocks(text):
         while len(block) > 1 and block[0].startswith("--") and any(x.startswith("use ") for x in block):
             block = block[1:]
@@ -159,7 +198,11 @@ def turn(crate, at, told):
                 else:
                     uses[-1] += "\n" + line
             continue
-        head = re.match(r"(?:abbrev )?(?:pub )?([^\s:]+)\s*:\s*(.*)", block[0])
+        first = next((i for i, x in enumerate(block) if not x.startswith("--")), 0)
+        head = re.match(r"(?:abbrev )?(?:pub )?([^\s:]+)\s*:\s*(.*)", block[first])
+        if head and head.group(1) in bodies and not head.group(2).startswith("tie.Need"):
+            continue
+        head = head if first == 0 else None
         if not head:
             helpers.append("\n".join(block))
             continue
@@ -189,20 +232,22 @@ def turn(crate, at, told):
             if body.strip() in ("search rules", "search needs"):
                 continue
             new = function.need(need.group(1)) or function.need(name)
+            if new is None and name == "same_length":
+                continue
             if new is None:
                 said.append(f"{name} (Need-{need.group(1)}): no such goal now, left out" + (" (settled)" if plain(name) in {plain(s) for s in function.settled} else ""))
                 answers.append(f"-- TODO no goal {name}: {' '.join(body.split())}")
                 continue
             if "κs" in left and re.search(r"κs", body):
                 said.append(f"{name}: κs is used")
-            body = PATH.sub(function.path, body)
+            body = PATH.sub(function.path, written_out(body, bodies))
             body = re.sub(r"not-(?:true|false) (?:[^\s()]+|\([^()]*\)) (c\.[\w.'-]+\.(?:true|false))-raw", r"\1", body)
             body = body.lstrip(" ")
             answers.append("\n".join([f"pub {new} : goal.{new}", *block[1:line], f"{new} c ={body if body.startswith(chr(10)) else ' ' + body}"]))
             continue
         helpers.append("\n".join(block))
     module = f"Rattle.{crate}.proofs." + os.path.relpath(at, os.path.join(ROOT, "crates", crate, "proofs")).replace("/", ".")
-    keep = [u for u in uses if not re.search(r"\.(Statement|Tie|Reads|Lts)\b|borrow\.Author", u)]
+    keep = [u for u in uses if not re.search(r"\.(Statement|Tie|Reads|Lts)\b|borrow\.Author\.Rules", u)]
     if any("rules" in a for a in answers + helpers):
         keep.insert(0, "use Rattle.std.proofs.Common.{rules}")
     words = "\n".join(answers + helpers + invariants)
