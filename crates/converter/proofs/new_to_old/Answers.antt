@@ -16,16 +16,16 @@ returns-in-Faulty c =
     fault_told_lem c.args.units.now (old_units (drop 1 c.args.d1.now)) (new_fault c.args.d1.now) c.refused.result c.new_fault.ensures c.in-Faulty.is c.refused.ensures
 
 pub slice_bounds-bytes-count : goal.slice_bounds-bytes-count
-slice_bounds-bytes-count c = omega (arith, ((new_ready_lem c.args.d1.now (check_none _ c.new_fault.ensures c.in_default.is)).there))
+slice_bounds-bytes-count c = omega (arith, (new_ready_lem c.args.d1.now (check_none _ c.new_fault.ensures c.in_default.is)).there)
 
 pub slice_bounds-bytes-start : goal.slice_bounds-bytes-start
-slice_bounds-bytes-start c = omega (arith, ((new_ready_lem c.args.d1.now (check_none _ c.new_fault.ensures c.in_default.is)).there))
+slice_bounds-bytes-start c = omega (arith, (new_ready_lem c.args.d1.now (check_none _ c.new_fault.ensures c.in_default.is)).there)
 
 pub overflow_mul-length : goal.overflow_mul-length
-overflow_mul-length c = record { fits = omega (arith, after-length c.args.d1.now, ((new_ready_lem c.args.d1.now (check_none _ c.new_fault.ensures c.in_default.is)).within)) }
+overflow_mul-length c = record { fits = omega (arith, after-length c.args.d1.now, (new_ready_lem c.args.d1.now (check_none _ c.new_fault.ensures c.in_default.is)).within) }
 
 pub overflow_add-length : goal.overflow_add-length
-overflow_add-length c = record { fits = omega (arith, after-length c.args.d1.now, ((new_ready_lem c.args.d1.now (check_none _ c.new_fault.ensures c.in_default.is)).within)) }
+overflow_add-length c = record { fits = omega (arith, after-length c.args.d1.now, (new_ready_lem c.args.d1.now (check_none _ c.new_fault.ensures c.in_default.is)).within) }
 
 pub returns-then-units-length : goal.returns-then-units-length
 unfolding new_to_old
@@ -35,7 +35,7 @@ returns-then-units-length c =
 pub pack-requires : goal.pack-requires
 pack-requires c =
     let d1 = c.args.d1.now in
-    (none_after d1 ((new_ready_lem c.args.d1.now (check_none _ c.new_fault.ensures c.in_default.is)).bytes), omega (arith, after-length d1, ((new_ready_lem c.args.d1.now (check_none _ c.new_fault.ensures c.in_default.is)).within)))
+    (none_after d1 (new_ready_lem c.args.d1.now (check_none _ c.new_fault.ensures c.in_default.is)).bytes, omega (arith, after-length d1, (new_ready_lem c.args.d1.now (check_none _ c.new_fault.ensures c.in_default.is)).within))
 
 pub returns : goal.returns
 unfolding new_to_old
