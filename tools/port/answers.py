@@ -79,6 +79,11 @@ class Function:
             return ".".join(["c", step, *rest])
         key = plain(step)
         known = self.arms.get(key, [])
+        if key.startswith("match") and rest and re.match(r"keys\d|rest", rest[0]):
+            others = sorted({arm for path, arm, field in known if field.endswith("-own") and arm.startswith("in-")})
+            if any(arm.startswith("in_default") for path, arm, field in known) and len(others) == 1 and rest[0] != "rest":
+                default = next(arm for path, arm, field in known if arm.startswith("in_default"))
+                return f"c.{default}.not-{others[0][3:]}"
         for length in range(len(rest), 0, -1):
             for path, arm, field in known:
                 if tuple(rest[:length]) == path:
