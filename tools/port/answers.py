@@ -154,7 +154,7 @@ def written_out(text, bodies):
     def out(m):
         var, body = bodies[m.group(1)]
         body = re.sub(r"(?<![\w.'-])" + re.escape(var) + r"(?![\w'-])", m.group(2), " ".join(body.split()))
-        alone = " " not in body or m.string[m.start() - 1:m.start()] == "(" and m.string[m.end():m.end() + 1] == ")"
+        alone = " " not in body or re.fullmatch(r"\([^()]*(?:\([^()]*\)[^()]*)*\)(?:\.[\w'-]+)+", body) or m.string[m.start() - 1:m.start()] == "(" and m.string[m.end():m.end() + 1] == ")"
         return body if alone else f"({body})"
 
     for _ in range(20):
