@@ -241,7 +241,6 @@ def turn(crate, at, told):
                 continue
             if new is None:
                 said.append(f"{name} (Need-{need.group(1)}): no such goal now, left out" + (" (settled)" if plain(name) in {plain(s) for s in function.settled} else ""))
-                answers.append(f"-- TODO no goal {name}: {' '.join(body.split())}")
                 continue
             if "κs" in left and re.search(r"κs", body):
                 said.append(f"{name}: κs is used")

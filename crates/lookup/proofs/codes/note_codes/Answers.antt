@@ -15,15 +15,11 @@ loop-i-init c = (keeps_same _ _, omega arith, omega arith, c.codes_from-from.ens
 pub returns-then-past-index : goal.returns-then-past-index
 returns-then-past-index c = c.loop-i.invariant.0
 
--- TODO no goal same-length-2: c.before.before.before.loop.invariant.0.long
-
 pub returns-then-notes-from : goal.returns-then-notes-from
 returns-then-notes-from c = c.loop-i.invariant.0
 
 pub loop-i-preserved : goal.loop-i-preserved
 loop-i-preserved c = (keeps-set _ _ (omega (arith, c.loop-i.invariant.3)) c.loop-i.invariant.0, c.record_for-at.ensures, simp length-set c.loop-i.invariant.2, c.loop-i.invariant.3, simp length-set c.loop-i.invariant.4)
-
--- TODO no goal same-length-3: c.before.loop.invariant.0.long
 
 pub returns : goal.returns
 returns c = c.loop-i.invariant.0

@@ -8,8 +8,6 @@ returns-then-units-lt-LONG c = (c.clear_sizes.ensures.0, λ f. c.clear_sizes.ens
 pub loop-i-init : goal.loop-i-init
 loop-i-init c = record { keeps = keeps_same _ _; place = omega (arith, c.sizes_from-at.ensures); sizes = λ f. c.clear_sizes.ensures.1 c.args.units.now c.args.ends.now }
 
--- TODO no goal same-length-2: (keeps-sizes c.before.before.before.before.before.before.before.before.clear-sizes.ensures.0 c.before.before.before.loop.invariant.keeps).long
-
 pub returns-then-ends-wide : goal.returns-then-ends-wide
 returns-then-ends-wide c = (keeps-sizes c.clear_sizes.ensures.0 c.loop-i.invariant.keeps, c.loop-i.invariant.sizes)
 
@@ -18,8 +16,6 @@ note_string-at-requires c = (c.requires, c.loop-i.invariant.place)
 
 pub loop-i-preserved : goal.loop-i-preserved
 loop-i-preserved c = strings_next c.loop-i.invariant c.note_string-at.ensures
-
--- TODO no goal same-length-3: (keeps-sizes c.before.before.before.before.before.before.clear-sizes.ensures.0 c.before.loop.invariant.keeps).long
 
 pub returns : goal.returns
 returns c = (keeps-sizes c.clear_sizes.ensures.0 c.loop-i.invariant.keeps, c.loop-i.invariant.sizes)

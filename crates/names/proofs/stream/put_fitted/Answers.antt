@@ -23,7 +23,5 @@ loop-left-smaller c = let f = bytes-step _ _ c.loop-left-test.true _ _ c.utf8_at
 pub loop-left-preserved : goal.loop-left-preserved
 loop-left-preserved c = let f = bytes-step _ _ c.loop-left-test.true _ _ c.utf8_at-character.ensures c.fitted_of-one.ensures in fitting-next c.loop-left.invariant f c.put_character-taken.ensures
 
--- TODO no goal same-length-2: c.before.loop.invariant.kept
-
 pub returns : goal.returns
 returns c = fitting-end c.loop-left.invariant c.loop-left-test.false

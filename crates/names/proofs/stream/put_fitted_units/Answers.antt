@@ -24,7 +24,5 @@ loop-left-smaller c = let f = units-step _ _ c.loop-left-test.true _ _ _ c.utf16
 pub loop-left-preserved : goal.loop-left-preserved
 loop-left-preserved c = let f = units-step _ _ c.loop-left-test.true _ _ _ c.utf16_at-character.ensures c.fitted_of-one.ensures in fitting-next c.loop-left.invariant f c.put_character-taken.ensures
 
--- TODO no goal same-length-2: c.before.loop.invariant.kept
-
 pub returns : goal.returns
 returns c = fitting-end c.loop-left.invariant c.loop-left-test.false
