@@ -16,7 +16,7 @@ use mir.Syntax.{w32}
 use mir.Val.{SFits, of_z, to_z}
 use mir.Facts.{to_z-of_z}
 use borrow.Author.Tests.{lt-ltb, le-ltb, le-leb, lt-leb, leb-true}
-use Rattle.foundation.specs.Choices.{if◌then◌else◌}
+use Rattle.std.specs.Prelude.{if◌then◌else◌}
 use Rattle.foundation.specs.Results.{d1_too_long, d2_too_long, string_ends, newer_version}
 use Rattle.foundation.proofs.ChoiceLaws.{if_ind, and_left, and_right}
 use Rattle.encoding.specs.Encoding.{unit_limit}

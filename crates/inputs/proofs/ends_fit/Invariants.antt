@@ -2,7 +2,7 @@ use mathlib.Core.Path.{◌≡◌}
 use mathlib.Core.Bool.{false}
 use Prim.Native.Nat.{◌-◌}
 use lib.ListN.{length, drop}
-use Rattle.foundation.specs.Choices.{if◌then◌else◌}
+use Rattle.std.specs.Prelude.{if◌then◌else◌}
 use Rattle.names.specs.Names.{ends_fit}
 use Rattle.inputs.proofs.ends_fit.Given as goal
 
