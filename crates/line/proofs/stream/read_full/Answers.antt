@@ -18,7 +18,9 @@ pieces a k n xs ys within fits =
     ∙ ap (λ l. take a xs ++ l) (take-append-le n ys (post_of a k xs) fits))
 
 pub loop-done-preserved : goal.loop-done-preserved
-loop-done-preserved g c =
-    (search (rules, overwrites), search (rules, overwrites),
-        subst (Consumes _ _) (pieces c.loop-done.done _ c.in-Ok.count c.loop-done.area c.read.new.buf c.loop-done.invariant.1 c.in-Ok.ensures.bound.0)
-        (Consumes-trans _ _ _ _ _ c.loop-done.invariant.2 c.in-Ok.ensures.bytes.0))
+loop-done-preserved g c = (
+  search (rules, overwrites),
+  search (rules, overwrites),
+  subst (Consumes _ _) (pieces c.loop-done.done _ c.in-Ok.count c.loop-done.area c.read.new.buf c.loop-done.invariant.1 c.in-Ok.ensures.bound.0)
+      (Consumes-trans _ _ _ _ _ c.loop-done.invariant.2 c.in-Ok.ensures.bytes.0),
+)
