@@ -79,14 +79,19 @@ uses_are 'by code' ' low'
 refused 'lists io' python3 -B "$uses/tools/crate_uses.py" --check
 printf '// low::f\nuse io::write;\n' > "$uses/crates/high/src/lib.rt"
 uses_are 'not by comments' ' io'
-echo 'use Rattle·low.specs.F.{f} -- Rattle·check' > "$uses/crates/high/proofs/Lib.antt"
+printf 'use std::{io, os::unix};\nfn g() { io::write(); os::h(); }\n' > "$uses/crates/high/src/lib.rt"
+uses_are "not by names of std's modules" ''
+printf 'use std::low;\nuse io::write;\nfn g() { low::f(); }\n' > "$uses/crates/high/src/lib.rt"
+uses_are 'by one name of two' ' io'
+printf '// low::f\nuse io::write;\n' > "$uses/crates/high/src/lib.rt"
+echo 'use Rattle.low.specs.F.{f} -- Rattle.check' > "$uses/crates/high/proofs/Lib.antt"
 uses_are 'by a proof' ' low io'
 python3 -B "$uses/tools/crate_uses.py" --check > "$here/given" || { echo 'crate_uses: refused as it should be'; failed=1; }
-echo 'low:' > "$uses/crates.txt"
+echo 'low staticlib:' > "$uses/crates.txt"
 echo 'high: # nothing' >> "$uses/crates.txt"
 refused 'its text names low' python3 -B "$uses/tools/crate_uses.py" --check
 python3 -B "$uses/tools/crate_uses.py" --write
-printf 'low:\nhigh: low io # nothing\n' > "$here/expected"
+printf 'low staticlib:\nhigh: low io # nothing\n' > "$here/expected"
 same 'crate_uses --write' "$here/expected" "$uses/crates.txt"
 
 # public.py: what a crate above names stays public, and what nothing names is told, one wrong thing at a time
@@ -108,7 +113,7 @@ echo 'pub fn spare() {}' >> "$public/crates/low/src/lib.rt"
 refused 'low::spare (fn): no other crate names it; it can be private' public_check
 echo '// low::spare' >> "$public/crates/high/src/lib.rt"
 refused 'low::spare (fn): no other crate names it' public_check
-echo 'use Rattle·low.proofs.spare.Reads as reads' > "$public/crates/high/proofs/Lib.antt"
+echo 'use Rattle.low.proofs.spare.Reads as reads' > "$public/crates/high/proofs/Lib.antt"
 refused 'low::spare is public, and the table' public_check
 sed -i 's/^| `named`.*/&\n| `spare` | - |/' "$public/docs/TRACE.md"
 public_check > "$here/given" || { echo 'public.py: a proof names spare'; cat "$here/given"; failed=1; }
