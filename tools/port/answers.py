@@ -79,6 +79,11 @@ class Function:
             return ".".join(["c", step, *rest])
         key = plain(step)
         known = self.arms.get(key, [])
+        if key.startswith("match") and rest and re.match(r"keys\d|rest", rest[0]):
+            others = sorted({arm for path, arm, field in known if field.endswith("-own") and arm.startswith("in-")})
+            if any(arm.startswith("in_default") for path, arm, field in known) and len(others) == 1 and rest[0] != "rest":
+                default = next(arm for path, arm, field in known if arm.startswith("in_default"))
+                return f"c.{default}.not-{others[0][3:]}"
         for length in range(len(rest), 0, -1):
             for path, arm, field in known:
                 if tuple(rest[:length]) == path:
@@ -154,7 +159,7 @@ def written_out(text, bodies):
     def out(m):
         var, body = bodies[m.group(1)]
         body = re.sub(r"(?<![\w.'-])" + re.escape(var) + r"(?![\w'-])", m.group(2), " ".join(body.split()))
-        alone = " " not in body or m.string[m.start() - 1:m.start()] == "(" and m.string[m.end():m.end() + 1] == ")"
+        alone = " " not in body or re.fullmatch(r"\([^()]*(?:\([^()]*\)[^()]*)*\)(?:\.[\w'-]+)+", body) or m.string[m.start() - 1:m.start()] == "(" and m.string[m.end():m.end() + 1] == ")"
         return body if alone else f"({body})"
 
     for _ in range(20):
@@ -236,7 +241,6 @@ def turn(crate, at, told):
                 continue
             if new is None:
                 said.append(f"{name} (Need-{need.group(1)}): no such goal now, left out" + (" (settled)" if plain(name) in {plain(s) for s in function.settled} else ""))
-                answers.append(f"-- TODO no goal {name}: {' '.join(body.split())}")
                 continue
             if "κs" in left and re.search(r"κs", body):
                 said.append(f"{name}: κs is used")

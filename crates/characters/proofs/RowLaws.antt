@@ -17,7 +17,7 @@ use Rattle.characters.specs.Characters.{between, Range, ◌to◌, in_range, trai
 use Rattle.characters.specs.told.CharactersTold.{LeadByte, lead_byte, lead_byte_of, ranges, go_on, utf8_at}
 use Rattle.characters.specs.declared.Character.TheVariants.{Read, End}
 use Rattle.characters.proofs.TestLaws.{in_between, bounds, above, under}
-use Rattle.foundation.proofs.EveryLaws.{every, every_all, some-map}
+use Rattle.foundation.proofs.EveryLaws.{every, every_all, some_map}
 use Rattle.characters.proofs.Utf8Laws.{lead_of_lem}
 use Rattle.characters.proofs.StepLaws.{alone, lead_found}
 
@@ -76,7 +76,7 @@ leading-small l b t r =
 row_small : (b : ℕ) → IfSome Small (lead_byte_of b)
 unfolding lead_byte_of
 row_small b =
-    some-map (λ l. T (small l) × T (in_range l.first b)) Small (λ l. lead_byte (leading (length l.following) b) l.following) (lead_of b leads)
+    some_map (λ l. T (small l) × T (in_range l.first b)) Small (λ l. lead_byte (leading (length l.following) b) l.following) (lead_of b leads)
     (lead_found (λ l. T (small l)) b leads (every_all small leads tt)) λ l p. leading-small l b p.0 p.1
 
 length-ranges : (k low high : ℕ) → length (ranges k low high) ≡ k

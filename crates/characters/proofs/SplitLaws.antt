@@ -20,7 +20,7 @@ use Rattle.characters.specs.Splits.{Halves, halves, split_at, substring_of}
 use Rattle.characters.specs.told.CharactersTold.{utf8_at}
 use Rattle.characters.specs.declared.Character.TheVariants.{Read, End}
 use Rattle.characters.proofs.TestLaws.{below}
-use Rattle.foundation.proofs.EveryLaws.{map_same, map_twice, some-map}
+use Rattle.foundation.proofs.EveryLaws.{map_same, map_twice, some_map}
 use Rattle.characters.proofs.StepLaws.{alone, Joins, split_joins}
 use Rattle.characters.proofs.LengthLaws.{step_most, width_most, bytes_cons}
 use Rattle.characters.proofs.CharacterLaws.{after_drops, from_first, utf8-inside, utf8-none}
@@ -199,14 +199,14 @@ within-after : (j n : ℕ) (bs : List ℕ) → IfSome (λ a. a ≤ length bs) (p
 unfolding place_after
 within-after j n [] = if_ind (IfSome λ a. a ≤ 0) (eqb n 0) (λ e. le_refl 0) λ e. tt
 within-after (suc j) n (b ∷ bs) =
-    some-map (λ a. a ≤ length bs) (λ a. a ≤ suc (length bs)) suc (place_after j n bs) (within-after j n bs) λ a h. omega arith
+    some_map (λ a. a ≤ length bs) (λ a. a ≤ suc (length bs)) suc (place_after j n bs) (within-after j n bs) λ a h. omega arith
 within-after zero n (b ∷ bs) =
     let P : Option ℕ → Type 0 = IfSome λ a. a ≤ suc (length bs) in
     let c = (step b bs).character in
     let p = place_after (step b bs).after (n - width c) bs in
     if_ind P (eqb n 0) (λ e. omega arith) λ e.
     if_ind P (ltb n (width c)) (λ e. tt) λ e.
-    some-map (λ a. a ≤ length bs) (λ a. a ≤ suc (length bs)) suc p (within-after (step b bs).after (n - width c) bs) λ a h. omega arith
+    some_map (λ a. a ≤ length bs) (λ a. a ≤ suc (length bs)) suc p (within-after (step b bs).after (n - width c) bs) λ a h. omega arith
 
 pub place-within : (bs : List ℕ) (n : ℕ) → IfSome (λ a. a ≤ length bs) (place_of n bs)
 place-within bs n = within-after 0 n bs
@@ -261,7 +261,7 @@ split_bytes n (c ∷ t) =
     let P : ℕ → Halves → Type 0 = λ k h. length (utf8 h.before) ≡ k in
     if_ind (IfSome (P n)) (eqb n 0) (λ e. sym (eqb-true n 0 e)) λ e.
     if_ind (IfSome (P n)) (ltb n (width c)) (λ e. tt) λ e.
-    some-map (P (n - width c)) (P n) _ (split_at (n - width c) t) (split_bytes (n - width c) t) λ h p.
+    some_map (P (n - width c)) (P n) _ (split_at (n - width c) t) (split_bytes (n - width c) t) λ h p.
     bytes_cons c h.before ∙ omega (arith, ltb-false)
 
 module _ (bs : List ℕ) (n : ℕ) {a : ℕ} (e : place_of n bs ≡ some a) where

@@ -10,7 +10,7 @@ use Rattle.foundation.specs.Texts.{Text}
 use Rattle.foundation.proofs.ChoiceLaws.{if_ind}
 use Rattle.characters.specs.Characters.{width, in_range, Lead, leads, lead_of, Step, step, step_by, replacement}
 use Rattle.characters.specs.Splits.{Halves, split_at}
-use Rattle.foundation.proofs.EveryLaws.{some-map}
+use Rattle.foundation.proofs.EveryLaws.{some_map}
 
 -- A step in UTF-8, by what holds of a lone U+FFFD and of what each row of the table gives.
 abbrev pub alone : Step
@@ -41,4 +41,4 @@ split_joins n [] = if_ind (IfSome (Joins [])) (eqb n 0) (λ e. refl) λ e. tt
 split_joins n (c ∷ t) =
     if_ind (IfSome (Joins (c ∷ t))) (eqb n 0) (λ e. refl) λ e.
     if_ind (IfSome (Joins (c ∷ t))) (ltb n (width c)) (λ l. tt) λ l.
-    some-map (Joins t) (Joins (c ∷ t)) _ (split_at (n - width c) t) (split_joins (n - width c) t) λ h. ap (λ (u : Text). c ∷ u)
+    some_map (Joins t) (Joins (c ∷ t)) _ (split_at (n - width c) t) (split_joins (n - width c) t) λ h. ap (λ (u : Text). c ∷ u)

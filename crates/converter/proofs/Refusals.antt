@@ -88,6 +88,8 @@ old_numbers area d1 = go (old_fault d1) (old_case d1)
     go (some (unit_above255 unit)) (old_above w t n a) =
         later 6 1 (λ x. omega arith) (λ h. omega arith)
         (later 6 5 (λ x. omega arith) t (later 6 15 (λ x. omega arith) n (here 6 6 refl (unit, a))))
+    go (some first_unit_zero) o = elim o [ ]
+    go (some units_area_too_short) o = elim o [ ]
     go none (old_ready r) =
         room-number area (byte_string_marker ∷ unpacked d1) (1 + 7 * length d1 / 8) (omega (arith, length_marked d1)) (OldToNewNumber area d1)
         (λ h. ready r 12 (λ x. omega arith) (λ x. omega arith) (λ x. omega arith) (λ x. omega arith) (here 12 12 refl h))
@@ -127,6 +129,7 @@ new_numbers area d1 = go (new_fault d1) (new_case d1)
     go (some first_unit_zero) (new_ones w t m n b o) =
         marked 16 w t m n (λ x. omega arith) (λ x. omega arith) (λ x. omega arith)
         (later 16 6 (λ x. omega arith) (none_some b) (here 16 16 refl o))
+    go (some units_area_too_short) o = elim o [ ]
     go none (new_ready r) =
         room-number area (old_units (drop 1 d1)) ((8 * (length d1 - 1) + 6) / 7) (omega (arith, length-packed (drop 1 d1), length-drop 1 d1))
         (NewToOldNumber area d1)
@@ -206,6 +209,8 @@ old_kept area d1 = kept area d1 (byte_string_marker ∷ unpacked d1) (old_fault 
     go (some nothing_there) unit (old_empty w z) e = cc
     go (some wrong_form) unit (old_marked w t m) e = cc
     go (some (unit_above255 u)) unit (old_above w t n a) e = let f : u ≡ unit = cc in a ∙ ap some f
+    go (some first_unit_zero) unit o e = elim o [ ]
+    go (some units_area_too_short) unit o e = elim o [ ]
     go none unit (old_ready r) e = cc
 
 pub new_kept : (area d1 : List ℕ) → AnswerKept area d1 (new_to_old area d1)
@@ -219,4 +224,5 @@ new_kept area d1 = kept area d1 (old_units (drop 1 d1)) (new_fault d1) (λ unit 
     go (some wrong_form) unit (new_unmarked w t m) e = cc
     go (some (unit_above255 u)) unit (new_above w t m n a) e = let f : u ≡ unit = cc in a ∙ ap some f
     go (some first_unit_zero) unit (new_ones w t m n b o) e = cc
+    go (some units_area_too_short) unit o e = elim o [ ]
     go none unit (new_ready r) e = cc

@@ -2,14 +2,12 @@
 -- Assumes nothing.
 use mathlib.Core.Path.{◌≡◌, refl, ap, sym, subst, ◌∙◌}
 use mathlib.Core.Bool.{Bool, true, false}
-use mathlib.Core.List.{List, [], ◌∷◌, ◌++◌, append-nil}
+use mathlib.Core.List.{List, ◌++◌, append-nil}
 use mathlib.Core.Option.{Option}
 use Prim.Native.Nat.{ℕ, ◌+◌, ◌-◌, ◌*◌, ◌^◌, ◌≤◌, ◌<◌}
 use native.Mathlib.Nat.{zero-add}
 use native.Mathlib.Omega.{arith}
 use borrow.Rule.Slice.PartMut.{put_mid, mid_of, post_of, Post-is, take_put, same_len_mid}
-use package.types.Run.{OneOf, miss}
-use denote.Enum.Declared.{tag_of}
 use lib.Dec.{eqb}
 use lib.ListN.{length, take, drop, get_or, length-append, length-take, length-drop}
 use lib.Seq.{length-take-le, take_all, drop-append_seam, drop-length, get_or-take, get_or-drop, take-take, take-append_seam}
@@ -32,7 +30,6 @@ use Rattle.names.specs.Names.{Names, ends_fit}
 use Rattle.names.specs.told.Index.{IndexOf, IndexTold}
 use Rattle.names.specs.declared.records.RecordIndex.{RecordIndex}
 use Rattle.names.specs.declared.records.RecordIndex.TheVariants as records
-use Rattle.names.specs.contracts.records.RecordIndex as record-index
 use Rattle.lookup.specs.told.Lookups.{NotesOf}
 use Rattle.lookup.specs.told.Strings.{codes_from, sizes_from, Keeps, SizesOf}
 use Rattle.lookup.proofs.LookupLaws.{index_longer}
@@ -45,14 +42,12 @@ use Rattle.schema.specs.Members.{after_table, body_in}
 use Rattle.schema.specs.told.TableTold.{TypeIndexTold}
 use Rattle.schema.specs.declared.table.TypeIndex.{TypeIndex}
 use Rattle.schema.specs.declared.table.TypeIndex.TheVariants as types
-use Rattle.schema.specs.contracts.table.TypeIndex as type-index
 use Rattle.declarations.specs.Payload.{body_of, payload}
 use Rattle.declarations.specs.told.PayloadTold.{body_from, BodyAt, BodyOpened, NotedOpened, OpenedAt, OpenedTold, LentTold}
 use Rattle.schema.specs.told.SchemaTold.{EntriesOf}
 use Rattle.schema.specs.declared.Tables.{Tables}
 use Rattle.declarations.specs.declared.payload.Opened.{Opened}
 use Rattle.declarations.specs.declared.payload.Opened.TheVariants as opened
-use Rattle.declarations.specs.contracts.payload.Opened as opened-told
 use Rattle.declarations.proofs.RoomLaws.{bodies_few, inner_few, records-many}
 
 -- A body by its type table, of a class and of a package.
@@ -73,15 +68,17 @@ pub body-after : (kind : ℕ) (names : Names) (m : Message) (l : ℕ) {table : T
 body-after kind names m l = table-then names m l (eqb kind 1)
 
 -- What neither gives its notes nor is refused had no room.
-pub types-left : (r : TypeIndex) → OneOf (1 ∷ 2 ∷ []) (tag_of type-index.the_type r) → OneOf (0 ∷ 1 ∷ []) (tag_of type-index.the_type r) → r ≡ types.NoRoom
-types-left (types.Types n first) k l = absurd (miss (1 ∷ 2 ∷ []) 0 tt k)
+pub types-left : (r : TypeIndex) → ((count first : ℕ) → r ≡ types.Types count first → ⊥) → ((error : WireError) → r ≡ types.Refused error → ⊥)
+    → r ≡ types.NoRoom
+types-left (types.Types n first) k l = absurd (k n first refl)
 types-left types.NoRoom k l = refl
-types-left (types.Refused error) k l = absurd (miss (0 ∷ 1 ∷ []) 2 tt l)
+types-left (types.Refused error) k l = absurd (l error refl)
 
-pub records-left : (r : RecordIndex) → OneOf (1 ∷ 2 ∷ []) (tag_of record-index.the_type r) → OneOf (0 ∷ 1 ∷ []) (tag_of record-index.the_type r) → r ≡ records.NoRoom
-records-left (records.Records count) k l = absurd (miss (1 ∷ 2 ∷ []) 0 tt k)
+pub records-left : (r : RecordIndex) → ((count : ℕ) → r ≡ records.Records count → ⊥) → ((error : WireError) → r ≡ records.Refused error → ⊥)
+    → r ≡ records.NoRoom
+records-left (records.Records count) k l = absurd (k count refl)
 records-left records.NoRoom k l = refl
-records-left (records.Refused error) k l = absurd (miss (0 ∷ 1 ∷ []) 2 tt l)
+records-left (records.Refused error) k l = absurd (l error refl)
 
 -- The body, cut.
 module _ (bytes : List ℕ) (at count : ℕ) (entries : List ℕ) (x : Checked) (t : CheckedTold (cut (◌from◌ at (take (length bytes - at) (drop at bytes)))) x) where
@@ -321,7 +318,8 @@ module _ (bytes d2 ends notes : List ℕ) (limit : ℕ) (c : limit ≡ codes_fro
 
 -- Where the tables aren't noted, that is the answer.
 pub lent_stopped : (bytes d2 ends notes : List ℕ) (limit : ℕ) → limit ≡ codes_from (length notes) → (part : List ℕ) → length part ≡ length (take limit notes)
-    → (r : Opened) → OneOf (1 ∷ 2 ∷ []) (tag_of opened-told.the_type r) → OpenedTold bytes part r → LentTold bytes d2 ends (part ++ drop limit notes) r
-lent_stopped bytes d2 ends notes limit c part l (opened.Body at tables) k t = absurd (miss (1 ∷ 2 ∷ []) 0 tt k)
+    → (r : Opened) → ((at : ℕ) (tables : Tables) → r ≡ opened.Body at tables → ⊥) → OpenedTold bytes part r
+    → LentTold bytes d2 ends (part ++ drop limit notes) r
+lent_stopped bytes d2 ends notes limit c part l (opened.Body at tables) k t = absurd (k at tables refl)
 lent_stopped bytes d2 ends notes limit c part l (opened.Refused error) k t = t
 lent_stopped bytes d2 ends notes limit c part l opened.NoRoom k t = lent-no-room bytes d2 ends notes limit c part l opened.NoRoom t refl

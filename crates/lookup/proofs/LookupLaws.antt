@@ -24,7 +24,6 @@ use Rattle.record_names.specs.told.Named.{NamedIs, ClassIs, NoteTold}
 use Rattle.record_names.specs.told.Note.{noted, noted_class, noted_as}
 use Rattle.record_names.specs.told.Steps.{extent_of}
 use Rattle.names.specs.declared.name.Name.{Name}
-use Rattle.names.specs.declared.records.Record.{Record}
 use Rattle.lookup.specs.declared.Served.{Served}
 use Rattle.lookup.specs.declared.Served.TheVariants as found
 use Rattle.record_names.specs.declared.Decided.{Decided}

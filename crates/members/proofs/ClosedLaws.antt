@@ -5,8 +5,6 @@ use mathlib.Core.List.{List, [], ◌∷◌, ◌++◌, append-nil}
 use mathlib.Core.Option.{Option, none, some}
 use Prim.Native.Nat.{ℕ, ◌+◌, ◌-◌, ◌*◌, ◌^◌, ◌≤◌, ◌<◌}
 use native.Mathlib.Omega.{arith}
-use types.Run.{OneOf, miss}
-use denote.Enum.Declared.{tag_of}
 use lib.ListN.{length, take, drop, length-take, length-drop}
 use lib.Seq.{sets, drop-drop, take-append_seam, length-take-le}
 use Rattle.foundation.specs.Choices.{map_option}
@@ -38,7 +36,6 @@ use Rattle.schema.specs.declared.Listed.{Listed}
 use Rattle.schema.specs.declared.Listed.TheVariants as listed
 use Rattle.schema.specs.declared.Picked.{Picked}
 use Rattle.schema.specs.declared.Picked.TheVariants as picked
-use Rattle.schema.specs.contracts.Picked.{the_type}
 use Rattle.schema.proofs.CountLaws.{within_both, affords-less, affords-after, picked_within}
 use Rattle.schema.proofs.StandsLaws.{part-stands, stands-entry}
 use Rattle.schema.proofs.ListLaws.{Looping, loop-end, member-in, member-affords, loop-refused, loop-dropped, loop-kept}
@@ -152,9 +149,9 @@ module _ {payload d2 msg : List ℕ} {base : ℕ} {s : State} (st : Stands paylo
 
 -- One that is skipped or refused, and so is not closed.
 pub closed_unkept : {D : Type 0} (read : Scope → Message → Read (Option D)) (rows closed : D → List Row) {n n' : ℕ} {e : Lent} {msg : List ℕ} {base : ℕ}
-    {s : State} (r : Picked) {S S₁ T T₁ : List ℕ} → OneOf (1 ∷ 2 ∷ []) (tag_of the_type r) → MemberTold read rows n e msg base s r S S₁ T T₁
+    {s : State} (r : Picked) {S S₁ T T₁ : List ℕ} → ((state : State) → r ≡ picked.Kept state → ⊥) → MemberTold read rows n e msg base s r S S₁ T T₁
     → MemberTold read closed n' e msg base s r S S₁ T T₁
-closed_unkept read rows closed (picked.Kept s₁) h t = absurd (miss (1 ∷ 2 ∷ []) 0 tt h)
+closed_unkept read rows closed (picked.Kept s₁) h t = absurd (h s₁ refl)
 closed_unkept read rows closed picked.Dropped h t = record { spends = tt; is = t.is }
 closed_unkept read rows closed (picked.Refused stop) h t = record { spends = tt; is = t.is }
 

@@ -2,12 +2,10 @@
 -- Assumes nothing.
 use mathlib.Core.Path.{◌≡◌, refl, ap, subst, ◌∙◌}
 use mathlib.Core.Bool.{true, false}
-use mathlib.Core.List.{List, [], ◌∷◌}
+use mathlib.Core.List.{List}
 use mathlib.Core.Option.{Option, none, some}
 use Prim.Native.Nat.{ℕ, ◌+◌, ◌-◌}
 use native.Mathlib.Omega.{arith}
-use types.Run.{OneOf, miss}
-use denote.Enum.Declared.{tag_of}
 use lib.ListN.{take, drop}
 use Rattle.foundation.specs.Choices.{if_some, is_some, map_option, or_else, both_of}
 use Rattle.foundation.specs.Results.{ok, ◌from◌}
@@ -29,7 +27,6 @@ use Rattle.members.specs.declared.signatures.Signed.{Signed}
 use Rattle.members.specs.declared.signatures.Signed.TheVariants as answer
 use Rattle.members.specs.declared.signatures.PropertyNames.{PropertyNames}
 use Rattle.members.specs.declared.signatures.PropertySigned.TheVariants as property
-use Rattle.messages.specs.contracts.Embedded.{the_type}
 use Rattle.schema.proofs.NamedLaws.{absent-name}
 
 -- A name, or another if it is absent.
@@ -96,10 +93,10 @@ module _ (payload units : List ℕ) (c : Scope) where
       field-inline g h = let i = here t g in rw i.2 (field-of i.0 (h i.0 i.1) l)
 
     -- without a message, or with a broken one
-    pub field-absent : (x : Embedded) → EmbeddedTold base msg JvmPropertySignature-field x → OneOf (1 ∷ 2 ∷ []) (tag_of the_type x) → (l : ℕ)
+    pub field-absent : (x : Embedded) → EmbeddedTold base msg JvmPropertySignature-field x → ((start end : ℕ) → x ≡ embedded.Inline start end → ⊥) → (l : ℕ)
         → (n : SignatureNames) → n.name.source ≡ 0 → field_in c m l ≡ ok (signature_by payload units n, l)
     unfolding field_in
-    field-absent (embedded.Inline a b) t o l n h = absurd (miss (1 ∷ 2 ∷ []) 0 tt o)
+    field-absent (embedded.Inline a b) t o l n h = absurd (o a b refl)
     field-absent embedded.Nothing t o l n h = rw (here t refl, absent-name payload units n.name h)
     field-absent (embedded.Refused error) t o l n h = rw (here t refl, absent-name payload units n.name h)
 

@@ -3,7 +3,7 @@
 use mathlib.Core.Path.{◌≡◌, refl, ap}
 use mathlib.Core.Bool.{Bool, ◌&&◌}
 use mathlib.Core.List.{[], ◌∷◌, ◌++◌}
-use Prim.Native.Nat.{ℕ, ◌+◌, ◌-◌, ◌*◌, ◌≤◌}
+use Prim.Native.Nat.{ℕ, ◌*◌, ◌≤◌}
 use Prim.Native.String.{String}
 use native.Mathlib.Nat.{le_refl}
 use native.Mathlib.Omega.{arith}
@@ -17,7 +17,7 @@ use Rattle.characters.specs.Characters.{is_scalar, width, utf8}
 use Rattle.characters.proofs.LengthLaws.{AtMost, InBytes, width_most, bytes_cons, bytes-append, bytes_most, from_utf8-length}
 use Rattle.foundation.proofs.EveryLaws.{every_all, all-at, some_map, some_weaken}
 use Rattle.names.specs.Records.{Record, predefined_strings, predefined_text, base_text, substituted, replace_of, dotted, dollars_dotted, operated, text_of}
-use Rattle.names.specs.Names.{Names, string, unwrapped, qualified_name}
+use Rattle.names.specs.Names.{Names, unwrapped, qualified_name}
 use Rattle.names.specs.told.Name.{turned, dropped}
 use Rattle.names.proofs.StepLaws.{PartOf, unwrapped-part, dropped-part, operated-is, base_ind, text-keeps, qualified-keeps}
 

@@ -1,7 +1,7 @@
 -- Names whose size is noted, written.
 -- Assumes nothing.
-use mathlib.Core.Path.{◌≡◌, refl, ap, sym, ◌∙◌}
-use mathlib.Core.Bool.{Bool, true, false}
+use mathlib.Core.Path.{◌≡◌, ap, sym, ◌∙◌}
+use mathlib.Core.Bool.{true}
 use mathlib.Core.List.{List, map}
 use mathlib.Core.Option.{Option, some}
 use Prim.Native.Nat.{ℕ, ◌+◌, ◌-◌, ◌≤◌, ◌<◌}
@@ -11,13 +11,12 @@ use lib.Seq.{sets}
 use Rattle.foundation.specs.Texts.{Text}
 use Rattle.characters.specs.Characters.{from_utf8, utf8}
 use Rattle.characters.specs.told.Plain.{is_ascii, shown}
-use Rattle.names.specs.told.Name.{source_text, fitted, is_measured}
+use Rattle.names.specs.told.Name.{fitted, is_measured}
 use Rattle.names.specs.told.Stream.{changed, changed_bytes, source_bytes, NoneReplaced, PutText}
-use Rattle.names.specs.declared.name.Name.{Name}
 use Rattle.names.specs.declared.name.Change.{Change}
 use Rattle.names.proofs.AsciiLaws.{bytes-bytes}
 use Rattle.names.proofs.FittedLaws.{fitted-bytes, fitted-same}
-use Rattle.names.proofs.NameLaws.{source-fitted, source-there}
+use Rattle.names.proofs.NameLaws.{source-fitted}
 use Rattle.names.proofs.WidthLaws.{put-past}
 
 -- Copied at once: characters below 128, of which none is replaced.

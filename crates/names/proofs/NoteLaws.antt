@@ -4,12 +4,10 @@ use mathlib.Core.Path.{◌≡◌, refl, ap, sym, ◌∙◌, subst}
 use mathlib.Core.Logic.{◌⊎◌, inl, inr}
 use mathlib.Core.List.{List, [], ◌∷◌, ◌++◌, map, append-nil, append_assoc}
 use mathlib.Core.Option.{some}
-use Prim.Native.Nat.{ℕ, zero, suc, ◌+◌, ◌-◌, ◌*◌, ◌/◌, ◌%◌, ◌^◌, ◌≤◌, ◌<◌}
+use Prim.Native.Nat.{ℕ, zero, suc, ◌+◌, ◌-◌, ◌*◌, ◌/◌, ◌^◌, ◌≤◌, ◌<◌}
 use native.Mathlib.Nat.{zero-add, le_refl}
 use native.Mathlib.Numerals.{add-one}
 use native.Mathlib.Omega.{arith}
-use types.Run.{OneOf, miss}
-use denote.Enum.Declared.{tag_of}
 use lib.ListN.{length, drop, set, get_or, get_elem?, length-append, length-set, length-drop}
 use lib.Seq.{get_or_at, get_or-set_same, get_or-set_other, take_all}
 use Rattle.foundation.specs.Results.{Res, ok, refused, ◌>>=◌, Part, ◌from◌}
@@ -31,7 +29,6 @@ use Rattle.names.specs.Records.{Record, record_of, served}
 use Rattle.names.specs.Names.{records_of}
 use Rattle.names.specs.told.Index.{sums_from, ranges_of, packed_places, start_of, end_of, served_from, Sums, RecordAt, IndexOf, NotedTold, IndexTold}
 use Rattle.names.specs.declared.records.RecordIndex.{RecordIndex}
-use Rattle.names.specs.contracts.records.RecordIndex.{the_type}
 use Rattle.names.specs.declared.records.RecordIndex.TheVariants.{Records, NoRoom, Refused}
 
 -- One more at the end of a list.
@@ -335,9 +332,9 @@ module _ (bytes : List ℕ) (start : ℕ) (m : Message) (w : cut (rest_of 0 byte
           rw (noted.1, l, p)
 
 -- Where not all records are noted, that is the answer.
-pub index_stopped : (bytes : List ℕ) (start : ℕ) (m : Message) (notes : List ℕ) (r : RecordIndex) → OneOf (1 ∷ 2 ∷ []) (tag_of the_type r)
+pub index_stopped : (bytes : List ℕ) (start : ℕ) (m : Message) (notes : List ℕ) (r : RecordIndex) → ((count : ℕ) → r ≡ Records count → ⊥)
     → NotedTold bytes start m notes r → IndexTold bytes start m notes r
 unfolding records_of
-index_stopped bytes start m notes (Records count) k t = absurd (miss (1 ∷ 2 ∷ []) 0 tt k)
+index_stopped bytes start m notes (Records count) k t = absurd (k count refl)
 index_stopped bytes start m notes NoRoom k t = t
 index_stopped bytes start m notes (Refused error) k t = let l : messages StringTableTypes-record m ≡ wire_refused error = t in rw l

@@ -1,12 +1,10 @@
 -- The two passes over d1: decoded, opened, measured, answered.
 -- Assumes nothing.
 use mathlib.Core.Path.{◌≡◌, refl, ap, sym, subst, ◌∙◌}
-use mathlib.Core.List.{List, [], ◌∷◌}
+use mathlib.Core.List.{List}
 use mathlib.Core.Option.{some}
 use Prim.Native.Nat.{ℕ, ◌≤◌}
 use native.Mathlib.Omega.{arith}
-use types.Run.{OneOf, miss}
-use denote.Enum.Declared.{tag_of}
 use lib.ListN.{length, take}
 use Rattle.foundation.specs.Results as Results
 use Rattle.foundation.specs.Results.{Res, ok, refused, Cause}
@@ -32,7 +30,6 @@ use Rattle.declarations.specs.declared.body.Body.{Body}
 use Rattle.declarations.specs.declared.body.Body.TheVariants as body
 use Rattle.declarations.specs.declared.payload.Opened.{Opened}
 use Rattle.declarations.specs.declared.payload.Opened.TheVariants as opened
-use Rattle.declarations.specs.contracts.payload.Opened as opened-type
 use Rattle.inputs.specs.told.OutcomesTold.{RefusedAs}
 use Rattle.inputs.specs.declared.outcome.Outcome.{Outcome}
 use Rattle.passes.specs.told.AreaTold.{strings, InLimits, start, MeasuredAt}
@@ -43,20 +40,21 @@ use Rattle.passes.specs.declared.Reply.{Reply}
 use Rattle.passes.specs.declared.Measured.{Measured}
 use Rattle.passes.specs.declared.FirstPass.{FirstPass}
 use Rattle.passes.specs.declared.FirstPass.TheVariants as first
-use Rattle.passes.specs.contracts.FirstPass as first-type
 use Rattle.passes.proofs.TaskLaws.{reply_refused}
 use Rattle.passes.specs.declared.Passed.{Passed}
 use Rattle.passes.specs.declared.Passed.TheVariants as passed
 
 -- What neither gives what was asked for nor is refused had no room.
-pub opened-left : (r : Opened) → OneOf (1 ∷ 2 ∷ []) (tag_of opened-type.the_type r) → OneOf (0 ∷ 2 ∷ []) (tag_of opened-type.the_type r) → r ≡ opened.NoRoom
-opened-left (opened.Body at tables) k l = absurd (miss (1 ∷ 2 ∷ []) 0 tt k)
-opened-left (opened.Refused error) k l = absurd (miss (0 ∷ 2 ∷ []) 1 tt l)
+pub opened-left : (r : Opened) → ((at : ℕ) (tables : Tables) → r ≡ opened.Body at tables → ⊥) → ((error : WireError) → r ≡ opened.Refused error → ⊥)
+    → r ≡ opened.NoRoom
+opened-left (opened.Body at tables) k l = absurd (k at tables refl)
+opened-left (opened.Refused error) k l = absurd (l error refl)
 opened-left opened.NoRoom k l = refl
 
-pub first-left : (r : FirstPass) → OneOf (1 ∷ 2 ∷ []) (tag_of first-type.the_type r) → OneOf (0 ∷ 2 ∷ []) (tag_of first-type.the_type r) → r ≡ first.NoRoom
-first-left (first.Done measured) k l = absurd (miss (1 ∷ 2 ∷ []) 0 tt k)
-first-left (first.Refused stop) k l = absurd (miss (0 ∷ 2 ∷ []) 1 tt l)
+pub first-left : (r : FirstPass) → ((measured : Measured) → r ≡ first.Done measured → ⊥) → ((stop : Stop) → r ≡ first.Refused stop → ⊥)
+    → r ≡ first.NoRoom
+first-left (first.Done measured) k l = absurd (k measured refl)
+first-left (first.Refused stop) k l = absurd (l stop refl)
 first-left first.NoRoom k l = refl
 
 -- What d1 is decoded to.

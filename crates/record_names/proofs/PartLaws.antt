@@ -7,8 +7,6 @@ use mathlib.Core.Option.{Option, none, some}
 use Prim.Native.Nat.{ℕ, ◌+◌, ◌-◌, ◌^◌, ◌≤◌, ◌<◌}
 use native.Mathlib.Omega.{arith}
 use borrow.Author.Tests.{eq-eqb, ne_eqb, lt-ltb, le-ltb, le-leb, eqb-true, ltb-true, leb-true}
-use types.Run.{OneOf, miss}
-use denote.Enum.Declared.{tag_of}
 use lib.Dec.{eqb, leb, ltb}
 use lib.ListN.{length, drop, length-drop}
 use Rattle.foundation.specs.Choices.{if◌then◌else◌, if_some, is_some, map_option, IfSome}
@@ -46,7 +44,6 @@ use Rattle.record_names.proofs.EndsLaws.{steps_dropped}
 use Rattle.record_names.specs.declared.steps.Span.{Span}
 use Rattle.record_names.specs.declared.steps.Base.{Base}
 use Rattle.record_names.specs.declared.steps.Base.TheVariants as base
-use Rattle.messages.specs.contracts.repeated.Two.{the_type}
 use Rattle.names.proofs.NameLaws.{source-bytes}
 
 -- Tests of numbers.
@@ -241,10 +238,10 @@ same-substituted (c ∷ t) = ap (λ (x : ℕ). x ∷ substituted 0 0 t) (go (eqb
     go true e = sym (eqb-true c 0 e)
     go false e = refl
 
-pub not-both : (two : Two) → OneOf (0 ∷ 1 ∷ []) (tag_of the_type two) → both_numbers two ≡ none
+pub not-both : (two : Two) → ((a b : ℕ) → two ≡ Both a b → ⊥) → both_numbers two ≡ none
 not-both Neither h = refl
 not-both (One a) h = refl
-not-both (Both a b) h = absurd (miss (0 ∷ 1 ∷ []) 2 tt h)
+not-both (Both a b) h = absurd (h a b refl)
 
 module _ (payload d2 : List ℕ) (source start end op : ℕ) where
   abbrev steps_of : ℕ → ℕ → ℕ → Name

@@ -10,7 +10,7 @@ use borrow.Author.Tests.{lt-ltb, ne_eqb}
 use lib.Dec.{eqb}
 use lib.ListN.{length, get_or}
 use Rattle.foundation.specs.Choices.{if◌then◌else◌, if_some, is_some}
-use Rattle.foundation.specs.Results.{ok, Part, ◌from◌, got, map_got}
+use Rattle.foundation.specs.Results.{ok, ◌from◌, got, map_got}
 use Rattle.foundation.specs.Texts.{Text}
 use Rattle.wire.specs.Wire.{groups_from, read_varint, varint, field, read_field, repeated, Message, cut}
 use Rattle.wire.specs.Messages.{values, first_of, as_body, varint_of, index, bytes_of, joined, varints}

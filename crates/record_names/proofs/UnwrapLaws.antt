@@ -16,7 +16,6 @@ use Rattle.characters.specs.Characters.{width, utf8_of, utf8, from_utf8}
 use Rattle.characters.specs.told.Places.{part_from}
 use Rattle.characters.specs.told.CharactersTold.{utf8_at}
 use Rattle.characters.specs.told.Plain.{instead}
-use Rattle.characters.specs.declared.Character.{Character}
 use Rattle.characters.specs.declared.Character.TheVariants.{Read, End}
 use Rattle.characters.proofs.TestLaws.{below}
 use Rattle.foundation.proofs.EveryLaws.{map_twice}

@@ -2,15 +2,14 @@
 -- Assumes nothing.
 use mathlib.Core.Path.{◌≡◌, refl, ap, sym, ◌∙◌}
 use mathlib.Core.Bool.{Bool, true, false}
-use Prim.Native.Nat.{ℕ, ◌+◌, ◌-◌, ◌*◌, ◌/◌, ◌%◌, ◌≤◌, ◌<◌}
+use Prim.Native.Nat.{ℕ, ◌+◌, ◌-◌, ◌*◌, ◌/◌, ◌%◌, ◌<◌}
 use native.Mathlib.Omega.{arith}
 use native.Mathlib.Nat.{mod-eq_of_lt}
 use borrow.Author.Tests.{eq-eqb, ne_eqb}
 use lib.Dec.{eqb}
 use Rattle.foundation.specs.Choices.{if◌then◌else◌}
-use Rattle.record_names.specs.told.Note.{noted_name, noted, class_size, class_of, noted_class, noted_as, NameFits, WordsTold}
+use Rattle.record_names.specs.told.Note.{noted_name, noted, class_size, class_of, noted_class, noted_as, NameFits}
 use Rattle.names.specs.declared.name.Name.{Name}
-use Rattle.record_names.specs.declared.note.Words.{Words}
 use Rattle.record_names.specs.declared.Decided.{Decided}
 use Rattle.record_names.specs.declared.Decided.TheVariants as decided
 

@@ -5,7 +5,7 @@ use mathlib.Core.List.{List, [], ◌∷◌, ◌++◌, append-nil}
 use mathlib.Core.Option.{none, some}
 use Prim.Native.Nat.{ℕ, suc, ◌≤◌, ◌<◌}
 use native.Mathlib.Omega.{arith}
-use borrow.Author.Tests.{ne_eqb, le-leb, lt_leb}
+use borrow.Author.Tests.{ne_eqb, le-leb, lt-leb}
 use lib.ListN.{length}
 use Rattle.foundation.specs.Choices.{map_option}
 use Rattle.foundation.specs.Results.{ok, ◌from◌}
@@ -99,7 +99,7 @@ module _ (f : Found) {x : Number} (e : x ≡ number_in f) {n : ℕ} (g : x ≡ n
   projection-small h = rw (← e, g, le-leb n star (omega arith))
 
   pub projection-large : 4 ≤ n → invariant ≡ projection_of (number_told (number_in f))
-  projection-large h = rw (← e, g, lt_leb n star (omega arith))
+  projection-large h = rw (← e, g, lt-leb n star (omega arith))
 
 -- The same from what was found of its three fields.
 module _ (base : ℕ) (msg : List ℕ) {one two three : Found} (a : FoundTold base msg Type-Argument-projection one)

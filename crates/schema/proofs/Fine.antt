@@ -24,7 +24,7 @@ use Rattle.characters.specs.Characters.{is_scalar}
 use Rattle.characters.specs.told.CharactersTold.{Characters}
 use Rattle.names.specs.Names.{Names, string, qualified_name}
 use Rattle.declaration_rows.specs.Declarations.{star, Types, no_types, and_type, Ty, Argument, projected, blank, types_of, single, count_of, Signature, Parameter, Constructor, Function, Property, Alias, Declarations, signed}
-use Rattle.schema.specs.Reading.{Read, pure, ◌>>=◌, lift, enter, keep, kept, Scope, scope, name_in, class_name_in, allowance, each}
+use Rattle.schema.specs.Reading.{Read, pure, ◌>>=◌, lift, enter, keep, kept, Scope, name_in, class_name_in, allowance, each}
 use Rattle.schema.specs.Types.{Walk, max_depth, resolve_at, type_in, projection_of, projection_in, argument_in, parse_at, type_at, declared_type, type_table_in}
 use Rattle.schema.specs.Members.{flags_in, named, signature_of, signature_in, field_of, forgiven, field_in, of_signature, parameter_in, list_in, constructor_in, function_in, property_in, alias_in, Head, head_in, constructors_in, function_field, property_field, alias_field, lists_in, after_table, body_in, parameters_in}
 use Rattle.schema.proofs.ArgumentLaws.{types-many}

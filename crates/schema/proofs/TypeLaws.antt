@@ -6,7 +6,7 @@ use mathlib.Core.List.{List}
 use mathlib.Core.Option.{Option, none, some}
 use Prim.Native.Nat.{ℕ, ◌+◌, ◌-◌, ◌^◌, ◌≤◌, ◌<◌}
 use native.Mathlib.Omega.{arith}
-use borrow.Author.Tests.{lt-ltb, le-ltb, lt_leb, ltb-false}
+use borrow.Author.Tests.{lt-ltb, le-ltb, lt-leb, ltb-false}
 use lib.Dec.{leb, ltb}
 use lib.ListN.{length, take, drop, get_elem?}
 use Rattle.foundation.specs.Choices.{if◌then◌else◌, if_some}
@@ -25,7 +25,7 @@ use Rattle.messages.specs.declared.Embedded.TheVariants as embedded
 use Rattle.sheet.specs.Rows.{Row}
 use Rattle.sheet.specs.declared.State.{State}
 use Rattle.declaration_rows.specs.Declarations.{invariant, Ty}
-use Rattle.schema.specs.Reading.{Read, pure, ◌>>=◌, Scope, allowance}
+use Rattle.schema.specs.Reading.{Read, pure, Scope, allowance}
 use Rattle.schema.specs.Types.{max_depth, resolve_at, type_in, type_at, declared_type}
 use Rattle.schema.specs.told.SchemaTold.{Lent, entries_in, Scoped, Ready, Spends, WalkedSpends, PickedSpends, WalkedTold, PickedTold}
 use Rattle.schema.specs.told.TypesTold.{or_nullable, rows_in, picked_of, EntryIs, EntryTold, ParseTold, ResolveTold, TypeInTold, DeclaredTold}
@@ -138,7 +138,7 @@ from_first f i h = go (ltb f (2 ^ 32)) refl
   where
     go : (t : Bool) → ltb f (2 ^ 32) ≡ t → if_some (if t then some f else none) false (λ k. leb k i) ≡ leb f i
     go true q = refl
-    go false q = let g : 2 ^ 32 ≤ f = ltb-false f (2 ^ 32) q in sym (lt_leb f i (omega arith))
+    go false q = let g : 2 ^ 32 ≤ f = ltb-false f (2 ^ 32) q in sym (lt-leb f i (omega arith))
 
 pub resolve_entry : (c : Scope) (first : ℕ) → c.table.first_nullable ≡ as32 first → (d i n : ℕ) (m : Message) → d < max_depth → i < 2 ^ 32
     → get_elem? c.table.types i ≡ some m → resolve_at (type_at allowance c) c d i n

@@ -19,7 +19,5 @@ loop-i-smaller c = omega arith
 pub loop-i-preserved : goal.loop-i-preserved
 loop-i-preserved c = copying-next c.loop-i.invariant _ (drop_next _ _ c.loop-i-test.true) c.shown.ensures
 
--- TODO no goal same_length: c.before.loop.invariant.kept
-
 pub returns : goal.returns
 returns c = copying-end c.loop-i.invariant (drop_of_length-le _ c.loop-i-test.false)

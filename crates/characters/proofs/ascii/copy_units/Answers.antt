@@ -23,7 +23,5 @@ loop-i-smaller c = omega arith
 pub loop-i-preserved : goal.loop-i-preserved
 loop-i-preserved c = copying-next c.loop-i.invariant _ (units-cons _ _ _ c.loop-i-test.true (omega arith)) c.shown.ensures
 
--- TODO no goal same_length: c.before.loop.invariant.kept
-
 pub returns : goal.returns
 returns c = copying-end c.loop-i.invariant (units-ended _ _ _ c.loop-i-test.false)

@@ -1,0 +1,5 @@
+use Rattle.declaration_rows.proofs.WrittenLaws.{kind-put}
+use Rattle.declaration_rows.proofs.put_kind.Goals as goal
+
+pub returns : goal.returns
+returns c = λ T. kind-put c.args.state c.args.sheet.now T c.args.kind c.put.ensures

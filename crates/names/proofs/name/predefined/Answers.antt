@@ -1,0 +1,8 @@
+use Rattle.names.proofs.ListLaws.{listed-part, listed-past}
+use Rattle.names.proofs.name.predefined.Goals as goal
+
+pub returns-then-index-ge44 : goal.returns-then-index-ge44
+returns-then-index-ge44 c = listed-past _ c.if-index-ge44.true
+
+pub returns : goal.returns
+returns c = listed-part _ c.if-index-ge44.false c.wide.ensures c.wide-2.ensures
