@@ -1,27 +1,27 @@
 #!/usr/bin/env python3
-"""The wrong edits of crates/*/must-fail, several of which can be tried by one check.
+"""The wrong edits of crates/*/must-fail, each in a file of its own, and whether the prover refuses each for what it gets wrong.
 
-usage: tools/edits.py --check             whether they fit the files
-       tools/edits.py --refused [CRATE..] after rt ci or rt must-fail: whether each of those that were tried at once was refused by itself
-       tools/edits.py --join [CRATE..]    writes those that can be tried at once into one file
+usage: tools/edits.py --check                  whether they fit the files
+       tools/edits.py --refused LOG [CRATE..]  LOG: what `rt ci` or `rt must-fail` printed: whether each was refused at a goal of its function
+       tools/edits.py --split [CRATE..]        gives each of several edits that stand in one file a file of its own
 
-rt checks a whole crate for each file of edits, and says only that something was refused. A file can hold several edits: before each stands a line
-"# LABEL in FUNCTION: what is wrong". They change code, each in functions of its own (and constants that only these name). What a proof of a function needs is said by its own code and by
-contracts, definitions and laws, which none of them changes; so each is refused as it would be alone. --refused looks that up in what the check printed
-(target/must-fail/CRATE/FILE/.log): each must be refused at a need of each function that it names, and nothing else may be refused for a reason of its own."""
-import collections
+A file can name the function that its edit falls on, in a line "# LABEL in FUNCTION: what is wrong"; LABEL is the file's name. Such an edit changes code, in
+that function (or a constant that only it names). What a proof of a function needs is said by its own code and by contracts, definitions and laws, which the
+edit doesn't change. So what rt tells first of its refusal must be a goal of that function, or of one of those that are named, and not that its proof
+doesn't fit the code any more. An edit of a definition names no function, and rt's own word counts."""
 import re
 import sys
 
-from wrong_answers import ROOT, WRONG, functions_of, proof_of, reached, refusals, verdict
+from wrong_answers import GONE, REFUSED, ROOT, UNMET, functions_of
 
 PART = re.compile(r'^# (\w+) in (\w[\w:]*(?:, \w[\w:]*)*): (.*)$')
 CONSTANT = re.compile(r'^(?:pub(?:\(crate\))? )?const (\w+)', re.M)
-TOGETHER = 'Several wrong edits in one check, each in another function: tools/edits.py holds each to a need of its function.'
+TRIED = re.compile(r'^rt: must-fail (\w+)/(\S+)\.edit: (.*)$', re.M)
+AS_IT_MUST_BE = 'refused, as it must be'
 
 
 class Part:
-    """One wrong edit: its pairs of old and new text, the functions at whose needs it is refused, and what is wrong."""
+    """One wrong edit: its pairs of old and new text, the functions at whose goals it is refused, and what is wrong."""
 
     def __init__(self, crate, label, named, words):
         self.crate, self.label, self.named, self.words, self.pairs = crate, label, named, words, []
@@ -79,7 +79,7 @@ def naming(crate, name, known):
 
 
 def parts_of(path):
-    """The edits of a file, and whether they are tried at once."""
+    """The edits of a file, and whether they name functions."""
     crate, parts, file, old, words = path.parent.parent.name, [], None, None, []
     for line in path.read_text().splitlines():
         if found := PART.match(line):
@@ -97,122 +97,92 @@ def parts_of(path):
     return parts, any(part.named for part in parts)
 
 
-class Changed(collections.namedtuple('Changed', 'crate function')):
-    """A function that an edit changes."""
-
-
-def places_of(crate, functions):
-    """The folders of the proofs of these functions: those that call each other in a circle have one."""
-    return {proof_of(Changed(crate, function)) for function in functions}
-
-
 def files(crates=()):
     return sorted(path for path in ROOT.glob('crates/*/must-fail/*.edit') if not crates or path.parent.parent.name in crates)
 
 
 def misfits(path):
-    """Why the edits of a file don't fit."""
-    parts, at_once = parts_of(path)
+    """Why the edits of a file don't fit the crate, or the file doesn't fit them."""
+    parts, named = parts_of(path)
+    if len(parts) > 1:
+        yield 'it has several edits, of which rt tells only that one was refused; tools/edits.py --split gives each a file'
     for part in parts:
         for (file, at, _), (_, old, _) in zip(part.places(), part.pairs):
             if at is None:
                 yield f'{part.label}: its old text does not stand once in {file}: {old.strip()}'
-    if not at_once:
+    if not named:
         return
-    known, taken = functions_of(parts[0].crate), {}
+    known = functions_of(parts[0].crate)
     for part in parts:
         changed = part.changed(known)
         if not changed or not set(part.named) <= changed:
             yield f'{part.label}: it does not change {", ".join(part.named)}, or not only functions'
-        for place in places_of(part.crate, changed):
-            if place in taken:
-                yield f'{part.label}: {taken[place]} changes {place} too'
-            taken[place] = part.label
+    if len(parts) == 1 and parts[0].label != path.stem:
+        yield f'{parts[0].label}: its label is not the name of its file'
 
 
-def unrefused(path):
-    """What of the edits of a file that are tried at once was not refused as it must be."""
-    parts, at_once = parts_of(path)
-    if not at_once:
+def tried(log):
+    """What rt printed of each edit: crate and name -> words."""
+    return {(crate, name): words for crate, name, words in TRIED.findall(log)}
+
+
+def unrefused(path, said):
+    """Why an edit was not refused as it must be."""
+    (part, *_), _ = parts_of(path)
+    words = said.get((part.crate, path.stem), 'it was not tried')
+    if not words.startswith(AS_IT_MUST_BE):
+        yield words
         return
-    log = ROOT / 'target' / 'must-fail' / parts[0].crate / path.stem / '.log'
-    if not log.is_file():
-        yield 'it was not tried'
+    why, known = words[len(AS_IT_MUST_BE):], functions_of(part.crate)
+    if not part.named:
         return
-    text, known = log.read_text(errors='replace'), functions_of(parts[0].crate)
-    for part in parts:
-        for function in part.named:
-            needs, _, misfit = refusals(Changed(part.crate, function), text)
-            kind, words = verdict(Changed(part.crate, function), text)
-            if misfit or (not needs and kind == WRONG):
-                yield f'{part.label}: {function}: {words}'
-    proofs = {f'proofs/{place}/Proof.antt' for part in parts for place in places_of(part.crate, part.changed(known))}
-    for file, words in re.findall(r'^\S*/must-fail/\w+/\w+/(\S+?)(?::\d+:\d+)?: error: (.*)$', text, re.M):
-        if 'was not admitted' not in words and file not in proofs:
-            yield f'refused too, at {file}: {words[:100]}'
+    if why.startswith(' (only by a limit'):
+        yield f'refused, but{why[:200]}'
+    elif why.startswith(' (only because') or GONE.search(why):
+        yield f'its proof no longer fits{why[:200]}'
+    elif not any(is_at(why.removeprefix(': '), known[name]) for name in part.named if name in known):
+        yield f'refused, but not first at a goal of {", ".join(part.named)}{why[:200]}'
 
 
-def alone(part):
-    """The text of a file with one edit."""
-    return '\n'.join([f'# {part.words}', *list(part.lines())[1:]]) + '\n'
+def is_at(why, function):
+    """Whether what rt tells first is a goal of a function."""
+    unmet, refused = re.match(UNMET, why), re.match(REFUSED, why)
+    return bool(unmet and function.has(unmet['file'], int(unmet['line'])) or refused and refused['place'] == function.place)
 
 
-def together(parts):
-    return '\n'.join([f'# {TOGETHER}', *(line for part in parts for line in ['', *part.lines()])]) + '\n'
-
-
-def grouped(crate, parts):
-    """The edits that can be tried at once, in groups, those that stand together already first; the others each in a group of its own."""
-    known, groups, others = functions_of(crate), [], []
-    for part in sorted(parts, key=lambda part: not part.named):
-        changed = part.changed(known)
-        places = places_of(crate, changed)
-        part.named = part.named or sorted(changed)
-        free = [group for group in groups if not places & group[0]]
-        if not changed:
-            others.append([part])
-        elif free:
-            free[0][0].update(places)
-            free[0][1].append(part)
-        else:
-            groups.append((set(places), [part]))
-    return [group for _, group in groups] + others
-
-
-def join(crate):
-    """Writes the edits of a crate anew, in as few files as can be. Those with several are together.edit, together_2.edit, .."""
-    before = files([crate])
-    parts = [part for path in before for part in parts_of(path)[0]]
-    texts = {}
-    for group in grouped(crate, parts):
-        if len(group) == 1:
-            texts[group[0].label] = alone(group[0])
+def split(crates):
+    """Gives each edit of a file with several a file of its own."""
+    for path in files(crates):
+        parts, _ = parts_of(path)
+        if len(parts) == 1:
             continue
-        number = sum(name.startswith('together') for name in texts) + 1
-        name = 'together' + (f'_{number}' if number > 1 else '')
-        texts[name] = together(group)
-        print(f'{crate}/{name}:', ', '.join(part.label for part in group))
-    for path in before:
+        places = {part.label: path.with_name(f'{part.label}.edit') for part in parts}
+        if len(places) < len(parts) or any(place.exists() for place in places.values()):
+            sys.exit(f'edits.py: {path.parent.parent.name}/{path.stem}: there is another edit with the name of one of these')
         path.unlink()
-    for name, text in texts.items():
-        (ROOT / 'crates' / crate / 'must-fail' / f'{name}.edit').write_text(text)
+        for part in parts:
+            places[part.label].write_text('\n'.join(part.lines()) + '\n')
+        print(f'{path.parent.parent.name}/{path.stem}:', ', '.join(places))
 
 
 def main(words):
-    command, crates = words[:1], words[1:]
-    if command not in (['--check'], ['--refused'], ['--join']) or (crates and command == ['--check']):
+    command, rest = words[:1], words[1:]
+    if command not in (['--check'], ['--refused'], ['--split']) or command == ['--check'] and rest or command == ['--refused'] and not rest:
         sys.exit(__doc__)
-    if command == ['--join']:
-        for crate in crates or sorted({path.parent.parent.name for path in files()}):
-            join(crate)
+    if command == ['--split']:
+        split(rest)
         return False
+    crates, said = rest[1:], None
+    if command == ['--refused']:
+        with open(rest[0], encoding='utf-8', errors='replace') as f:
+            said = tried(f.read())
     wrong = count = 0
     for path in files(crates):
         count += len(parts_of(path)[0])
-        for why in (misfits if command == ['--check'] else unrefused)(path):
+        for why in misfits(path) if said is None else unrefused(path, said):
             print(f'! {path.parent.parent.name}/{path.stem}: {why}')
             wrong += 1
-    print(f'edits: {count} in {len(files(crates))} checks, {wrong} not as they must be')
+    print(f'edits: {count} in {len(files(crates))} files, {wrong} not as they must be')
     return wrong > 0
 
 

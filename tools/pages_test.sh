@@ -8,32 +8,37 @@ here=$(mktemp -d)
 trap 'rm -rf "$here"' EXIT
 failed=0
 cat > "$here/log" <<'L'
-.ci/run: 2 processors, 4 checks at once
+.ci/run: 4 processors
 fn low::f: proved
-rt: low proved (3 s)
-rt: high proved (61 s)
-rt: must-fail high/blank: refused, as it must be (first at proofs/f/Proof.antt:1:2; 7 s)
-rt: must-fail high/wrong: refused, as it must be (12 s)
+rt: low proved (after 3 s)
+rt: high: its tests are proved (after 50 s)
+rt: high proved (after 61 s)
+rt: low: trying its must-fail edits (1)
+rt: must-fail high/blank.edit: refused, as it must be: ./proofs/f/Answers.antt:1:2: error: `returns`: the sides differ
+rt: must-fail high/wrong.edit: refused, as it must be
 .ci/run: crates and edits took 100 s
-.ci/run: static library took 20 s
+.ci/run: the static library took 20 s
 4 passed, 0 failed
 L
 cat > "$here/expected" <<'T'
 | part of the gate | time |
 |---|---|
 | crates and edits | 1 min 40 s |
-| static library | 20 s |
+| the static library | 20 s |
 | all | 2 min 0 s |
 
-| crate | proof, s | checks of edits | all of them, s |
-|---|---|---|---|
-| `low` | 3 | - | - |
-| `high` | 61 | 2 | 19 |
-| 2 crates | 64 | 2 | 19 |
+| crate | proved after, s | wrong edits |
+|---|---|---|
+| `low` | 3 | - |
+| `high` | 61 | 2 |
+| 2 crates | 61 | 2 |
 T
 python3 -B tools/check_times.py "$here/log" > "$here/page"
 sed -n '/^| part/,$p' "$here/page" | cmp - "$here/expected" || failed=1
-grep -q '2 processors, 4 checks at once' "$here/page" || { echo 'check_times: the machine is not told'; failed=1; }
+grep -q '(4 processors)' "$here/page" || { echo 'check_times: the machine is not told'; failed=1; }
+sed 's/^rt: low proved/rt: low is kept: an earlier run on this machine proved the same files over the same libraries/' "$here/log" > "$here/again"
+python3 -B tools/check_times.py "$here/again" > "$here/out"
+grep -q '^1 of the crates were kept' "$here/out" && grep -qx '| `low` | kept | - |' "$here/out" || { echo 'check_times: what was kept'; failed=1; }
 refused() { # words, log
     if python3 -B tools/check_times.py "$2" > "$here/out" 2>&1 || ! grep -q "$1" "$here/out"; then echo "check_times: not refused, '$1'"; failed=1; fi
 }
