@@ -4,15 +4,22 @@
 usage: tools/edits.py --check                  whether they fit the files
        tools/edits.py --refused LOG [CRATE..]  LOG: what `rt ci` or `rt must-fail` printed: whether each was refused at a goal of its function
        tools/edits.py --split [CRATE..]        gives each of several edits that stand in one file a file of its own
+       tools/edits.py --names [CRATE..]        has edits that change names bring the proof along, after a change of the edits, the code or its proofs
 
 A file can name the function that its edit falls on, in a line "# LABEL in FUNCTION: what is wrong"; LABEL is the file's name. Such an edit changes code, in
 that function (or a constant that only it names). What a proof of a function needs is said by its own code and by contracts, definitions and laws, which the
 edit doesn't change. So what rt tells first of its refusal must be a goal of that function, or of one of those that are named, and not that its proof
-doesn't fit the code any more. An edit of a definition names no function, and rt's own word counts."""
-import re
-import sys
+doesn't fit the code any more. An edit of a definition names no function, and rt's own word counts.
 
-from wrong_answers import GONE, REFUSED, ROOT, UNMET, functions_of
+Goals and steps are named after the code, as `if-tag-lt8` after `tag < 8`. An edit that changes such a text changes the names, and the proof would be
+refused for that alone. So after its pairs in src/ stand the lines of the proof with the names that are then right; --names writes them."""
+import pathlib
+import re
+import shutil
+import sys
+import tempfile
+
+from wrong_answers import GONE, REFUSED, ROOT, UNMET, copy_to, follow, functions_of, restore
 
 PART = re.compile(r'^# (\w+) in (\w[\w:]*(?:, \w[\w:]*)*): (.*)$')
 CONSTANT = re.compile(r'^(?:pub(?:\(crate\))? )?const (\w+)', re.M)
@@ -30,6 +37,8 @@ class Part:
         """The functions that it changes: a constant is a part of each that names it. Nothing if some of it stands elsewhere."""
         found = set()
         for file, at, end in self.places():
+            if self.named and file.startswith('proofs/') and at is not None:
+                continue
             around = [f.path for f in known.values() if at is not None and f'src/{f.file}' == file and f.start <= at and end <= f.end][:1]
             around = around or [path for name in constants_at(self.crate, file, at, end) for path in naming(self.crate, name, known)]
             if not around:
@@ -40,12 +49,13 @@ class Part:
     def places(self):
         """Where its old texts stand: file, start and end. As rt has it, one after the other, each once in what the one before has left."""
         texts = {}
-        for file, old, _ in self.pairs:
+        for file, old, new in self.pairs:
             source = ROOT / 'crates' / self.crate / file
-            text = texts.get(file) or (source.read_text() if source.is_file() else '')
-            at = text.find(old) if text.count(old) == 1 else None
+            # as it is edited, and as it was, with blanks for what is edited
+            edited, text = texts.get(file) or [source.read_text() if source.is_file() else ''] * 2
+            at = text.find(old) if edited.count(old) == 1 else None
             yield file, at, at and at + len(old)
-            texts[file] = text.replace(old, '\0' * len(old))
+            texts[file] = edited.replace(old, new), text.replace(old, '\0' * len(old))
 
     def lines(self):
         file = None
@@ -165,10 +175,70 @@ def split(crates):
         print(f'{path.parent.parent.name}/{path.stem}:', ', '.join(places))
 
 
+def apart(edits, known):
+    """Edits in groups of which no two change one function's proof."""
+    groups = []
+    for path, part in edits:
+        places = {known[function].place for function in part.changed(known)}
+        group = next((group for group in groups if not places & group[0]), None)
+        if group is None:
+            groups.append(group := (set(), []))
+        group[0].update(places)
+        group[1].append((path, part, places))
+    return [group for _, group in groups]
+
+
+def proof_pairs(crate, places, moved):
+    """The lines of some proofs whose names are others, each as it is and as it must then be."""
+    for place in sorted(places):
+        for path in follow.files(ROOT / 'crates' / crate, place) if moved.get(place) else ():
+            path = pathlib.Path(path)
+            lines = [(line, follow.followed(line, moved[place])) for line in path.read_text().splitlines()]
+            lines = [(old, new) for old, new in lines if old != new]
+            while lines:
+                # first one whose new text is not that of a line still to be edited
+                at = next((at for at, (_, new) in enumerate(lines) if not any(old in new for old, _ in lines[:at] + lines[at + 1:])), 0)
+                yield str(path.relative_to(ROOT / 'crates' / crate)), *lines.pop(at)
+
+
+def bring_along(crates):
+    """Writes the pairs of proofs into the edits of some crates that name functions."""
+    with tempfile.TemporaryDirectory() as folder:
+        copy = pathlib.Path(folder)
+        copy_to(copy)
+        for crate in sorted({path.parent.parent.name for path in files(crates)}):
+            edits, known = [], functions_of(crate)
+            for path in files([crate]):
+                parts, named = parts_of(path)
+                if named and len(parts) == 1:
+                    parts[0].pairs = [pair for pair in parts[0].pairs if not pair[0].startswith('proofs/')]
+                    edits.append((path, parts[0]))
+            before = follow.names(ROOT / 'crates' / crate) if edits else None
+            for group in apart(edits, known):
+                for _, part, _ in group:
+                    for file, old, new in part.pairs:
+                        if file.startswith('src/'):
+                            source = copy / 'crates' / crate / file
+                            source.write_text(source.read_text().replace(old, new))
+                moved = follow.renamings(before, follow.names(copy / 'crates' / crate))
+                for path, part, places in group:
+                    if any(moved.get(place, {}) is None for place in places):
+                        print(f'{crate}/{path.stem}: other goals or steps than the code has')
+                    lines = list(proof_pairs(crate, places, moved))
+                    part.pairs += lines
+                    if part.pairs != parts_of(path)[0][0].pairs:
+                        path.write_text('\n'.join(part.lines()) + '\n')
+                        print(f'{crate}/{path.stem}: {len(lines)} lines of its proof')
+                restore(crate, copy / 'crates' / crate / 'src')
+
+
 def main(words):
     command, rest = words[:1], words[1:]
-    if command not in (['--check'], ['--refused'], ['--split']) or command == ['--check'] and rest or command == ['--refused'] and not rest:
+    if command not in (['--check'], ['--refused'], ['--split'], ['--names']) or command == ['--check'] and rest or command == ['--refused'] and not rest:
         sys.exit(__doc__)
+    if command == ['--names']:
+        bring_along(rest)
+        return False
     if command == ['--split']:
         split(rest)
         return False

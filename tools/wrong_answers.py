@@ -8,7 +8,8 @@ A line of the table is one edit: crate, file, function, old text, new text, what
 The edits of a crate are tried in a copy of the repository by `rt check`, several at once, but never in two functions of which one leads to the other,
 since a caller is proved only above callees that are proved. Told for each: the goals that are not met. A proof by hand (Proof.antt) has no goals; it follows
 the code step by step, so that its refusal tells less and is counted apart. The status is 1 if an edit is proved, doesn't reach the prover, or is refused
-for another reason than a goal."""
+for another reason than a goal. Where an edit changes what goals and steps are named after, as the number in a test, the names in the proof are first
+brought along (proofs/follow.py)."""
 import pathlib
 import re
 import shutil
@@ -17,8 +18,13 @@ import sys
 import tempfile
 
 ROOT = pathlib.Path(__file__).resolve().parent.parent
+sys.dont_write_bytecode = True
+sys.path.insert(0, str(ROOT / 'tools' / 'proofs'))
+import follow  # noqa: E402 (it stands in another folder)
+
 TABLE = ROOT / 'tools' / 'wrong_answers.tsv'
 AT_GOAL, BY_HAND, WRONG = 'refused at a goal', 'refused in a proof by hand', 'not refused so'
+MISFIT = 'its proof no longer fits'
 FUNCTION = re.compile(r'^( *)(?:pub(?:\(crate\))? )?(?:extern "C" )?fn (\w+)', re.M)
 # what the check says of a goal: where it stands in the code, or in the file that answers it
 UNMET = r'note: src/(?P<file>\S+\.rt):(?P<line>\d+):\d+: it is not proved that '
@@ -119,6 +125,17 @@ def misfit(edit, functions):
 def restore(crate, sources):
     for file in sources.glob('*.rt'):
         shutil.copy(ROOT / 'crates' / crate / 'src' / file.name, file)
+    for file in sources.parent.glob('proofs/**/*.antt'):
+        shutil.copy(ROOT / 'crates' / crate / file.relative_to(sources.parent), file)
+
+
+def bring_along(crate, places, before, folder):
+    """Gives the proofs in some places of a copy's crate the names of its changed code."""
+    moved = follow.renamings(before, follow.names(folder))
+    for place in places:
+        for path in follow.files(folder, place) if moved.get(place) else ():
+            path = pathlib.Path(path)
+            path.write_text(follow.followed(path.read_text(), moved[place]))
 
 
 def apply(batch, functions, sources):
@@ -157,7 +174,7 @@ def verdict(crate, function, log):
         return WRONG, 'PROVED'
     goals, misfit = refusals(function, log)
     if misfit:
-        return WRONG, f'its proof no longer fits: {misfit[:100]}'
+        return WRONG, f'{MISFIT}: {misfit[:100]}'
     searched = re.search(r'`search` did not prove ((?:`[^`]*`(?:, | and )?)+)', said)
     goals = list(dict.fromkeys([*(re.findall('`([^`]*)`', searched[1]) if searched else []), *goals]))
     if not goals and 'which is not proved' in said:
@@ -187,10 +204,15 @@ def try_crate(crate, edits, functions, copy, count):
         return
     parts = batches(edits, reached(functions))
     print(f'{crate}: {len(edits)} wrong answers in {len(parts)} runs', flush=True)
-    sources = copy / 'crates' / crate / 'src'
+    sources, names = copy / 'crates' / crate / 'src', None
     for batch in parts:
         apply(batch, functions, sources)
         log = check(crate, copy)
+        lost = [edit for edit in batch if MISFIT in verdict(crate, functions[edit.function], log)[1]]
+        if lost:
+            names = names or follow.names(ROOT / 'crates' / crate)
+            bring_along(crate, [functions[edit.function].place for edit in lost], names, sources.parent)
+            log = check(crate, copy)
         for edit in batch:
             kind, words = verdict(crate, functions[edit.function], log)
             count[kind] += 1
