@@ -256,7 +256,7 @@ def turn(crate, at, told):
     if any("rules" in a for a in answers + helpers):
         keep.insert(0, "use Rattle.std.proofs.Common.{rules}")
     words = "\n".join(answers + helpers + invariants)
-    keep = [u for u in keep if not (m := re.match(r"use \S+?\.\{([^}]*)\}$", u)) or any(w.strip() in words or "◌" in w for w in m.group(1).split(","))]
+    keep = [u for u in keep if not (m := re.match(r"use \S+?\.\{([^}]*)\}$", u)) or any(w.split(" as ")[-1].strip() in words or "◌" in w for w in m.group(1).split(","))]
     for u in uses:
         m = re.match(r"use \S+ as (" + NAME + r")$", u)
         if m and u in keep and not re.search(r"\b" + re.escape(m.group(1)) + r"\.", words):

@@ -12,7 +12,8 @@ use borrow.Author.Tests.{ltb-true}
 use lib.Dec.{T, eqb, leb, ltb, ltb→lt, leb→le, eqb-zero-suc, eqb-suc-suc}
 use lib.ListN.{length, drop, get_or, replicate, length-replicate, drop_of_length-le}
 use lib.Seq.{drop-cons}
-use Rattle.foundation.specs.Choices.{if◌then◌else◌, All, IfSome, map_option, if_some}
+use Rattle.std.specs.Prelude.{if◌then◌else◌}
+use Rattle.foundation.specs.Choices.{All, IfSome, map_option, if_some}
 use Rattle.characters.specs.Characters.{between, Range, ◌to◌, in_range, trail, Lead, ◌then◌, leads, lead_of, run, leading, step, step_by, replacement}
 use Rattle.characters.specs.told.CharactersTold.{LeadByte, lead_byte, lead_byte_of, ranges, go_on, utf8_at}
 use Rattle.characters.specs.declared.Character.TheVariants.{Read, End}

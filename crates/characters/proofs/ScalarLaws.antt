@@ -9,7 +9,8 @@ use native.Mathlib.Omega.{arith}
 use borrow.Author.Tests.{eqb-true, ltb-true}
 use lib.Dec.{T, eqb, leb, ltb, ltb→lt, leb→le}
 use lib.ListN.{length, take}
-use Rattle.foundation.specs.Choices.{if◌then◌else◌, All}
+use Rattle.std.specs.Prelude.{if◌then◌else◌}
+use Rattle.foundation.specs.Choices.{All}
 use Rattle.foundation.proofs.ChoiceLaws.{if_ind}
 use Rattle.characters.specs.Characters.{is_scalar, Range, in_range, Lead, leads, run, sixes, leading, step, replacement, from_utf8_after, is_high, is_low, lone, pair, from_utf16}
 use Rattle.characters.specs.WellFormed.{Units, Fits, complete, fits}

@@ -10,7 +10,8 @@ use native.Mathlib.Omega.{arith}
 use lib.Dec.{T, leb, leb→le}
 use lib.ListN.{drop}
 use lib.Seq.{drop-append-le, take-append-le}
-use Rattle.foundation.specs.Choices.{if◌then◌else◌, if_some, All, IfSome}
+use Rattle.std.specs.Prelude.{if◌then◌else◌}
+use Rattle.foundation.specs.Choices.{if_some, All, IfSome}
 use Rattle.foundation.specs.Texts.{Text}
 use Rattle.characters.specs.Characters.{Range, in_range, Lead, leads, lead_of, run, step, step_by, from_utf8_after, from_utf8, is_high, is_low, lone, pair, from_utf16}
 use Rattle.characters.proofs.TestLaws.{under, in_between}

@@ -9,7 +9,7 @@ use native.Mathlib.Omega.{arith}
 use borrow.Author.Tests.{eq-eqb, eqb-true}
 use lib.Dec.{T, eqb}
 use lib.ListN.{length, get_or}
-use Rattle.foundation.specs.Choices.{if◌then◌else◌}
+use Rattle.std.specs.Prelude.{if◌then◌else◌}
 use Rattle.foundation.proofs.ChoiceLaws.{if_ind, and_right}
 use Rattle.characters.specs.Characters.{between, width, utf8, is_high, is_low, lone, pair, replacement, from_utf16}
 use Rattle.characters.specs.told.Places.{part_from}

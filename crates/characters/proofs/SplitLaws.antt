@@ -11,7 +11,8 @@ use borrow.Author.Tests.{eqb-true, ltb-false, ne_eqb, lt-ltb, le-ltb}
 use lib.Dec.{eqb, ltb}
 use lib.ListN.{length, take, drop}
 use lib.Seq.{take-take, drop-drop}
-use Rattle.foundation.specs.Choices.{if◌then◌else◌, if_some, map_option, IfSome}
+use Rattle.std.specs.Prelude.{if◌then◌else◌}
+use Rattle.foundation.specs.Choices.{if_some, map_option, IfSome}
 use Rattle.foundation.specs.Texts.{Text}
 use Rattle.foundation.proofs.ChoiceLaws.{if_ind, drop-take}
 use Rattle.characters.specs.Characters.{width, utf8, Range, in_range, Lead, leads, lead_of, run, step, step_by, from_utf8_after, from_utf8}

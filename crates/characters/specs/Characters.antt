@@ -1,8 +1,8 @@
 -- Characters: UTF-8 and UTF-16, read with replacement, and UTF-8 written (Unicode 3.9, tables 3-5 to 3-7).
 -- Assumes nothing.
-use Rattle.std.specs.Prelude.{Bool, ◌&&◌, ◌||◌, List, [], ◌∷◌, ◌++◌, ℕ, zero, suc, ◌+◌, ◌-◌, ◌*◌, ◌/◌, ◌%◌, ◌^◌, eqb, leb, ltb, length, take}
+use Rattle.std.specs.Prelude.{Bool, ◌&&◌, ◌||◌, List, [], ◌∷◌, ◌++◌, ℕ, zero, suc, ◌+◌, ◌-◌, ◌*◌, ◌/◌, ◌%◌, ◌^◌, eqb, leb, ltb, length, take, if◌then◌else◌}
 use Rattle.std.proofs.Math.Option.{Option, none, some}
-use Rattle.foundation.specs.Choices.{if◌then◌else◌, if_some}
+use Rattle.foundation.specs.Choices.{if_some}
 use Rattle.foundation.specs.Texts.{Text}
 
 -- U+FFFD

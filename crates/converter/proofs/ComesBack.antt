@@ -10,7 +10,7 @@ use borrow.Author.Tests.{le-ltb}
 use lib.Dec.{ltb}
 use lib.ListN.{length, get_or, drop, length-drop}
 use lib.Seq.{take-append_seam}
-use Rattle.foundation.specs.Choices.{if◌then◌else◌}
+use Rattle.std.specs.Prelude.{if◌then◌else◌}
 use Rattle.foundation.proofs.EveryLaws.{all_drop}
 use Rattle.foundation.proofs.DigitLaws.{Below}
 use Rattle.foundation.specs.Results.{ok}

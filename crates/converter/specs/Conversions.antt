@@ -1,8 +1,8 @@
 -- d1 from its old form to the form with the marker, and back, as Kotlin's BitEncoding has the old form; and what is refused.
 -- Assumes nothing.
-use Rattle.std.specs.Prelude.{◌&&◌, ◌||◌, List, ◌∷◌, ◌++◌, map, ℕ, ◌+◌, ◌*◌, ◌/◌, ◌%◌, eqb, ltb, length, get_or, drop}
+use Rattle.std.specs.Prelude.{◌&&◌, ◌||◌, List, ◌∷◌, ◌++◌, map, ℕ, ◌+◌, ◌*◌, ◌/◌, ◌%◌, eqb, ltb, length, get_or, drop, if◌then◌else◌}
 use Rattle.std.proofs.Math.Option.{Option, none, some}
-use Rattle.foundation.specs.Choices.{if◌then◌else◌, map_option, or_else}
+use Rattle.foundation.specs.Choices.{map_option, or_else}
 use Rattle.foundation.specs.Digits.{number, digits}
 use Rattle.encoding.specs.Encoding.{unit_limit, byte_string_marker, unpacked, first_above255}
 

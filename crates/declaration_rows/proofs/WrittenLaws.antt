@@ -21,7 +21,7 @@ use Rattle.names.proofs.PresentLaws.{name-most}
 use Rattle.sheet.specs.Rows.{Cell, num, ref, row, present_bytes, absent_bytes, cell_bytes, cell_text, body_bytes, body_text, texts, sheet_from}
 use Rattle.sheet.specs.told.Put.{PutCells, PutHead, PutRows}
 use Rattle.sheet.specs.declared.State.{State}
-use Rattle.sheet.proofs.RowLaws.{cell_length, cell_length_lem}
+use Rattle.sheet.proofs.RowLaws.{cell_length, cell-length}
 use Rattle.sheet.proofs.PutLaws.{put-sheet, put-text, put-types, put_same, put-left, cell_put, cells_then, head_then, row_done}
 use Rattle.declaration_rows.specs.Declarations.{signed}
 use Rattle.declaration_rows.specs.Rows.{name_cell, signature_cells}
@@ -112,7 +112,7 @@ module _ {b : ℕ} {s s' : State} {S S' T T' : List ℕ} where
 
   pub cell-sheet : (c : Cell) → PutCells (c ∷ []) b s s' S S' T T' → s'.sheet ≡ s.sheet + cell_length c
   unfolding body_bytes
-  cell-sheet c p = put-sheet p ∙ rw (append-nil, cell_length_lem)
+  cell-sheet c p = put-sheet p ∙ rw (append-nil, cell-length)
 
 -- A signature's cells, if a name is missing, and if both are there.
 unsigned_left : (a b : Option Text) → is_some a ≡ false → signature_cells none ≡ signature_cells (both_of signed a b)
@@ -226,7 +226,7 @@ cells_most (c ∷ cs) o h =
     omega (
       arith,
       h.0,
-      cell_length_lem o c,
+      cell-length o c,
       cells_most cs p h.1,
       length-append (cell_bytes o c) (body_bytes p cs),
       length-append (cell_text c) (body_text cs),

@@ -4,7 +4,7 @@ use mathlib.Core.Path.{◌≡◌, refl, ap, sym, subst, ◌∙◌}
 use mathlib.Core.Bool.{Bool, true, false}
 use mathlib.Core.List.{List, [], ◌∷◌, ◌++◌, map}
 use mathlib.Core.Option.{Option, none}
-use Prim.Native.Nat.{ℕ, ◌+◌, ◌-◌, ◌*◌, ◌^◌, ◌≤◌}
+use Prim.Native.Nat.{ℕ, ◌+◌, ◌^◌, ◌≤◌}
 use native.Mathlib.Nat.{add_assoc}
 use native.Mathlib.Omega.{arith}
 use borrow.Author.Tests.{eq-eqb, ne_eqb}
@@ -41,24 +41,7 @@ use Rattle.descriptors.specs.Defaults.{closed_constructor, closed_function}
 use Rattle.members.specs.Lists.{section_rows}
 use Rattle.members.specs.declared.list.Member.TheVariants as member
 use Rattle.declarations.specs.Payload.{head_row, declaration_rows}
-use Rattle.declarations.specs.told.BodyTold.{
-  head_cost,
-  list_cost,
-  aliases_cost,
-  lists_cost,
-  body_cost,
-  BodyHead,
-  ConstructorsTold,
-  AliasesAre,
-  AliasesTold,
-  Reached,
-  ListsDone,
-  ListsAre,
-  ListsTold,
-  Written,
-  BodyTold,
-  BodyWalked,
-}
+use Rattle.declarations.specs.told.BodyTold.{head_cost, list_cost, aliases_cost, lists_cost, body_cost, BodyHead, ConstructorsTold, AliasesAre, AliasesTold, Reached, ListsAre, ListsTold, BodyTold, BodyWalked}
 use Rattle.declarations.specs.declared.body.Sections.{Sections}
 use Rattle.declarations.specs.declared.body.Body.{Body}
 use Rattle.declarations.specs.declared.body.Body.TheVariants as body

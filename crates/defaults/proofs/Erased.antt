@@ -8,7 +8,8 @@ use mathlib.Core.List.{List, [], ◌∷◌, ◌++◌, map}
 use mathlib.Core.Option.{Option, none, some, IsSome}
 use lib.Dec.{T}
 use Prim.Native.Nat.{ℕ}
-use Rattle.foundation.specs.Choices.{if◌then◌else◌, if_some, map_option, both_of, every_of, All}
+use Rattle.std.specs.Prelude.{if◌then◌else◌}
+use Rattle.foundation.specs.Choices.{if_some, map_option, both_of, every_of, All}
 use Rattle.foundation.specs.Texts.{Text, same}
 use Rattle.foundation.proofs.ChoiceLaws.{if_ind, all_append, same_true}
 use Rattle.foundation.proofs.EveryLaws.{all_split}

@@ -6,7 +6,8 @@ use mathlib.Core.List.{List, [], ◌∷◌, ◌++◌, map, append-nil, append_as
 use mathlib.Core.Option.{Option, none, some, some-injective}
 use Prim.Native.Nat.{ℕ}
 use native.Mathlib.Omega.{arith}
-use Rattle.foundation.specs.Choices.{if◌then◌else◌, if_some, map_option, both_of, every_of, All}
+use Rattle.std.specs.Prelude.{if◌then◌else◌}
+use Rattle.foundation.specs.Choices.{if_some, map_option, both_of, every_of, All}
 use Rattle.foundation.specs.Results as Results
 use Rattle.foundation.specs.Results.{Res, ok, refused, Cause, ◌from◌}
 use Rattle.foundation.proofs.ResultLaws.{Gives, gives_bind, gives_weaken, gives-ok}

@@ -1,8 +1,7 @@
 -- The messages that functions and constructors were read from, and that every parameter message gives a part: change request 11.
 -- Assumes nothing.
-use Rattle.std.specs.Prelude.{◌≡◌, Bool, List, [], ◌∷◌, ◌++◌, map, ℕ, eqb, length}
+use Rattle.std.specs.Prelude.{◌≡◌, Bool, List, [], ◌∷◌, ◌++◌, map, ℕ, eqb, length, if◌then◌else◌}
 use Rattle.std.proofs.Math.Option.{Option, some}
-use Rattle.foundation.specs.Choices.{if◌then◌else◌}
 use Rattle.foundation.specs.Results.{Res, ok, ◌>>=◌, ◌from◌}
 use Rattle.fields.specs.Fields.{Class-constructor, Constructor-value_parameter, Function-value_parameter}
 use Rattle.encoding.specs.Encoding.{decoded}

@@ -1,9 +1,9 @@
 -- Which types a default descriptor needs, which have a descriptor, and the texts and class names of its parts: the sentences of
 -- document 01, "Descriptors". None of them goes by how a type is erased or printed, but the last two, on what is printed.
 -- Assumes nothing.
-use Rattle.std.specs.Prelude.{◌≡◌, ◌≢◌, Bool, List, [], ◌∷◌, ◌++◌, map, ℕ}
+use Rattle.std.specs.Prelude.{◌≡◌, ◌≢◌, Bool, List, [], ◌∷◌, ◌++◌, map, ℕ, if◌then◌else◌}
 use Rattle.std.proofs.Math.Option.{Option, none, some}
-use Rattle.foundation.specs.Choices.{if◌then◌else◌, concat}
+use Rattle.foundation.specs.Choices.{concat}
 use Rattle.foundation.specs.Texts.{Text, ascii}
 use Rattle.characters.specs.Characters.{utf8}
 use Rattle.names.specs.Records.{substituted}

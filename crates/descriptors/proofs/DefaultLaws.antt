@@ -9,7 +9,7 @@ use native.Mathlib.Nat.{add-zero, add_assoc}
 use native.Mathlib.Omega.{arith}
 use lib.ListN.{length, take, drop}
 use Rattle.foundation.specs.Choices.{map_option}
-use Rattle.foundation.specs.Results.{ok, Part, ◌from◌}
+use Rattle.foundation.specs.Results.{ok}
 use Rattle.fields.specs.Fields.{ValueParameter-type, ValueParameter-type_id}
 use Rattle.wire.specs.Wire.{Message, cut}
 use Rattle.wire.specs.Messages.{cut_all, messages}

@@ -27,7 +27,7 @@ use Rattle.characters.specs.WellFormed.{Units}
 use Rattle.characters.specs.told.CharactersTold.{Characters}
 use Rattle.characters.proofs.TestLaws.{scalar_below}
 use Rattle.names.specs.Names.{qualified_name}
-use Rattle.names.specs.told.Name.{source_text, fitted, is_measured, sized, name_text}
+use Rattle.names.specs.told.Name.{fitted, is_measured, sized, name_text}
 use Rattle.names.specs.told.Stream as stream
 use Rattle.names.specs.told.Stream.{change_of, changed, sized_bytes, source_bytes, name_bytes}
 use Rattle.names.specs.declared.name.Name.{Name}

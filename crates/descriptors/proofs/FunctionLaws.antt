@@ -9,7 +9,8 @@ use native.Mathlib.Nat.{add_assoc}
 use native.Mathlib.Omega.{arith}
 use lib.ListN.{length, set, length-append}
 use lib.Seq.{sets}
-use Rattle.foundation.specs.Choices.{if◌then◌else◌, if_some, map_option}
+use Rattle.std.specs.Prelude.{if◌then◌else◌}
+use Rattle.foundation.specs.Choices.{if_some, map_option}
 use Rattle.foundation.specs.Results.{ok, ◌from◌}
 use Rattle.fields.specs.Fields.{Constructor-value_parameter, Function-return_type, Function-receiver_type, Function-value_parameter, Function-return_type_id, Function-receiver_type_id, Function-flags}
 use Rattle.wire.specs.Wire.{Message, cut}

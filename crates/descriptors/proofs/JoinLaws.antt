@@ -8,7 +8,8 @@ use Prim.Native.Nat.{ℕ, ◌+◌, ◌≤◌}
 use native.Mathlib.Nat.{add_assoc, le_refl}
 use native.Mathlib.Omega.{arith}
 use lib.ListN.{set, length-append}
-use Rattle.foundation.specs.Choices.{if◌then◌else◌, if_some, map_option, both_of, every_of, concat}
+use Rattle.std.specs.Prelude.{if◌then◌else◌}
+use Rattle.foundation.specs.Choices.{if_some, map_option, both_of, every_of, concat}
 use Rattle.foundation.proofs.OverlayLaws.{sets_then}
 use Rattle.wire.specs.Wire.{Message}
 use Rattle.declaration_rows.specs.Declarations.{Ty, Parameter, Constructor, Function}

@@ -1,8 +1,8 @@
 -- Erased parts, default descriptors, and the rows that they close.
 -- Assumes nothing.
-use Rattle.std.specs.Prelude.{Bool, List, [], ◌∷◌, ◌++◌, map, ℕ}
+use Rattle.std.specs.Prelude.{Bool, List, [], ◌∷◌, ◌++◌, map, ℕ, if◌then◌else◌}
 use Rattle.std.proofs.Math.Option.{Option, none}
-use Rattle.foundation.specs.Choices.{if◌then◌else◌, if_some, map_option, both_of, every_of, concat}
+use Rattle.foundation.specs.Choices.{if_some, map_option, both_of, every_of, concat}
 use Rattle.foundation.specs.Texts.{ascii}
 use Rattle.sheet.specs.Rows.{ref, Row, row}
 use Rattle.declaration_rows.specs.Declarations.{Ty, Parameter, Constructor, Function}

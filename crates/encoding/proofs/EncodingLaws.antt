@@ -12,7 +12,8 @@ use lib.Bits.{bit_or, or_add_and, and_le_l, and_le_r}
 use lib.Dec.{eqb, ltb}
 use lib.ListN.{length, get_or, take, drop, set, length-drop, drop_of_length-le}
 use lib.Seq.{sets, drop-cons, take_all}
-use Rattle.foundation.specs.Choices.{if◌then◌else◌, if_some}
+use Rattle.std.specs.Prelude.{if◌then◌else◌}
+use Rattle.foundation.specs.Choices.{if_some}
 use Rattle.foundation.specs.Results.{empty_payload, not_a_byte, Res, ok, refused}
 use Rattle.foundation.specs.Digits.{number}
 use Rattle.foundation.proofs.ChoiceLaws.{if_ind}

@@ -10,7 +10,8 @@ use native.Mathlib.Nat.{zero-add, suc-add}
 use lib.Dec.{eqb}
 use lib.ListN.{take, drop}
 use lib.Seq.{take-nil}
-use Rattle.foundation.specs.Choices.{if◌then◌else◌, if_some, All, IfSome, concat}
+use Rattle.std.specs.Prelude.{if◌then◌else◌}
+use Rattle.foundation.specs.Choices.{if_some, All, IfSome, concat}
 use Rattle.foundation.specs.Texts.{same}
 
 -- a law of both branches is a law of the choice

@@ -2,8 +2,8 @@
 -- Of texts in UTF-8: /, ; and [ are single bytes there, as are the letters, ( and ), and these bytes occur in no other character. So
 -- a name keeps to the form by its characters exactly when it does by its bytes (`form-by-characters` in defaults' proofs).
 -- Assumes nothing.
-use Rattle.std.specs.Prelude.{◌≡◌, ◌≢◌, List, [], ◌∷◌, ◌++◌, ℕ, eqb}
-use Rattle.foundation.specs.Choices.{if◌then◌else◌, concat, All}
+use Rattle.std.specs.Prelude.{◌≡◌, ◌≢◌, List, [], ◌∷◌, ◌++◌, ℕ, eqb, if◌then◌else◌}
+use Rattle.foundation.specs.Choices.{concat, All}
 
 -- with c put before the first
 abbrev pub before_first : ℕ → List (List ℕ) → List (List ℕ)

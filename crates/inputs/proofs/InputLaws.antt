@@ -15,8 +15,8 @@ use lib.Signed.{lt_z, mag}
 use mir.Syntax.{w32}
 use mir.Val.{SFits, of_z, to_z}
 use mir.Facts.{to_z-of_z}
-use borrow.Author.Tests.{lt-ltb, le-ltb, le-leb, lt_leb, leb-true}
-use Rattle.foundation.specs.Choices.{if◌then◌else◌}
+use borrow.Author.Tests.{lt-ltb, le-ltb, le-leb, lt-leb, leb-true}
+use Rattle.std.specs.Prelude.{if◌then◌else◌}
 use Rattle.foundation.specs.Results.{d1_too_long, d2_too_long, string_ends, newer_version}
 use Rattle.foundation.proofs.ChoiceLaws.{if_ind, and_left, and_right}
 use Rattle.encoding.specs.Encoding.{unit_limit}
@@ -39,7 +39,7 @@ kind_else (negsuc m) f b c d e = refl
 module _ (ends : List ℕ) (units at i : ℕ) where
   pub ends-fall : i < length ends → get_or ends i 0 < at → ends_fit at (drop i ends) units ≡ false
   unfolding ends_fit
-  ends-fall h l = rw (drop-cons ends i 0 h) (simp (lt_leb at (get_or ends i 0) l))
+  ends-fall h l = rw (drop-cons ends i 0 h) (simp (lt-leb at (get_or ends i 0) l))
 
   pub ends_next : i < length ends → at ≤ get_or ends i 0 → ends_fit at (drop i ends) units ≡ ends_fit (get_or ends i 0) (drop (i + 1) ends) units
   unfolding ends_fit

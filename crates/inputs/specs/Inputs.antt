@@ -1,9 +1,8 @@
 -- The input, its metadata kind, and what is refused of every kind before the payload is looked at.
 -- Assumes nothing.
-use Rattle.std.specs.Prelude.{Bool, ◌&&◌, ◌||◌, List, ℕ, eqb, leb, ltb, ℤ, pos, negsuc, length, get_or}
+use Rattle.std.specs.Prelude.{Bool, ◌&&◌, ◌||◌, List, ℕ, eqb, leb, ltb, ℤ, pos, negsuc, length, get_or, if◌then◌else◌}
 use Rattle.std.proofs.Math.Option.{Option, none, some}
 use Rattle.std.specs.Int.Signed.{lt_z}
-use Rattle.foundation.specs.Choices.{if◌then◌else◌}
 use Rattle.foundation.specs.Results.{Cause, d1_too_long, d2_too_long, string_ends, newer_version}
 use Rattle.encoding.specs.Encoding.{unit_limit}
 use Rattle.names.specs.Names.{ends_fit}

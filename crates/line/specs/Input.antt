@@ -1,9 +1,8 @@
 -- The program's input, document 01, "A whole line": k and mv, four signed numbers of 4 bytes; d1, a 4-byte count and 2-byte units; d2 likewise;
 -- a 4-byte count of 4-byte string ends. Numbers are little-endian; counts and ends are unsigned.
 -- Assumes nothing.
-use Rattle.std.specs.Prelude.{Bool, List, [], ◌∷◌, ℕ, zero, suc, ◌+◌, ◌-◌, ◌*◌, leb, ltb, ℤ, pos, negsuc, length, get_or}
+use Rattle.std.specs.Prelude.{Bool, List, [], ◌∷◌, ℕ, zero, suc, ◌+◌, ◌-◌, ◌*◌, leb, ltb, ℤ, pos, negsuc, length, get_or, if◌then◌else◌}
 use Rattle.std.proofs.Math.Option.{Option, none, some}
-use Rattle.foundation.specs.Choices.{if◌then◌else◌}
 use Rattle.inputs.specs.Inputs.{Input}
 use Rattle.line.specs.declared.input.Counts.{Counts}
 

@@ -1,7 +1,6 @@
 -- The line that the program prints, document 01, "A whole line", in ASCII.
 -- Assumes nothing.
-use Rattle.std.specs.Prelude.{List, [], ◌∷◌, ◌++◌, ℕ, zero, suc, ◌/◌, ◌%◌, ltb}
-use Rattle.foundation.specs.Choices.{if◌then◌else◌}
+use Rattle.std.specs.Prelude.{List, [], ◌∷◌, ◌++◌, ℕ, zero, suc, ◌/◌, ◌%◌, ltb, if◌then◌else◌}
 use Rattle.io.specs.Digits.{hex_digit_ascii}
 
 -- a number in decimal, of at most k digits, the highest first, without zeros in front

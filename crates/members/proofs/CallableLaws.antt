@@ -23,7 +23,7 @@ use Rattle.sheet.specs.told.Put.{PutHead, past}
 use Rattle.sheet.specs.declared.State.{State}
 use Rattle.sheet.proofs.PutLaws.{put-types, rows_then}
 use Rattle.declaration_rows.specs.Declarations.{Ty, Signature, Parameter, Constructor, Function, signed}
-use Rattle.schema.specs.Reading.{pure, ◌>>=◌, Scope, name_in}
+use Rattle.schema.specs.Reading.{pure, Scope, name_in}
 use Rattle.schema.specs.Members.{flags_in, parameters_in, signature_in, constructor_in, receiver_in, function_in}
 use Rattle.schema.specs.Types.{declared_type}
 use Rattle.declaration_rows.specs.Rows.{receiver_role, return_role, type_rows, parameter_rows, constructor_rows, function_rows}

@@ -3,23 +3,16 @@
 use mathlib.Core.Path.{◌≡◌, refl, sym, ap, subst, ◌∙◌}
 use mathlib.Core.List.{List, [], ◌∷◌, ◌++◌, append-nil}
 use mathlib.Core.Option.{Option, none, some}
-use Prim.Native.Nat.{ℕ, ◌+◌, ◌-◌, ◌*◌, ◌^◌, ◌≤◌, ◌<◌}
+use Prim.Native.Nat.{ℕ, ◌+◌, ◌-◌, ◌*◌, ◌≤◌}
 use native.Mathlib.Omega.{arith}
-use lib.ListN.{length, take, drop, length-take, length-drop}
-use lib.Seq.{sets, drop-drop, take-append_seam, length-take-le}
+use lib.ListN.{length, take, drop, length-take}
+use lib.Seq.{sets, take-append_seam, length-take-le}
 use Rattle.foundation.specs.Choices.{map_option}
 use Rattle.foundation.specs.Digits.{little}
 use Rattle.foundation.specs.Results.{ok, ◌from◌}
 use Rattle.foundation.proofs.DigitLaws.{length_digits}
 use Rattle.foundation.proofs.OverlayLaws.{sets_front}
 use Rattle.wire.specs.Wire.{Message, cut}
-use Rattle.wire.specs.Messages.{messages}
-use Rattle.messages.specs.told.Asked.{CheckedTold, NextBodyTold}
-use Rattle.messages.specs.declared.Checked.{Checked}
-use Rattle.wire.specs.declared.Piece.{Piece}
-use Rattle.wire.specs.declared.Piece.TheVariants as piece
-use Rattle.characters.specs.told.Places.{part_from}
-use Rattle.characters.proofs.PartLaws.{part-short, rest-is}
 use Rattle.sheet.specs.Rows.{ref, Row, row, body_text, texts}
 use Rattle.sheet.specs.told.Put.{PutRows}
 use Rattle.sheet.specs.declared.State.{State}
@@ -31,14 +24,10 @@ use Rattle.schema.specs.Members.{constructor_in, function_in}
 use Rattle.declaration_rows.specs.Rows.{constructor_rows, function_rows}
 use Rattle.schema.specs.told.SchemaTold.{Lent, Scoped, EntryAt, Stands, PickedTold}
 use Rattle.schema.specs.told.MembersTold.{Affords, Within, PickedWithin, member_cost, closed_cost, MemberTold}
-use Rattle.schema.specs.told.ListsTold.{ListAtTold}
-use Rattle.schema.specs.declared.Listed.{Listed}
-use Rattle.schema.specs.declared.Listed.TheVariants as listed
 use Rattle.schema.specs.declared.Picked.{Picked}
 use Rattle.schema.specs.declared.Picked.TheVariants as picked
 use Rattle.schema.proofs.CountLaws.{within_both, affords-less, affords-after, picked_within}
-use Rattle.schema.proofs.StandsLaws.{part-stands, stands-entry}
-use Rattle.schema.proofs.ListLaws.{Looping, loop-end, member-in, member-affords, loop-refused, loop-dropped, loop-kept}
+use Rattle.schema.proofs.StandsLaws.{stands-entry}
 use Rattle.erasure.specs.told.ErasureTold.{PutSized}
 use Rattle.erasure.specs.declared.Part.{Part}
 use Rattle.erasure.specs.declared.Part.TheVariants as part

@@ -42,7 +42,7 @@ use Rattle.schema.specs.declared.Listed.{Listed}
 use Rattle.schema.specs.declared.Listed.TheVariants as listed
 use Rattle.schema.specs.declared.Walked.{Walked}
 use Rattle.schema.specs.declared.Walked.TheVariants as walked
-use Rattle.schema.proofs.NamedLaws.{cell_length_lem}
+use Rattle.schema.proofs.NamedLaws.{cell-length}
 use Rattle.schema.proofs.CountLaws.{within_less, within_both, spends-within}
 use Rattle.schema.proofs.EachLaws.{always, each-kept}
 use Rattle.declaration_rows.proofs.RecordLaws.{parameter-put}
@@ -67,7 +67,7 @@ module _ {payload d2 : List ℕ} {n : ℕ} {s s₁ : State} (h : Affords payload
   parameter-within =
       let o = name_text payload d2 name in
       let q : PutHead 5 (parameter_cells o default) s.types s s₁ S S₁ T T₁ = put_same p (rw append-nil) (rw append-nil) in
-      let most = cell_length_lem payload d2 name h.payload-short h.d2-short in
+      let most = cell-length payload d2 name h.payload-short h.d2-short in
       let cells = record_length s.text o default in
       let written = ap length (record_text o default) in
       record { counts = omega (arith, put-sheet q, put-text q, put-types q); types = omega (arith, put-types q) }

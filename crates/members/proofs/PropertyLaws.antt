@@ -23,7 +23,7 @@ use Rattle.names.specs.declared.name.Name.{Name}
 use Rattle.sheet.specs.Rows.{Cell, num, ref, cell_text, cell_bytes, row, body_bytes, body_text, sheet_from, texts}
 use Rattle.sheet.specs.told.Put.{PutHead, PutRows}
 use Rattle.sheet.specs.declared.State.{State}
-use Rattle.sheet.proofs.RowLaws.{cell_length_lem}
+use Rattle.sheet.proofs.RowLaws.{cell-length}
 use Rattle.sheet.proofs.PutLaws.{put-sheet, put-text, put-types, put_same, rows_then}
 use Rattle.declaration_rows.specs.Declarations.{Ty, Signature, Property}
 use Rattle.schema.specs.Reading.{Scope, name_in}
@@ -64,13 +64,13 @@ unfolding body_bytes body_text
 cells_cost [] o h = omega arith
 cells_cost (num w n ∷ cs) o h =
     let p = o + length (cell_text (num w n)) in
-    omega (arith, cell_length_lem o (num w n), cells_cost cs p h.1, length-append (cell_bytes o (num w n)) (body_bytes p cs))
+    omega (arith, cell-length o (num w n), cells_cost cs p h.1, length-append (cell_bytes o (num w n)) (body_bytes p cs))
 cells_cost (ref t ∷ cs) o h =
     let p = o + length (cell_text (ref t)) in
     omega (
       arith,
       h.0,
-      cell_length_lem o (ref t),
+      cell-length o (ref t),
       cells_cost cs p h.1,
       length-append (cell_bytes o (ref t)) (body_bytes p cs),
       length-append (cell_text (ref t)) (body_text cs),

@@ -11,7 +11,7 @@ use borrow.Author.Tests.{eq-eqb, eqb-true, eqb-false, ltb-false}
 use lib.Dec.{eqb, ltb}
 use lib.ListN.{length, take, drop, length-drop}
 use lib.Seq.{length-take-le}
-use Rattle.foundation.specs.Choices.{if◌then◌else◌}
+use Rattle.std.specs.Prelude.{if◌then◌else◌}
 use Rattle.foundation.specs.Results.{Res, ok, ◌>>=◌, Part, ◌from◌, Got}
 use Rattle.foundation.proofs.ChoiceLaws.{if_ind, drop-take}
 use Rattle.foundation.proofs.ResultLaws.{Gives, gives-ok, gives_bind, gives-map}

@@ -7,7 +7,7 @@ use Prim.Native.Nat.{ℕ, ◌≤◌, ◌<◌}
 use borrow.Author.Tests.{eqb-true, eqb-false}
 use lib.Dec.{eqb}
 use lib.ListN.{length}
-use Rattle.foundation.specs.Choices.{if◌then◌else◌}
+use Rattle.std.specs.Prelude.{if◌then◌else◌}
 use Rattle.wire.specs.Wire.{read_field}
 use Rattle.wire.specs.told.WireTold.{rest_of, FieldTold}
 use Rattle.messages.specs.told.Asked.{FoundTold, FoundFrom, found_or}

@@ -9,7 +9,8 @@ use native.Mathlib.Nat.{le_refl}
 use native.Mathlib.Omega.{arith}
 use lib.Dec.{T, eqb, leb, leb→le}
 use lib.ListN.{length, get_elem?, length-append, length-map}
-use Rattle.foundation.specs.Choices.{if◌then◌else◌, if_some, All, IfSome}
+use Rattle.std.specs.Prelude.{if◌then◌else◌}
+use Rattle.foundation.specs.Choices.{if_some, All, IfSome}
 use Rattle.foundation.specs.Texts.{Text, ascii}
 use Rattle.foundation.proofs.ChoiceLaws.{if_ind, all_weaken}
 use Rattle.foundation.proofs.ResultLaws.{Gives}

@@ -8,7 +8,8 @@ use Prim.Native.String.{String}
 use native.Mathlib.Omega.{arith}
 use lib.Dec.{T, eqb}
 use lib.ListN.{get_elem?}
-use Rattle.foundation.specs.Choices.{if◌then◌else◌, All, IfSome}
+use Rattle.std.specs.Prelude.{if◌then◌else◌}
+use Rattle.foundation.specs.Choices.{All, IfSome}
 use Rattle.foundation.specs.Texts.{Text, ascii}
 use Rattle.foundation.proofs.ChoiceLaws.{if_ind, all_map}
 use Rattle.foundation.proofs.ResultLaws.{Gives}

@@ -9,7 +9,8 @@ use native.Mathlib.Omega.{arith}
 use borrow.Author.Tests.{eqb-true}
 use lib.Dec.{eqb, ltb}
 use lib.ListN.{take, drop, get_elem?}
-use Rattle.foundation.specs.Choices.{if◌then◌else◌, if_some, All, IfSome}
+use Rattle.std.specs.Prelude.{if◌then◌else◌}
+use Rattle.foundation.specs.Choices.{if_some, All, IfSome}
 use Rattle.foundation.specs.Results.{ok, Part}
 use Rattle.foundation.specs.Texts.{Text}
 use Rattle.foundation.proofs.ChoiceLaws.{if_ind, some_ind}

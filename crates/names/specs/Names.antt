@@ -1,9 +1,9 @@
 -- Names by their index: jvm_metadata.proto's StringTableTypes with the strings of d2 (document 01, "names.rs").
 -- Assumes nothing.
-use Rattle.std.specs.Prelude.{Bool, ◌&&◌, List, [], ◌∷◌, map, ℕ, ◌-◌, eqb, leb, ltb, take, drop}
+use Rattle.std.specs.Prelude.{Bool, ◌&&◌, List, [], ◌∷◌, map, ℕ, ◌-◌, eqb, leb, ltb, take, drop, if◌then◌else◌}
 use Rattle.std.proofs.Math.Option.{Option, none, some}
 use Rattle.std.proofs.Math.ListN.{get_elem?}
-use Rattle.foundation.specs.Choices.{if◌then◌else◌, if_some, map_option}
+use Rattle.foundation.specs.Choices.{if_some, map_option}
 use Rattle.foundation.specs.Results.{Res, ok, ◌>>=◌}
 use Rattle.foundation.specs.Texts.{Text}
 use Rattle.fields.specs.Fields.{StringTableTypes-record, StringTableTypes-local_name}

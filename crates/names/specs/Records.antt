@@ -1,10 +1,10 @@
 -- A record of the name table: jvm_metadata.proto's StringTableTypes.Record, and the text that it builds.
 -- Assumes nothing.
-use Rattle.std.specs.Prelude.{Bool, ◌&&◌, ◌||◌, List, [], ◌∷◌, map, ℕ, zero, suc, ◌%◌, ◌^◌, eqb}
+use Rattle.std.specs.Prelude.{Bool, ◌&&◌, ◌||◌, List, [], ◌∷◌, map, ℕ, zero, suc, ◌%◌, ◌^◌, eqb, if◌then◌else◌}
 use Rattle.std.proofs.Math.Option.{Option, none, some}
 use Prim.Native.String.{String}
 use Rattle.std.proofs.Math.ListN.{get_elem?}
-use Rattle.foundation.specs.Choices.{if◌then◌else◌, if_some, map_option, is_some}
+use Rattle.foundation.specs.Choices.{if_some, map_option, is_some}
 use Rattle.foundation.specs.Results.{Res, ok, refused, Part}
 use Rattle.foundation.specs.Texts.{Text, ascii}
 use Rattle.fields.specs.Fields.{Record-range, Record-predefined_index, Record-operation, Record-substring_index, Record-replace_char, Record-string}

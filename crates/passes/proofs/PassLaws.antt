@@ -17,7 +17,6 @@ use Rattle.encoding.specs.declared.Decoded.TheVariants as bytes_of
 use Rattle.encoding.proofs.OutcomeLaws.{limited-within, limited-arm, told-inside, told-room}
 use Rattle.encoding.proofs.EncodingLaws.{decoded-length}
 use Rattle.wire.specs.declared.WireError.{WireError}
-use Rattle.declaration_rows.specs.Declarations.{Declarations}
 use Rattle.schema.specs.told.SchemaTold.{stop_refused}
 use Rattle.schema.specs.declared.Tables.{Tables}
 use Rattle.schema.specs.declared.Stop.{Stop}

@@ -1,8 +1,7 @@
 -- The answer to what was read, and every byte of both areas.
 -- Assumes nothing.
-use Rattle.std.specs.Prelude.{List, [], ◌++◌, ℕ, ◌-◌, min, ltb, length, drop}
+use Rattle.std.specs.Prelude.{List, [], ◌++◌, ℕ, ◌-◌, min, ltb, length, drop, if◌then◌else◌}
 use Rattle.std.proofs.Math.Option.{none}
-use Rattle.foundation.specs.Choices.{if◌then◌else◌}
 use Rattle.foundation.specs.Results.{text_too_long, sheet_too_long, Res, ok, refused}
 use Rattle.fields.specs.Fields.{omitted_flags}
 use Rattle.sheet.specs.Rows.{Row, texts, sheet_from}

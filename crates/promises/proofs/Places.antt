@@ -10,7 +10,8 @@ use native.Mathlib.Omega.{arith}
 use lib.Dec.{eqb, ltb}
 use lib.Signed.{lt_z}
 use lib.ListN.{length, get_elem?}
-use Rattle.foundation.specs.Choices.{if◌then◌else◌, if_some, or_else, All, IfSome}
+use Rattle.std.specs.Prelude.{if◌then◌else◌}
+use Rattle.foundation.specs.Choices.{if_some, or_else, All, IfSome}
 use Rattle.foundation.specs.Results.{
   Cause,
   d1_too_long,

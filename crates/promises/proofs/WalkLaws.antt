@@ -4,7 +4,7 @@ use mathlib.Core.Path.{◌≡◌, refl, sym, ◌∙◌, ap, subst}
 use mathlib.Core.Bool.{Bool, true, false}
 use mathlib.Core.List.{List, [], ◌∷◌, ◌++◌, map, append_assoc, append-nil}
 use mathlib.Core.Option.{Option, none, some}
-use Prim.Native.Nat.{ℕ, zero, suc, ◌+◌, ◌≤◌}
+use Prim.Native.Nat.{ℕ, zero, suc, ◌≤◌}
 use native.Mathlib.Omega.{arith}
 use borrow.Author.Tests.{eq-eqb}
 use lib.Dec.{eqb}
@@ -18,7 +18,7 @@ use Rattle.declaration_rows.specs.Rows.{return_role, receiver_role, parameter_ro
 use Rattle.characters.specs.told.CharactersTold.{Characters}
 use Rattle.characters.proofs.Utf8Laws.{utf8_back}
 use Rattle.schema.proofs.Fine.{FineTypes, FineTy, single_fine, FineParameter, FineSignature, FineConstructor, FineFunction, FineProperty, FineAlias, FineDeclarations}
-use Rattle.descriptors.specs.Defaults.{function_parts, constructor_parts, descriptor, default_row, closed_constructor, closed_function}
+use Rattle.descriptors.specs.Defaults.{function_parts, constructor_parts, default_row, closed_constructor, closed_function}
 use Rattle.declarations.specs.Payload.{declaration_rows}
 use Rattle.promises.specs.Walk.{
   num_of,

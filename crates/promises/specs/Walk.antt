@@ -1,9 +1,9 @@
 -- A walk of a sheet that believes each count and takes exactly what it announces: what a host does who links by the sheet.
 -- Assumes nothing.
-use Rattle.std.specs.Prelude.{Bool, ◌&&◌, List, [], ◌∷◌, map, ℕ, zero, suc, ◌+◌, eqb, length}
+use Rattle.std.specs.Prelude.{Bool, ◌&&◌, List, [], ◌∷◌, map, ℕ, zero, suc, ◌+◌, eqb, length, if◌then◌else◌}
 use Rattle.std.proofs.Math.Option.{Option, none, some}
 use Rattle.std.proofs.Math.ListN.{get_elem?}
-use Rattle.foundation.specs.Choices.{if◌then◌else◌, if_some, map_option, both_of}
+use Rattle.foundation.specs.Choices.{if_some, map_option, both_of}
 use Rattle.foundation.specs.Texts.{Text}
 use Rattle.characters.specs.Characters.{from_utf8}
 use Rattle.sheet.specs.Rows.{Cell, num, ref, Row}

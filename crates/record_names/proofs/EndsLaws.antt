@@ -8,7 +8,8 @@ use Prim.Native.Nat.{ℕ, ◌+◌, ◌-◌, ◌≤◌, ◌<◌}
 use native.Mathlib.Omega.{arith}
 use lib.Dec.{eqb}
 use lib.ListN.{length, take, drop, length-drop, drop_of_length-le}
-use Rattle.foundation.specs.Choices.{if◌then◌else◌, map_option}
+use Rattle.std.specs.Prelude.{if◌then◌else◌}
+use Rattle.foundation.specs.Choices.{map_option}
 use Rattle.foundation.specs.Texts.{Text}
 use Rattle.characters.specs.Characters.{is_scalar, from_utf8_after, from_utf8}
 use Rattle.characters.specs.told.Places.{part_from}

@@ -9,7 +9,8 @@ use native.Mathlib.Omega.{arith}
 use borrow.Author.Tests.{lt-ltb, ne_eqb}
 use lib.Dec.{eqb}
 use lib.ListN.{length, get_or}
-use Rattle.foundation.specs.Choices.{if◌then◌else◌, if_some, is_some}
+use Rattle.std.specs.Prelude.{if◌then◌else◌}
+use Rattle.foundation.specs.Choices.{if_some, is_some}
 use Rattle.foundation.specs.Results.{ok, ◌from◌, got, map_got}
 use Rattle.foundation.specs.Texts.{Text}
 use Rattle.wire.specs.Wire.{groups_from, read_varint, varint, field, read_field, repeated, Message, cut}

@@ -10,7 +10,8 @@ use native.Mathlib.Nat.{le_refl}
 use borrow.Author.Tests.{ltb-true, ltb-false, lt-ltb, le-ltb, eq-eqb, ne_eqb}
 use lib.Dec.{eqb, ltb}
 use lib.ListN.{length}
-use Rattle.foundation.specs.Choices.{if◌then◌else◌, map_option}
+use Rattle.std.specs.Prelude.{if◌then◌else◌}
+use Rattle.foundation.specs.Choices.{map_option}
 use Rattle.foundation.specs.Texts.{Text}
 use Rattle.characters.specs.Characters.{utf8, from_utf8}
 use Rattle.characters.specs.told.Places.{part_from}

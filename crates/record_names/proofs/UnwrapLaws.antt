@@ -10,7 +10,8 @@ use native.Mathlib.Omega.{arith}
 use borrow.Author.Tests.{eq-eqb, ne_eqb, eqb-true, eqb-false}
 use lib.Dec.{eqb}
 use lib.ListN.{length, take, drop}
-use Rattle.foundation.specs.Choices.{if◌then◌else◌, if_some, map_option}
+use Rattle.std.specs.Prelude.{if◌then◌else◌}
+use Rattle.foundation.specs.Choices.{if_some, map_option}
 use Rattle.foundation.specs.Texts.{Text}
 use Rattle.characters.specs.Characters.{width, utf8_of, utf8, from_utf8}
 use Rattle.characters.specs.told.Places.{part_from}

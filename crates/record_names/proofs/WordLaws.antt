@@ -7,7 +7,7 @@ use native.Mathlib.Omega.{arith}
 use native.Mathlib.Nat.{mod-eq_of_lt}
 use borrow.Author.Tests.{eq-eqb, ne_eqb}
 use lib.Dec.{eqb}
-use Rattle.foundation.specs.Choices.{if◌then◌else◌}
+use Rattle.std.specs.Prelude.{if◌then◌else◌}
 use Rattle.record_names.specs.told.Note.{noted_name, noted, class_size, class_of, noted_class, noted_as, NameFits}
 use Rattle.names.specs.declared.name.Name.{Name}
 use Rattle.record_names.specs.declared.Decided.{Decided}

@@ -8,7 +8,8 @@ use native.Mathlib.Nat.{add_comm, mul-zero, mul-suc}
 use native.Mathlib.Omega.{arith}
 use lib.Dec.{eqb}
 use lib.ListN.{length}
-use Rattle.foundation.specs.Choices.{if◌then◌else◌, concat}
+use Rattle.std.specs.Prelude.{if◌then◌else◌}
+use Rattle.foundation.specs.Choices.{concat}
 use Rattle.sheet.specs.Rows.{Row, sheet_from}
 use Rattle.sheet.proofs.RowLaws.{sheet-length}
 use Rattle.declaration_rows.specs.Declarations.{Types, no_types, and_type, Ty, single, Parameter, Constructor, Function, Property, Alias, Declarations}

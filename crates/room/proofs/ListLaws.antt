@@ -8,7 +8,8 @@ use Prim.Native.Nat.{ℕ, ◌+◌}
 use native.Mathlib.Omega.{arith}
 use lib.Dec.{eqb}
 use lib.ListN.{length, length-append}
-use Rattle.foundation.specs.Choices.{if◌then◌else◌, All, concat}
+use Rattle.std.specs.Prelude.{if◌then◌else◌}
+use Rattle.foundation.specs.Choices.{All, concat}
 use Rattle.foundation.proofs.ChoiceLaws.{all_append}
 use Rattle.sheet.specs.Rows.{Row, body_text, texts}
 use Rattle.sheet.proofs.RowLaws.{texts-append}

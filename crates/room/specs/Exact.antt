@@ -1,8 +1,7 @@
 -- What a room tells of every reading of its input: which areas are enough, and what stands in them then.
 -- Assumes nothing.
-use Rattle.std.specs.Prelude.{◌≡◌, Bool, false, ◌||◌, List, [], ◌∷◌, map, ℕ, suc, ◌+◌, ◌≤◌, ◌<◌, min, eqb, length}
+use Rattle.std.specs.Prelude.{◌≡◌, Bool, false, ◌||◌, List, [], ◌∷◌, map, ℕ, suc, ◌+◌, ◌≤◌, ◌<◌, min, eqb, length, if◌then◌else◌}
 use Rattle.std.proofs.Math.Option.{some}
-use Rattle.foundation.specs.Choices.{if◌then◌else◌}
 use Rattle.foundation.specs.Results.{ok}
 use Rattle.sheet.specs.Rows.{Row, body_text}
 use Rattle.sheet.specs.Reading.{rows_of}

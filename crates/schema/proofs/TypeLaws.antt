@@ -9,7 +9,8 @@ use native.Mathlib.Omega.{arith}
 use borrow.Author.Tests.{lt-ltb, le-ltb, lt-leb, ltb-false}
 use lib.Dec.{leb, ltb}
 use lib.ListN.{length, take, drop, get_elem?}
-use Rattle.foundation.specs.Choices.{if◌then◌else◌, if_some}
+use Rattle.std.specs.Prelude.{if◌then◌else◌}
+use Rattle.foundation.specs.Choices.{if_some}
 use Rattle.foundation.specs.Results as Results
 use Rattle.foundation.specs.Results.{Res, ok, ◌from◌}
 use Rattle.wire.specs.Wire.{Message, cut}

@@ -9,7 +9,8 @@ use native.Mathlib.Nat.{le_refl, le_trans, le_step, le_of_suc-le-suc}
 use native.Mathlib.Omega.{arith}
 use lib.Dec.{eqb, ltb}
 use lib.ListN.{get_elem?}
-use Rattle.foundation.specs.Choices.{if◌then◌else◌, if_some}
+use Rattle.std.specs.Prelude.{if◌then◌else◌}
+use Rattle.foundation.specs.Choices.{if_some}
 use Rattle.foundation.specs.Results as Results
 use Rattle.foundation.specs.Results.{refused, too_many_types}
 use Rattle.foundation.proofs.ResultLaws.{gives_weaken, bind_same}

@@ -1,7 +1,6 @@
 -- How many rows are of a kind.
 -- Assumes nothing.
-use Rattle.std.specs.Prelude.{List, [], ◌∷◌, ℕ, ◌+◌, eqb}
-use Rattle.foundation.specs.Choices.{if◌then◌else◌}
+use Rattle.std.specs.Prelude.{List, [], ◌∷◌, ℕ, ◌+◌, eqb, if◌then◌else◌}
 use Rattle.sheet.specs.Rows.{Row}
 
 -- how many of the rows are of kind k

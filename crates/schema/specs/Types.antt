@@ -1,9 +1,9 @@
 -- Types: metadata.proto's Type, Type.Argument and TypeTable.
 -- Assumes nothing.
-use Rattle.std.specs.Prelude.{false, ◌||◌, [], ℕ, zero, suc, ◌+◌, eqb, ltb, leb}
+use Rattle.std.specs.Prelude.{false, ◌||◌, [], ℕ, zero, suc, ◌+◌, eqb, ltb, leb, if◌then◌else◌}
 use Rattle.std.proofs.Math.Option.{Option, none, some}
 use Rattle.std.proofs.Math.ListN.{get_elem?}
-use Rattle.foundation.specs.Choices.{if◌then◌else◌, if_some, map_option}
+use Rattle.foundation.specs.Choices.{if_some, map_option}
 use Rattle.foundation.specs.Results.{refused, too_many_types}
 use Rattle.fields.specs.Fields.{Type-argument, Type-nullable, Type-class_name, Type-Argument-projection, Type-Argument-type, Type-Argument-type_id, TypeTable-type, TypeTable-first_nullable}
 use Rattle.wire.specs.Wire.{Message}

@@ -12,7 +12,7 @@ use Rattle.foundation.proofs.OverlayLaws.{sets_append, sets_patch, sets_front}
 use Rattle.sheet.specs.declared.State.{State}
 use Rattle.sheet.specs.Rows.{Cell, num, Row, row, cell_bytes, cell_text, body_bytes, body_text, sheet_from, texts}
 use Rattle.sheet.specs.told.Put.{Put, PutCells, PutHead, PutRows, past}
-use Rattle.sheet.proofs.RowLaws.{body_text-append, texts-append, body_bytes-append, sheet-append, row-split, texts-split, cell_length, cell_length_lem}
+use Rattle.sheet.proofs.RowLaws.{body_text-append, texts-append, body_bytes-append, sheet-append, row-split, texts-split, cell_length, cell-length}
 
 -- where a step's bytes and text end
 module _ {sh tx : List ℕ} {b : ℕ} {s s' : State} {S S' T T' : List ℕ} (p : Put sh tx b s s' S S' T T') where
@@ -77,7 +77,7 @@ pub cell_put : (c : Cell) {b : ℕ} {s s' : State} (S T : List ℕ) {S' T' : Lis
     → PutCells (c ∷ []) b s s' S S' T T'
 unfolding body_bytes body_text
 cell_put c {s = s} S T e p q = record {
-  state = e ∙ simp (append-nil, cell_length_lem);
+  state = e ∙ simp (append-nil, cell-length);
   sheet = rw append-nil p;
   text = rw append-nil q;
 }

@@ -16,7 +16,7 @@ use Rattle.foundation.specs.Digits.{number, little}
 use Rattle.foundation.proofs.DigitLaws.{length_digits, number_digits_fits}
 use Rattle.sheet.specs.Rows.{Cell, num, ref, Row, row, bit, Form, wide, text, forms_of, ref_bytes, cell_bytes, cell_text, body_text, body_bytes, texts, sheet_from}
 use Rattle.sheet.specs.Reading.{taken_bytes, ref_at, ref_of, form_width, cell_of, take_cells, take_row, take_rows, rows_of}
-use Rattle.sheet.proofs.RowLaws.{cell_length, cell_length_lem}
+use Rattle.sheet.proofs.RowLaws.{cell_length, cell-length}
 
 -- A cell of a form: a number of its width that fits, or a ref to any text.
 abbrev pub FitCell : Form → Cell → Type 0
@@ -120,7 +120,7 @@ cells_back (f ∷ fs) (c ∷ cs) txt o rest p a =
     let one = cell_back f c txt o more p.0 (first-text txt o t (body_text cs) a) in
     let others = cells_back fs cs txt (o + length t) rest p.1 (next-text txt o t (body_text cs) a) in
     ap (take_cells txt (f ∷ fs)) (append_assoc (cell_bytes o c) (body_bytes (o + length t) cs) rest)
-    ∙ cells_next txt f fs (cell_bytes o c) more rest c cs (cell_length_lem o c ∙ fit-width f c p.0) one others
+    ∙ cells_next txt f fs (cell_bytes o c) more rest c cs (cell-length o c ∙ fit-width f c p.0) one others
 
 body_back : (fs : Option (List Form)) (k : ℕ) (cs : List Cell) (txt : List ℕ) (o : ℕ) (rest : List ℕ)
     → FitBody fs cs → TextAt txt o (body_text cs)

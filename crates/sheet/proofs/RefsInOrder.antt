@@ -12,7 +12,7 @@ use Rattle.foundation.specs.Choices.{if_some, All, IfSome}
 use Rattle.sheet.specs.Rows.{Cell, num, ref, Row, Form, wide, text, forms_of, cell_bytes, cell_text, body_text, body_bytes, texts, sheet_from}
 use Rattle.sheet.specs.Reading.{Ref, form_width}
 use Rattle.sheet.specs.Refs.{form_refs, body_refs, body_width, refs_after, refs_of, CutInOrder}
-use Rattle.sheet.proofs.RowLaws.{body_length, cell_length_lem, body-length}
+use Rattle.sheet.proofs.RowLaws.{body_length, cell-length, body-length}
 use Rattle.sheet.proofs.ReadBack.{FitCell, Fit, FitBody, InTable, TextAt, first-text, next-text, fit-width, ref_back}
 
 -- a law of every text that a row's refs hold
@@ -65,7 +65,7 @@ module _ (P : List ℕ → Type 0) (txt : List ℕ) where
       let more = body_bytes (o + length t) cs ++ rest in
       let one = cell_cut f c o more p.0 g.0 (first-text txt o t (body_text cs) a) in
       let others = cells_cut fs cs (o + length t) rest p.1 g.1 (next-text txt o t (body_text cs) a) in
-      let past = drop_at (cell_bytes o c) more (form_width f) (cell_length_lem o c ∙ fit-width f c p.0) in
+      let past = drop_at (cell_bytes o c) more (form_width f) (cell-length o c ∙ fit-width f c p.0) in
       rw (length-append, ← add_assoc, append_assoc (cell_bytes o c) (body_bytes (o + length t) cs) rest, past)
       (cut-append o (o + length t) _ (form_refs f (cell_bytes o c ++ more)) (body_refs fs more) one others)
 

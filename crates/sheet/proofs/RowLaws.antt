@@ -80,15 +80,15 @@ unfoldable pub rows_length : List Row → ℕ
 rows_length [] = 0
 rows_length (r ∷ rs) = suc (body_length r.body + rows_length rs)
 
-pub cell_length_lem : (o : ℕ) (c : Cell) → length (cell_bytes o c) ≡ cell_length c
-cell_length_lem o (num w n) = length_digits 256 w n
-cell_length_lem o (ref none) = refl
-cell_length_lem o (ref (some t)) = refl
+pub cell-length : (o : ℕ) (c : Cell) → length (cell_bytes o c) ≡ cell_length c
+cell-length o (num w n) = length_digits 256 w n
+cell-length o (ref none) = refl
+cell-length o (ref (some t)) = refl
 
 pub body-length : (o : ℕ) (cs : List Cell) → length (body_bytes o cs) ≡ body_length cs
 unfolding body_bytes body_length
 body-length o [] = refl
-body-length o (c ∷ cs) = rw (length-append, cell_length_lem o c, body-length (o + length (cell_text c)) cs)
+body-length o (c ∷ cs) = rw (length-append, cell-length o c, body-length (o + length (cell_text c)) cs)
 
 pub sheet-length : (o : ℕ) (rs : List Row) → length (sheet_from o rs) ≡ rows_length rs
 unfolding sheet_from rows_length

@@ -1,8 +1,8 @@
 -- A sheet's bytes taken apart again, by the record table alone.
 -- Assumes nothing.
-use Rattle.std.specs.Prelude.{List, [], ◌∷◌, ℕ, zero, suc, ◌-◌, ◌^◌, eqb, ltb, length, take, drop}
+use Rattle.std.specs.Prelude.{List, [], ◌∷◌, ℕ, zero, suc, ◌-◌, ◌^◌, eqb, ltb, length, take, drop, if◌then◌else◌}
 use Rattle.std.proofs.Math.Option.{Option, none, some}
-use Rattle.foundation.specs.Choices.{if◌then◌else◌, if_some, map_option}
+use Rattle.foundation.specs.Choices.{if_some, map_option}
 use Rattle.foundation.specs.Digits.{number}
 use Rattle.sheet.specs.Rows.{Cell, num, ref, Row, row, Form, wide, text, forms_of}
 

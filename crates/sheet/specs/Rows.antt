@@ -1,9 +1,8 @@
 -- The sheet's records as rows of cells, and their bytes (document 01, "The sheet").
 -- Assumes nothing.
-use Rattle.std.specs.Prelude.{Bool, List, [], ◌∷◌, ◌++◌, ℕ, zero, suc, ◌+◌, ◌-◌, ◌^◌, length}
+use Rattle.std.specs.Prelude.{Bool, List, [], ◌∷◌, ◌++◌, ℕ, zero, suc, ◌+◌, ◌-◌, ◌^◌, length, if◌then◌else◌}
 use Rattle.std.proofs.Math.Option.{Option, none, some}
 use Rattle.std.proofs.Math.ListN.{get_elem?}
-use Rattle.foundation.specs.Choices.{if◌then◌else◌}
 use Rattle.foundation.specs.Digits.{little}
 
 -- A cell is a number of a width in bytes, or a ref to a text, here the text itself in UTF-8.

@@ -9,7 +9,8 @@ use lib.IntN.{ℤ}
 use mir.Facts.{to_z-of_z}
 use mir.Syntax.{w32}
 use mir.Val.{SFits, of_z, to_z}
-use Rattle.foundation.specs.Choices.{if◌then◌else◌, if_some}
+use Rattle.std.specs.Prelude.{if◌then◌else◌}
+use Rattle.foundation.specs.Choices.{if_some}
 use Rattle.foundation.specs.Results.{Cause, refused, ◌>>=◌}
 use Rattle.encoding.specs.Encoding.{decoded}
 use Rattle.characters.specs.WellFormed.{Units}

@@ -8,7 +8,8 @@ use mathlib.Core.List.{List, [], ◌∷◌}
 use mathlib.Core.Option.{Option, none, some}
 use Prim.Native.Nat.{ℕ, zero, suc}
 use lib.ListN.{get_elem?}
-use Rattle.foundation.specs.Choices.{if◌then◌else◌, if_some}
+use Rattle.std.specs.Prelude.{if◌then◌else◌}
+use Rattle.foundation.specs.Choices.{if_some}
 use Rattle.foundation.specs.Results as Results
 use Rattle.foundation.specs.Results.{Cause, Res, ok, refused}
 use Rattle.foundation.specs.Texts.{Text}

@@ -10,7 +10,8 @@ use native.Mathlib.Omega.{arith}
 use lib.Dec.{eqb, ltb}
 use lib.ListN.{length, get_elem?}
 use borrow.Author.Tests.{ltb-true, ltb-false}
-use Rattle.foundation.specs.Choices.{if◌then◌else◌, if_some, map_option, or_else}
+use Rattle.std.specs.Prelude.{if◌then◌else◌}
+use Rattle.foundation.specs.Choices.{if_some, map_option, or_else}
 use Rattle.foundation.specs.Results.{ok, refused, ◌from◌}
 use Rattle.foundation.specs.Texts.{Text, same}
 use Rattle.foundation.proofs.ChoiceLaws.{same_refl, same_true}

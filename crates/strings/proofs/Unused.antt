@@ -11,7 +11,8 @@ use lib.Dec.{ltb}
 use lib.IntN.{ℤ, pos}
 use lib.Signed.{lt_z}
 use lib.ListN.{length, get_or, drop}
-use Rattle.foundation.specs.Choices.{if◌then◌else◌, if_some}
+use Rattle.std.specs.Prelude.{if◌then◌else◌}
+use Rattle.foundation.specs.Choices.{if_some}
 use Rattle.foundation.specs.Results.{Cause, Res, refused, d1_too_long, d2_too_long, string_ends, newer_version, empty_payload, ◌>>=◌}
 use Rattle.encoding.specs.Encoding.{unit_limit, decoded}
 use Rattle.names.specs.Names.{strings_from, ends_fit, d2_string}

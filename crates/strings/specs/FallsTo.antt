@@ -1,8 +1,7 @@
 -- Which strings of d2 the reading of an input falls to; document 02, request 13.
 -- Assumes nothing.
-use Rattle.std.specs.Prelude.{◌≡◌, ◌&&◌, List, ℕ, eqb, ltb, length}
+use Rattle.std.specs.Prelude.{◌≡◌, ◌&&◌, List, ℕ, eqb, ltb, length, if◌then◌else◌}
 use Rattle.std.proofs.Math.Option.{Option}
-use Rattle.foundation.specs.Choices.{if◌then◌else◌}
 use Rattle.foundation.specs.Results.{Cause, Res, refused}
 use Rattle.foundation.specs.Texts.{Text}
 use Rattle.names.specs.Names.{d2_string}

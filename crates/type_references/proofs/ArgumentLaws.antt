@@ -16,7 +16,7 @@ use Rattle.fields.specs.Fields.{Type-argument, Type-Argument-type, Type-Argument
 use Rattle.wire.specs.Wire.{Message, cut}
 use Rattle.wire.specs.Messages.{as32, index, bytes_of, cut_option, message, messages}
 use Rattle.wire.specs.told.WireTold.{part_between}
-use Rattle.messages.specs.told.Asked.{BytesTold, CheckedTold, EmbeddedIs, EmbeddedInside, EmbeddedTold, piece_told, index_told, NextBodyTold, PieceInside, PieceAfter}
+use Rattle.messages.specs.told.Asked.{BytesTold, CheckedTold, EmbeddedIs, EmbeddedInside, EmbeddedTold, index_told, NextBodyTold, PieceInside, PieceAfter}
 use Rattle.wire.specs.declared.WireError.{WireError}
 use Rattle.wire.specs.declared.Piece.{Piece}
 use Rattle.wire.specs.declared.Piece.TheVariants as piece

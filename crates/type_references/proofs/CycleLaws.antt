@@ -9,7 +9,6 @@ use native.Mathlib.Omega.{arith}
 use lib.ListN.{length, take, drop, get_elem?}
 use lib.Seq.{take-length}
 use Rattle.fields.specs.Fields.{Type-argument}
-use Rattle.foundation.specs.Results.{ok, ◌from◌}
 use Rattle.wire.specs.Wire.{Message, cut}
 use Rattle.wire.proofs.WalkLaws.{whole, ok_same}
 use Rattle.messages.specs.told.Asked.{bodies, NextIs, NextBodyTold}

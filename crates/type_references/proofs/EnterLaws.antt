@@ -40,7 +40,7 @@ use Rattle.schema.specs.declared.Stop.TheVariants as stop
 use Rattle.schema.specs.declared.Walked.TheVariants as walked
 use Rattle.schema.specs.declared.head.TypeHead.{TypeHead}
 use Rattle.schema.proofs.HeadLaws.{no-messages}
-use Rattle.schema.proofs.NamedLaws.{cell_length_lem, head-put}
+use Rattle.schema.proofs.NamedLaws.{cell-length, head-put}
 use Rattle.schema.proofs.ParseLaws.{type_none, of_fields, type_entered, type-uncut, type-done, type_rows_lem}
 use Rattle.type_references.specs.told.Pending.{rows_read, prefixed, argument_rows}
 use Rattle.type_references.specs.told.ParseTold.{CountTold, ArgumentsCut, ArgumentsKept, CountedTold, StarTold, EnterTold}
@@ -84,7 +84,7 @@ row-spends : {payload d2 : List ℕ} {s s' : State} → Ready payload d2 s → 1
     → PutRows (type_row role nullable (name_text payload d2 name) count projection) (s.types - 1) s s' S S' T T' → Spends s s'
 row-spends {payload} {d2} {s} ready some_left role projection nullable name count p =
     let name-is = name_text payload d2 name in
-    let most = cell_length_lem payload d2 name ready.payload-short ready.d2-short in
+    let most = cell-length payload d2 name ready.payload-short ready.d2-short in
     let cells = row-length s.text role nullable name-is count projection in
     let written = ap length (row-text role nullable name-is count projection) in
     record {

@@ -10,7 +10,7 @@ use native.Mathlib.Omega.{arith}
 use borrow.Author.Tests.{lt-ltb, le-ltb, ne_eqb}
 use lib.Dec.{ltb}
 use lib.ListN.{length, take, drop, get_or, length-take, length-drop, drop_of_length-le}
-use lib.Seq.{drop-cons, drop-drop, get_or-take, get_or-drop}
+use lib.Seq.{drop-drop, get_or-take, get_or-drop}
 use Rattle.foundation.specs.Results.{Res, refused, Cause, past_its_message, field_too_large, forbidden_field, wire_type, Part, Got, got, map_got}
 use Rattle.foundation.specs.Digits.{number}
 use Rattle.foundation.proofs.ResultLaws.{gives-ok}

@@ -8,7 +8,8 @@ use Prim.Native.Nat.{ℕ, suc, ◌≤◌}
 use native.Mathlib.Omega.{arith}
 use lib.Dec.{eqb}
 use lib.ListN.{length}
-use Rattle.foundation.specs.Choices.{All, IfSome, if◌then◌else◌}
+use Rattle.std.specs.Prelude.{if◌then◌else◌}
+use Rattle.foundation.specs.Choices.{All, IfSome}
 use Rattle.foundation.specs.Results.{Part}
 use Rattle.foundation.proofs.ChoiceLaws.{if_ind, some_ind, some_bind, all_append, all_weaken}
 use Rattle.foundation.proofs.ResultLaws.{Gives, gives_bind, gives_weaken}

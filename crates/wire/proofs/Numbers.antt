@@ -10,7 +10,7 @@ use Rattle.foundation.specs.Choices.{All}
 use Rattle.foundation.specs.Results.{Part, Got}
 use Rattle.foundation.proofs.ChoiceLaws.{if_ind}
 use Rattle.foundation.proofs.ResultLaws.{Gives, gives_bind, gives-map}
-use Rattle.wire.specs.Wire.{Field, field, read_varint, read_value, is_field_number, read_field, Message, cut}
+use Rattle.wire.specs.Wire.{Field, field, read_varint, read_value, is_field_number, read_field, cut}
 use Rattle.wire.proofs.Progress.{every-gives}
 use Rattle.wire.proofs.Later.{gives_any}
 

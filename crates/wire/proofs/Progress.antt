@@ -8,7 +8,7 @@ use Prim.Native.Nat.{ℕ, zero, suc, ◌≤◌, ◌<◌}
 use native.Mathlib.Omega.{arith}
 use native.Mathlib.Nat.{le_refl}
 use lib.ListN.{length}
-use Rattle.foundation.specs.Choices.{if◌then◌else◌}
+use Rattle.std.specs.Prelude.{if◌then◌else◌}
 use Rattle.foundation.specs.Results.{Res, ok, ◌>>=◌, Part, Got}
 use Rattle.foundation.proofs.ChoiceLaws.{if_ind}
 use Rattle.foundation.proofs.ResultLaws.{Gives, gives_bind, gives_weaken, bind_same}

@@ -1,9 +1,9 @@
 -- What a message says of a field. Departure: the first occurrence of a field counts, of whatever wire type, where the guide takes the
 -- last fitting one and merges messages.
 -- Assumes nothing.
-use Rattle.std.specs.Prelude.{Bool, false, not, List, [], ◌∷◌, ◌++◌, ℕ, ◌^◌, eqb, ltb}
+use Rattle.std.specs.Prelude.{Bool, false, not, List, [], ◌∷◌, ◌++◌, ℕ, ◌^◌, eqb, ltb, if◌then◌else◌}
 use Rattle.std.proofs.Math.Option.{Option, none, some}
-use Rattle.foundation.specs.Choices.{if◌then◌else◌, if_some}
+use Rattle.foundation.specs.Choices.{if_some}
 use Rattle.foundation.specs.Results.{Res, ok, ◌>>=◌, Part}
 use Rattle.wire.specs.Wire.{Value, varint, fixed, body, Message, cut, packed}
 

@@ -1,7 +1,6 @@
 -- The wire format of Protocol Buffers' encoding guide: varints, fields, and the cutting of a message into fields.
 -- Assumes nothing.
-use Rattle.std.specs.Prelude.{Bool, false, List, [], ◌∷◌, ℕ, zero, suc, ◌+◌, ◌/◌, ◌%◌, ◌^◌, eqb, ltb, length, take, drop}
-use Rattle.foundation.specs.Choices.{if◌then◌else◌}
+use Rattle.std.specs.Prelude.{Bool, false, List, [], ◌∷◌, ℕ, zero, suc, ◌+◌, ◌/◌, ◌%◌, ◌^◌, eqb, ltb, length, take, drop, if◌then◌else◌}
 use Rattle.foundation.specs.Results.{Res, ok, refused, ◌>>=◌, varint_cut_short, past_its_message, field_too_large, forbidden_field, wire_type, oversized_varint, Cause, Part, ◌from◌, Got, got, map_got}
 use Rattle.foundation.specs.Digits.{number}
 

@@ -1,9 +1,9 @@
 -- What the code's answers tell, in the definitions' words.
 -- Assumes nothing.
-use Rattle.std.specs.Prelude.{List, [], ◌∷◌, ◌≡◌, ℕ, zero, suc, ◌+◌, eqb, T, length, take, replicate}
+use Rattle.std.specs.Prelude.{List, [], ◌∷◌, ◌≡◌, ℕ, zero, suc, ◌+◌, eqb, T, length, take, replicate, if◌then◌else◌}
 use Rattle.std.proofs.Math.Option.{Option, none, some}
 use Rattle.std.proofs.lemmas.List.Edits.{sets}
-use Rattle.foundation.specs.Choices.{if◌then◌else◌, map_option, All}
+use Rattle.foundation.specs.Choices.{map_option, All}
 use Rattle.characters.specs.Characters.{
   Range,
   ◌to◌,

@@ -1,8 +1,8 @@
 -- Places in a text, and the part between two of them.
 -- Assumes nothing.
-use Rattle.std.specs.Prelude.{List, [], ◌∷◌, ℕ, zero, suc, ◌-◌, eqb, ltb, take, drop}
+use Rattle.std.specs.Prelude.{List, [], ◌∷◌, ℕ, zero, suc, ◌-◌, eqb, ltb, take, drop, if◌then◌else◌}
 use Rattle.std.proofs.Math.Option.{Option, none, some}
-use Rattle.foundation.specs.Choices.{if◌then◌else◌, map_option}
+use Rattle.foundation.specs.Choices.{map_option}
 use Rattle.characters.specs.Characters.{width, step}
 
 -- How many of the bytes stand before byte place n of their replaced text; none past its end or inside a character. The first j bytes

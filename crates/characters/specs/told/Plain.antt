@@ -1,7 +1,6 @@
 -- Texts of characters below 128, and what dots and slashes become in them.
 -- Assumes nothing.
-use Rattle.std.specs.Prelude.{Bool, true, ◌&&◌, List, [], ◌∷◌, ℕ, eqb, ltb}
-use Rattle.foundation.specs.Choices.{if◌then◌else◌}
+use Rattle.std.specs.Prelude.{Bool, true, ◌&&◌, List, [], ◌∷◌, ℕ, eqb, ltb, if◌then◌else◌}
 
 abbrev pub instead : ℕ → ℕ → ℕ → ℕ
 instead from to c = if eqb c from then to else c

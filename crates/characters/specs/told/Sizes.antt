@@ -1,7 +1,6 @@
 -- How long a text of 16-bit units is in UTF-8, by its units.
 -- Assumes nothing.
-use Rattle.std.specs.Prelude.{◌&&◌, List, [], ◌∷◌, ℕ, ◌+◌}
-use Rattle.foundation.specs.Choices.{if◌then◌else◌}
+use Rattle.std.specs.Prelude.{◌&&◌, List, [], ◌∷◌, ℕ, ◌+◌, if◌then◌else◌}
 use Rattle.characters.specs.Characters.{width, is_high, is_low}
 
 -- What a unit adds, by the unit after it: of the four bytes of a pair its first half one, its other half three.

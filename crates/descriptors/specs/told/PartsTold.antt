@@ -1,8 +1,8 @@
 -- What the writers of the parts of default descriptors tell: the part of a type, of what stands before and after the ).
 -- Assumes nothing.
-use Rattle.std.specs.Prelude.{◌≡◌, List, [], ◌∷◌, ◌++◌, map, ℕ, ◌+◌, ◌^◌, ◌≤◌, length}
+use Rattle.std.specs.Prelude.{◌≡◌, List, [], ◌∷◌, ◌++◌, map, ℕ, ◌+◌, ◌^◌, ◌≤◌, length, if◌then◌else◌}
 use Rattle.std.proofs.Math.Option.{Option, none, some}
-use Rattle.foundation.specs.Choices.{if◌then◌else◌, if_some, map_option, every_of, concat}
+use Rattle.foundation.specs.Choices.{if_some, map_option, every_of, concat}
 use Rattle.foundation.specs.Results.{ok}
 use Rattle.fields.specs.Fields.{Function-return_type, Function-receiver_type, Function-value_parameter, Function-return_type_id, Function-receiver_type_id, Function-flags}
 use Rattle.wire.specs.Wire.{Message}

@@ -1,8 +1,7 @@
 -- What `decode` answers for d1, and what the lent area then holds.
 -- Assumes nothing.
-use Rattle.std.specs.Prelude.{◌≡◌, List, ◌++◌, ℕ, ltb, length, take, drop}
+use Rattle.std.specs.Prelude.{◌≡◌, List, ◌++◌, ℕ, ltb, length, take, drop, if◌then◌else◌}
 use Rattle.std.proofs.Math.Option.{Option, none, some}
-use Rattle.foundation.specs.Choices.{if◌then◌else◌}
 use Rattle.foundation.specs.Results.{Cause, d1_too_long, empty_payload, not_a_byte, Res, ok, refused}
 use Rattle.encoding.specs.Encoding.{unit_limit, decoded}
 use Rattle.encoding.specs.declared.Decoded.{Decoded}

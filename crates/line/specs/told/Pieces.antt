@@ -1,7 +1,6 @@
 -- The input in pieces: what a piece adds to the counts. A piece holds the input's bytes from an offset, its base, on.
 -- Assumes nothing.
-use Rattle.std.specs.Prelude.{List, ℕ, zero, suc, ◌+◌, ◌-◌, ◌*◌, ◌^◌, ◌<◌, ltb, get_or}
-use Rattle.foundation.specs.Choices.{if◌then◌else◌}
+use Rattle.std.specs.Prelude.{List, ℕ, zero, suc, ◌+◌, ◌-◌, ◌*◌, ◌^◌, ◌<◌, ltb, get_or, if◌then◌else◌}
 use Rattle.line.specs.declared.input.Counts.{Counts}
 use Rattle.line.specs.Input.{d1_place, d2_place, ends_place}
 

@@ -1,9 +1,8 @@
 -- What is noted after both tables: for each of the first indices a code, and the sizes of long strings of d2.
 -- Assumes nothing.
-use Rattle.std.specs.Prelude.{◌≡◌, true, List, ℕ, ◌+◌, ◌-◌, ◌/◌, ◌%◌, ◌≤◌, ◌<◌, ltb, length, take, get_or}
+use Rattle.std.specs.Prelude.{◌≡◌, true, List, ℕ, ◌+◌, ◌-◌, ◌/◌, ◌%◌, ◌≤◌, ◌<◌, ltb, length, take, get_or, if◌then◌else◌}
 use Rattle.std.proofs.Math.Option.{some}
 use Rattle.std.proofs.Math.ListN.{get_elem?}
-use Rattle.foundation.specs.Choices.{if◌then◌else◌}
 use Rattle.characters.specs.Characters.{utf8, from_utf16}
 use Rattle.names.specs.Names.{strings_from, ends_fit}
 

@@ -1,8 +1,8 @@
 -- What the code's answers about a message tell, in the definitions' words.
 -- Assumes nothing.
-use Rattle.std.specs.Prelude.{◌≡◌, List, [], ◌∷◌, ℕ, ◌≤◌, ◌<◌, eqb, length}
+use Rattle.std.specs.Prelude.{◌≡◌, List, [], ◌∷◌, ℕ, ◌≤◌, ◌<◌, eqb, length, if◌then◌else◌}
 use Rattle.std.proofs.Math.Option.{Option, none, some}
-use Rattle.foundation.specs.Choices.{if◌then◌else◌, if_some}
+use Rattle.foundation.specs.Choices.{if_some}
 use Rattle.foundation.specs.Results.{Res, ok, Part, ◌from◌}
 use Rattle.wire.specs.Wire.{Value, read_field, Message, cut}
 use Rattle.wire.specs.Messages.{values, value, as32, bytes_of, message, bodies_of}

@@ -1,8 +1,8 @@
 -- What the code's Name means: a part of the payload, of the predefined list or of d2, and what is done to its characters.
 -- Assumes nothing.
-use Rattle.std.specs.Prelude.{Bool, false, List, [], ◌∷◌, map, ℕ, ◌-◌, eqb, leb, replicate}
+use Rattle.std.specs.Prelude.{Bool, false, List, [], ◌∷◌, map, ℕ, ◌-◌, eqb, leb, replicate, if◌then◌else◌}
 use Rattle.std.proofs.Math.Option.{Option, none, some}
-use Rattle.foundation.specs.Choices.{if◌then◌else◌, map_option, concat}
+use Rattle.foundation.specs.Choices.{map_option, concat}
 use Rattle.foundation.specs.Texts.{Text, ascii}
 use Rattle.characters.specs.Characters.{width, between, from_utf8, from_utf16}
 use Rattle.characters.specs.told.Places.{part_from}

@@ -1,8 +1,8 @@
 -- What the code's answers about a record tell, in the definitions' words.
 -- Assumes nothing.
-use Rattle.std.specs.Prelude.{◌≡◌, List, ℕ, eqb}
+use Rattle.std.specs.Prelude.{◌≡◌, List, ℕ, eqb, if◌then◌else◌}
 use Rattle.std.proofs.Math.Option.{Option, none, some}
-use Rattle.foundation.specs.Choices.{if◌then◌else◌, if_some}
+use Rattle.foundation.specs.Choices.{if_some}
 use Rattle.foundation.specs.Results.{ok, ◌from◌}
 use Rattle.fields.specs.Fields.{Record-range, Record-predefined_index, Record-operation, Record-substring_index, Record-replace_char, Record-string}
 use Rattle.wire.specs.Wire.{Message, cut}

@@ -1,9 +1,9 @@
 -- What the code does with a name, in the definitions' words.
 -- Assumes nothing.
-use Rattle.std.specs.Prelude.{Bool, true, false, ◌||◌, ◌≡◌, List, [], map, ℕ, ◌+◌, ◌≤◌, eqb, leb, length}
+use Rattle.std.specs.Prelude.{Bool, true, false, ◌||◌, ◌≡◌, List, [], map, ℕ, ◌+◌, ◌≤◌, eqb, leb, length, if◌then◌else◌}
 use Rattle.std.proofs.Math.Option.{Option, none, some}
 use Rattle.std.proofs.lemmas.List.Edits.{sets}
-use Rattle.foundation.specs.Choices.{if◌then◌else◌, if_some}
+use Rattle.foundation.specs.Choices.{if_some}
 use Rattle.foundation.specs.Texts.{Text}
 use Rattle.characters.specs.Characters.{width, from_utf8, utf8}
 use Rattle.characters.specs.told.Places.{part_from}

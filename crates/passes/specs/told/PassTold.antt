@@ -1,7 +1,6 @@
 -- What the code's answers tell of the whole reading: the first pass, an answer or no room.
 -- Assumes nothing.
-use Rattle.std.specs.Prelude.{◌≡◌, List, ℕ, ◌*◌, ◌≤◌, length}
-use Rattle.foundation.specs.Choices.{if◌then◌else◌}
+use Rattle.std.specs.Prelude.{◌≡◌, List, ℕ, ◌*◌, ◌≤◌, length, if◌then◌else◌}
 use Rattle.foundation.specs.Results.{Res, ◌>>=◌}
 use Rattle.encoding.specs.Encoding.{decoded}
 use Rattle.lookup.specs.told.Strings.{codes_from}

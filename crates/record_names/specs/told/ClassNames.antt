@@ -1,8 +1,8 @@
 -- What the code's answers about a record's class name tell, in the definitions' words.
 -- Assumes nothing.
-use Rattle.std.specs.Prelude.{◌≡◌, true, List, ℕ, ◌+◌, ◌≤◌, ◌<◌, length, eqb}
+use Rattle.std.specs.Prelude.{◌≡◌, true, List, ℕ, ◌+◌, ◌≤◌, ◌<◌, length, eqb, if◌then◌else◌}
 use Rattle.std.proofs.Math.Option.{Option}
-use Rattle.foundation.specs.Choices.{if◌then◌else◌, map_option}
+use Rattle.foundation.specs.Choices.{map_option}
 use Rattle.foundation.specs.Texts.{Text}
 use Rattle.characters.specs.Characters.{utf8, from_utf8}
 use Rattle.characters.specs.told.Places.{part_from}

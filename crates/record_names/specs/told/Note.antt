@@ -1,7 +1,6 @@
 -- What is noted of a record: what it builds, in two words.
 -- Assumes nothing.
-use Rattle.std.specs.Prelude.{◌≡◌, Bool, true, false, ℕ, ◌-◌, ◌/◌, ◌%◌, ◌≤◌, ◌<◌, eqb}
-use Rattle.foundation.specs.Choices.{if◌then◌else◌}
+use Rattle.std.specs.Prelude.{◌≡◌, Bool, true, false, ℕ, ◌-◌, ◌/◌, ◌%◌, ◌≤◌, ◌<◌, eqb, if◌then◌else◌}
 use Rattle.names.specs.declared.name.Name.{Name}
 use Rattle.record_names.specs.declared.note.Words.{Words}
 use Rattle.record_names.specs.declared.Decided.{Decided}

@@ -1,7 +1,6 @@
 -- A record's name clipped to what it is made of, and its size.
 -- Assumes nothing.
-use Rattle.std.specs.Prelude.{◌≡◌, List, ℕ, ◌≤◌, eqb, ltb}
-use Rattle.foundation.specs.Choices.{if◌then◌else◌}
+use Rattle.std.specs.Prelude.{◌≡◌, List, ℕ, ◌≤◌, eqb, ltb, if◌then◌else◌}
 use Rattle.names.specs.declared.name.Name.{Name}
 use Rattle.record_names.specs.told.ClassNames.{part_size}
 

@@ -1,8 +1,8 @@
 -- What the code's answers about a record's text tell, in the definitions' words.
 -- Assumes nothing.
-use Rattle.std.specs.Prelude.{◌≡◌, false, List, ℕ, ◌+◌, ◌^◌, ◌≤◌, ◌<◌, eqb, length}
+use Rattle.std.specs.Prelude.{◌≡◌, false, List, ℕ, ◌+◌, ◌^◌, ◌≤◌, ◌<◌, eqb, length, if◌then◌else◌}
 use Rattle.std.proofs.Math.Option.{Option, none, some}
-use Rattle.foundation.specs.Choices.{if◌then◌else◌, if_some, map_option}
+use Rattle.foundation.specs.Choices.{if_some, map_option}
 use Rattle.foundation.specs.Texts.{Text}
 use Rattle.messages.specs.told.Asked.{piece_told, PieceInside, index_told}
 use Rattle.wire.specs.declared.Piece.{Piece}

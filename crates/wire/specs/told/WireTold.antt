@@ -1,7 +1,7 @@
 -- What the code's answers tell, in the definitions' words.
 -- Assumes nothing.
 use Rattle.std.specs.Prelude.{◌≡◌, List, [], ◌++◌, ℕ, ◌+◌, ◌-◌, ◌^◌, ◌≤◌, ◌<◌, length, take, drop}
-use Rattle.foundation.specs.Results.{Res, ok, refused, ◌>>=◌, Cause, varint_cut_short, past_its_message, field_too_large, forbidden_field, wire_type, oversized_varint, Part, ◌from◌, Got, got, map_got}
+use Rattle.foundation.specs.Results.{Res, ok, refused, ◌>>=◌, Cause, varint_cut_short, past_its_message, field_too_large, forbidden_field, wire_type, oversized_varint, Part, ◌from◌, Got, got}
 use Rattle.wire.specs.Wire.{Value, varint, fixed, body, Field, field, read_groups, read_varint, read_delimited, read_field, Message, cut}
 use Rattle.wire.specs.Messages.{values}
 use Rattle.wire.specs.declared.WireError.{WireError}

@@ -1,0 +1,12 @@
+use mathlib.Core.Path.{◌≡◌}
+use Prim.Native.Nat.{◌-◌}
+use lib.ListN.{length}
+use Rattle.schema.specs.told.SchemaTold.{lent}
+use Rattle.descriptors.proofs.DefaultLaws.{Parting}
+use Rattle.descriptors.proofs.defaults.parameter_parts.Given as goal
+
+abbrev pub invariant-loop-start : goal.invariant-loop-start
+invariant-loop-start l = Parting (lent l.payload l.d2 l.ends l.notes l.tables) l.msg l.base l.number l.at l.initial.area l.from l.size l.area × (length l.area ≡ length l.initial.area)
+
+abbrev pub decreases-loop-start : goal.decreases-loop-start
+decreases-loop-start l = length l.msg - l.from

@@ -1,0 +1,15 @@
+use mathlib.Core.Path.{sym, ◌∙◌}
+use Rattle.std.proofs.lemmas.Bool.{eqb-false}
+use Rattle.characters.proofs.UnitLaws.{utf16-next}
+use Rattle.schema.proofs.HeadLaws.{never_false}
+use Rattle.descriptors.proofs.ErasedLaws.{not_listed}
+use Rattle.descriptors.proofs.erased.may_be_listed.Goals as goal
+
+pub returns-then-source-ne3 : goal.returns-then-source-ne3
+returns-then-source-ne3 c = λ e. never_false e
+
+pub returns-in_default : goal.returns-in_default
+returns-in_default c = λ e. never_false e
+
+pub returns : goal.returns
+returns c = λ e. not_listed c.args.payload.now c.args.d2.now c.args.name c.if-source-ne3.false c.change_of.ensures (utf16-next c.args.d2.now c.args.name.start c.args.name.end (sym c.utf16_at-character.ensures ∙ c.in-Read.is)) c.character_of.ensures (eqb-false c.character_of.result 0x6b e)

@@ -1,0 +1,13 @@
+use mathlib.Core.Path.{◌≡◌}
+use Prim.Native.Nat.{◌+◌}
+use lib.ListN.{length}
+use Rattle.schema.specs.told.SchemaTold.{lent}
+use Rattle.schema.specs.told.PlacesTold.{reach}
+use Rattle.descriptors.proofs.ErasedWalk.{Walking}
+use Rattle.descriptors.proofs.erased.put_erased.Given as goal
+
+abbrev pub invariant-loop-size : goal.invariant-loop-size
+invariant-loop-size l = Walking (lent l.payload l.d2 l.ends l.notes l.tables) l.base (l.base + length l.msg) l.initial.here.nullable l.initial.here.left l.initial.here.position l.at l.initial.area l.start l.end l.here.nullable l.here.left l.here.position l.next l.area × (length l.area ≡ length l.initial.area)
+
+abbrev pub decreases-loop-size : goal.decreases-loop-size
+decreases-loop-size l = reach l.here.left l.start l.end

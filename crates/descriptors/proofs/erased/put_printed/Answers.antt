@@ -1,0 +1,14 @@
+use Rattle.descriptors.proofs.ErasedLaws.{printed-fixed, printed-array, printed-class, printed-nothing}
+use Rattle.descriptors.proofs.erased.put_printed.Goals as goal
+
+pub returns-in-Fixed : goal.returns-in-Fixed
+returns-in-Fixed c = printed-fixed c.args.payload.now c.args.d2.now c.args.name c.in-Fixed.is c.put_part.ensures
+
+pub returns-in-ThroughArray : goal.returns-in-ThroughArray
+returns-in-ThroughArray c = printed-array c.args.payload.now c.args.d2.now c.args.name c.in-ThroughArray.is c.put.ensures
+
+pub returns-in-ClassItself : goal.returns-in-ClassItself
+returns-in-ClassItself c = printed-class c.args.payload.now c.args.d2.now c.args.name c.requires.0 c.requires.1 c.in-ClassItself.is c.put_class.ensures
+
+pub returns-in-Nothing : goal.returns-in-Nothing
+returns-in-Nothing c = printed-nothing c.args.payload.now c.args.d2.now c.args.name c.in-Nothing.is
