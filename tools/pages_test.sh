@@ -68,17 +68,17 @@ sed -i 's/`wire`: `Wire`, `Messages`/`wire`: `Wire`/' "$here/copy/README.md"
 if python3 -B "$here/copy/tools/trusted.py" --check > "$here/out" 2>&1; then echo 'trusted: not found, README has a file fewer'; failed=1; fi
 python3 -B "$here/copy/tools/trusted.py" --write
 cmp README.md "$here/copy/README.md" || failed=1
-echo 'use Rattle·lookup.specs.told.Strings.{codesIn}' >> "$here/copy/crates/metadata/specs/Read.antt"
+echo 'use Rattle.lookup.specs.told.Strings.{codes_in}' >> "$here/copy/crates/metadata/specs/Read.antt"
 believes 'lookup/specs/told/Strings.antt: crates/metadata/specs/Read.antt rests on it'
 mv "$here/copy/crates/wire/specs/told/WireTold.antt" "$here/copy/crates/wire/specs/WireTold.antt"
 believes 'wire/specs/WireTold.antt: nothing to be believed rests on it'
-echo 'use Rattle·promises.specs.Walk.{refText}' >> "$here/copy/crates/wire/specs/Wire.antt"
+echo 'use Rattle.promises.specs.Walk.{ref_text}' >> "$here/copy/crates/wire/specs/Wire.antt"
 believes 'wire/specs/Wire.antt: it is read before crates/promises/specs/Walk.antt'
-echo 'use Rattle·wire.specs.More.{more}' >> "$here/copy/crates/wire/specs/Messages.antt"
+echo 'use Rattle.wire.specs.More.{more}' >> "$here/copy/crates/wire/specs/Messages.antt"
 echo '-- more' > "$here/copy/crates/wire/specs/More.antt"
 believes 'wire/specs/More.antt: it has no place in ORDER'
-printf 'abbrev pub bodyIn : ℕ\nbodyIn = 0\n' >> "$here/copy/crates/wire/specs/told/WireTold.antt"
-believes 'bodyIn is defined in crates/schema/specs/Members.antt and in crates/wire/specs/told/WireTold.antt'
+printf 'abbrev pub body_in : ℕ\nbody_in = 0\n' >> "$here/copy/crates/wire/specs/told/WireTold.antt"
+believes 'body_in is defined in crates/schema/specs/Members.antt and in crates/wire/specs/told/WireTold.antt'
 
 # the lines that README shows of ./sheet are those that it prints
 grep '^    public ' README.md | sed 's/^    //' > "$here/shown"
@@ -99,8 +99,8 @@ traced() { # words that must be said
         failed=1
     fi
 }
-sed -i 's/`firstAbove255`/`firstAbove256`/' "$here/traced/docs/TRACE.md"
-traced 'firstAbove256 is defined nowhere'
+sed -i 's/`first_above255`/`first_above256`/' "$here/traced/docs/TRACE.md"
+traced 'first_above256 is defined nowhere'
 cp docs/TRACE.md "$here/traced/docs"
 mv "$here/traced/crates/encoding/specs/Encoding.antt" "$here/traced/crates/encoding/specs/Units.antt"
 traced 'there should be .*encoding/specs/Units.antt'
