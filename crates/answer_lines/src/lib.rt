@@ -10,6 +10,7 @@ use line::input::{Counts, ends_at, input_end, signed_at, units_at};
 use line::output::put_line;
 use line::stream::{Taken, take_input};
 use metadata::read;
+use std::io::Read;
 
 // The reader's answer to d1, d2 and ends, with k and mv from what is kept.
 fn put_read(kept: &[u8], d1: &[u16], d2: &[u16], ends: &[u32], area: &mut [u8]) -> usize
@@ -68,12 +69,12 @@ fn put_answer(kept: &[u8], taken: Taken, area: &mut [u8]) -> usize
 
 // Reads an input of at most `limit` bytes and puts its line into the area.
 // Callers show that places of a read that goes on fit 64 bits: the limit of sheet_reader is a written number, that of replays one of 4 bytes.
-pub fn answer_input(fd: i32, limit: usize, area: &mut [u8]) -> usize
+pub fn answer_input<R: Read>(reader: &mut R, limit: usize, area: &mut [u8]) -> usize
     requires { limit ≤ 2 ^ 40 }
     ensures { WroteLine result area.old area.new }
 {
     let mut kept = [0u8; 147484];
-    let taken = take_input(fd, &mut kept, limit);
+    let taken = take_input(reader, &mut kept, limit);
     let size = taken.kept;
     put_answer(&kept[..size], taken, area)
 }

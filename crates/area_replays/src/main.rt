@@ -5,14 +5,16 @@
 
 ghost use Rattle.std.specs.Prelude.{◌≡◌, length};
 
-use libc::STDOUT_FILENO;
 use line::input::{ends_at, four_in, signed_at, units_at};
 use line::output::put_line;
+use line::stream::read_full;
 use metadata::read;
+use std::io::Read;
+use std::rt::Files;
+use std::{env, fs, io};
 
-fn print_number(n: u64) {
-    io::print_decimal(STDOUT_FILENO, n);
-    io::write_all(STDOUT_FILENO, b" ");
+fn print_number(rt: &impl Print, n: usize) -> io::Result<()> {
+    print!(rt; "{n} ")
 }
 
 // An area as it is before an input is read.
@@ -36,40 +38,49 @@ fn line_area() -> [u8; 262190]
     [0; 262190]
 }
 
-// Number, detail and all of both areas; false where they are too long or can't be written.
-fn print_line(number: u64, detail: u64, sheet: &[u8], text: &[u8]) -> bool {
+// Number, detail and all of both areas; false where they are too long.
+fn print_line(
+    rt: &impl Print,
+    number: u64,
+    detail: u64,
+    sheet: &[u8],
+    text: &[u8],
+) -> io::Result<bool> {
     if 65536 < sheet.len() {
-        return false;
+        return Ok(false);
     }
     if 65536 < text.len() {
-        return false;
+        return Ok(false);
     }
     let mut area = line_area();
     let size = put_line(&mut area, number, detail, sheet, text);
     if area.len() < size {
-        return false;
+        return Ok(false);
     }
-    io::write_all(STDOUT_FILENO, &area[..size])
+    rt.write_all(&area[..size])?;
+    Ok(true)
 }
 
 // The answer into these areas, with k and mv from what is kept.
 fn show(
+    rt: &impl Print,
     kept: &[u8],
     d1: &[u16],
     d2: &[u16],
     ends: &[u32],
     sheet: &mut [u8],
     text: &mut [u8],
-) -> bool {
+) -> io::Result<bool> {
     let k = signed_at(kept, 0);
     let version = [signed_at(kept, 4), signed_at(kept, 8), signed_at(kept, 12)];
     let answer = read(k, version, d1, d2, ends, sheet, text);
-    print_number(answer.sheet as u64);
-    print_number(answer.text as u64);
-    print_number(answer.types as u64);
+    print_number(rt, answer.sheet)?;
+    print_number(rt, answer.text)?;
+    print_number(rt, answer.types)?;
     let sheet_size = sheet.len();
     let text_size = text.len();
     print_line(
+        rt,
         answer.number,
         answer.detail,
         &sheet[..sheet_size],
@@ -78,7 +89,7 @@ fn show(
 }
 
 // The same with d1, d2 and ends from what is kept.
-fn show_kept(kept: &[u8], sheet: &mut [u8], text: &mut [u8]) -> bool {
+fn show_kept(rt: &impl Print, kept: &[u8], sheet: &mut [u8], text: &mut [u8]) -> io::Result<bool> {
     let mut d1 = [0u16; 32769];
     let mut d2 = [0u16; 32769];
     let mut ends = [0u32; 4097];
@@ -93,6 +104,7 @@ fn show_kept(kept: &[u8], sheet: &mut [u8], text: &mut [u8]) -> bool {
         &mut ends,
     );
     show(
+        rt,
         kept,
         &d1[..d1_count],
         &d2[..d2_count],
@@ -103,17 +115,23 @@ fn show_kept(kept: &[u8], sheet: &mut [u8], text: &mut [u8]) -> bool {
 }
 
 // The same with what is kept from a file.
-fn read_and_show(file: i32, kept: &mut [u8], sheet: &mut [u8], text: &mut [u8]) -> bool {
-    let got = io::read_full(file, kept);
-    show_kept(&kept[..got], sheet, text)
+fn read_and_show<F: Read>(
+    rt: &impl Print,
+    file: &mut F,
+    kept: &mut [u8],
+    sheet: &mut [u8],
+    text: &mut [u8],
+) -> io::Result<bool> {
+    let got = read_full(file, kept);
+    show_kept(rt, &kept[..got], sheet, text)
 }
 
-// One input of a file; false at its end, where areas are larger than 65,536 bytes, or where a line can't be written.
-fn replay(file: i32) -> bool {
+// One input of a file; false at its end, or where areas are larger than 65,536 bytes.
+fn replay<F: Read>(rt: &impl Print, file: &mut F) -> io::Result<bool> {
     let mut head = [0u8; 12];
-    let got = io::read_full(file, &mut head);
+    let got = read_full(file, &mut head);
     if got < 12 {
-        return false;
+        return Ok(false);
     }
     let size = four_in(&head, 0, 0);
     let sheet_size = four_in(&head, 0, 4);
@@ -122,15 +140,16 @@ fn replay(file: i32) -> bool {
     let mut sheet = patterned();
     let mut text = patterned();
     if kept.len() < size {
-        return false;
+        return Ok(false);
     }
     if sheet.len() < sheet_size {
-        return false;
+        return Ok(false);
     }
     if text.len() < text_size {
-        return false;
+        return Ok(false);
     }
     read_and_show(
+        rt,
         file,
         &mut kept[..size],
         &mut sheet[..sheet_size],
@@ -139,32 +158,27 @@ fn replay(file: i32) -> bool {
 }
 
 // All inputs of a file.
-fn replay_all(file: i32) {
-    let mut left: usize = 1000000;
-    while 0 < left {
-        if !replay(file) {
-            return;
+fn replay_all<F: Read>(rt: &impl Print, file: &mut F) -> io::Result<()> {
+    for _ in 0..1000000 {
+        if !replay(rt, file)? {
+            break;
         }
-        left -= 1;
+    }
+    Ok(())
+}
+
+// The file of this name, after a line with the name. One that can't be opened has no inputs.
+fn replay_named<R: Files + Print>(rt: &R, name: &str) -> io::Result<()> {
+    println!(rt; "{name}")?;
+    match fs::open(rt, name) {
+        Ok(mut file) => replay_all(rt, &mut file),
+        Err(_) => Ok(()),
     }
 }
 
-// The file that an argument names, after a line with its name. One that can't be opened has no inputs.
-fn replay_named(argument: usize) {
-    let mut name = io::buffer();
-    let size = os::arg(argument, &mut name);
-    io::write_all(STDOUT_FILENO, &name[..size]);
-    io::write_all(STDOUT_FILENO, b"\n");
-    let file = os::open_read(&name[..size]);
-    replay_all(file);
-    libc::close(file);
-}
-
-fn main() {
-    let count = os::arg_count();
-    let mut argument = 1;
-    while argument < count {
-        replay_named(argument);
-        argument += 1;
+fn main(rt: HostRuntime) -> io::Result<()> {
+    for name in env::args(&rt)?.skip(1) {
+        replay_named(&rt, name.as_str())?;
     }
+    Ok(())
 }

@@ -1,11 +1,10 @@
 -- The units that a conversion wrote stand inside its area; the first of an array's units.
 -- Assumes nothing.
-use mathlib.Core.Path.{◌≡◌, sym, subst}
+use mathlib.Core.Path.{◌≡◌, subst}
 use mathlib.Core.List.{List}
 use Prim.Native.Nat.{ℕ, ◌≤◌}
 use native.Mathlib.Omega.{arith}
-use lib.ListN.{length, take, replicate, length-replicate}
-use lib.Seq.{length-take-le}
+use lib.ListN.{length}
 use Rattle.converter.specs.Conversions.{old_to_new, new_to_old}
 use Rattle.converter.specs.Statements.{AnswerKept}
 use Rattle.converter.specs.told.ConversionTold.{converted_by}
@@ -18,6 +17,3 @@ module _ (d1 area after : List ℕ) (r : Converted) (same : length after ≡ len
 
   pub new-inside : new_to_old area d1 ≡ converted_by r after → r.length ≤ length after
   new-inside e = let k = subst (AnswerKept area d1) e (new_kept area d1) in omega (arith, k.inside)
-
-pub front_count : (n k x : ℕ) → n ≤ k → n ≡ length (take n (replicate k x))
-front_count n k x h = sym (length-take-le n (replicate k x) (rw length-replicate h))

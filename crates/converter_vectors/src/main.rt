@@ -2,7 +2,7 @@
 #![tactic(auto)]
 
 use converter::{new_to_old, old_to_new};
-use libc::STDOUT_FILENO;
+use std::io;
 
 // What came of several inputs: how many were converted, how many of these came back, and a checksum of the old units.
 #[derive(Clone, Copy)]
@@ -12,30 +12,22 @@ struct Tally {
     sum: u64,
 }
 
-fn digit(n: u64) -> u8 {
-    let d = (n % 16) as u8;
-    if d < 10 { 48 + d } else { 87 + d }
-}
-
-fn write_byte(n: u64) {
-    let text = [digit(n / 16), digit(n)];
-    io::write_all(STDOUT_FILENO, &text);
+// The lowest byte of a number, in two hex digits.
+fn write_byte(rt: &impl Print, n: u64) -> io::Result<()> {
+    print!(rt; "{:02x}", n % 256)
 }
 
 // A number in four hex digits, after a space.
-fn write_number(n: u64) {
-    io::write_all(STDOUT_FILENO, b" ");
-    write_byte(n / 256 % 256);
-    write_byte(n % 256);
+fn write_number(rt: &impl Print, n: u64) -> io::Result<()> {
+    print!(rt; " {:04x}", n % 65536)
 }
 
-fn write_units(units: &[u16]) {
-    io::write_all(STDOUT_FILENO, b" ");
-    let mut i = 0;
-    while i < units.len() {
-        write_byte(units[i] as u64 % 256);
-        i += 1;
+fn write_units(rt: &impl Print, units: &[u16]) -> io::Result<()> {
+    print!(rt; " ")?;
+    for unit in units {
+        write_byte(rt, u64::from(*unit))?;
     }
+    Ok(())
 }
 
 // A step of java.util.Random: its 48 bits times 25,214,903,917, plus 11, in two halves of 24 bits.
@@ -49,40 +41,24 @@ fn step(state: u64) -> u64 {
 fn fill(d1: &mut [u16], seed: u64) {
     let mut state = seed ^ 25214903917;
     let mut word: u64 = 0;
-    let mut i = 0;
-    while i < d1.len() {
+    for (i, unit) in d1.iter_mut().enumerate() {
         if i % 4 == 1 {
             state = step(state);
             word = state / 65536;
         }
-        d1[i] = (word % 256) as u16;
-        word = word / 256;
-        i += 1;
+        *unit = (word % 256) as u16;
+        word /= 256;
     }
 }
 
 fn same(units: &[u16], others: &[u16]) -> bool {
-    if units.len() != others.len() {
-        return false;
-    }
-    let mut i = 0;
-    while i < units.len() {
-        if i < others.len() {
-            if units[i] != others[i] {
-                return false;
-            }
-        }
-        i += 1;
-    }
-    true
+    units == others
 }
 
 fn checksum(sum: u64, units: &[u16]) -> u64 {
     let mut now = sum;
-    let mut i = 0;
-    while i < units.len() {
-        now = (now % 4294967296 * 31 + units[i] as u64) % 4294967296;
-        i += 1;
+    for unit in units {
+        now = (now % 4294967296 * 31 + u64::from(*unit)) % 4294967296;
     }
     now
 }
@@ -97,14 +73,14 @@ fn counted(n: u64, more: bool) -> u64 {
 
 // One input of the test: from new to old and back.
 fn convert(d1: &[u16], units: &mut [u16], back: &mut [u16], tally: Tally) -> Tally {
-    let r = new_to_old(&*d1, units);
+    let r = new_to_old(d1, units);
     if r.number != 0 {
         return tally;
     }
     let old = &units[..r.length];
     let sum = checksum(tally.sum, old);
     let s = old_to_new(old, back);
-    let again = same(&back[..s.length], &*d1);
+    let again = same(&back[..s.length], d1);
     Tally {
         converted: counted(tally.converted, true),
         back: counted(tally.back, again),
@@ -119,9 +95,7 @@ fn convert_all(seeds: u64, d1: &mut [u16], units: &mut [u16], back: &mut [u16]) 
         back: 0,
         sum: 0,
     };
-    let mut seed = 0;
-    while seed < seeds {
-        seed += 1;
+    for seed in 1..=seeds {
         fill(d1, seed);
         tally = convert(&*d1, units, back, tally);
     }
@@ -129,119 +103,132 @@ fn convert_all(seeds: u64, d1: &mut [u16], units: &mut [u16], back: &mut [u16]) 
 }
 
 // How many bytes, how many inputs were converted, how many of these came back, the checksum.
-fn write_tally(length: usize, tally: Tally) {
-    write_number(length as u64);
-    write_number(tally.converted);
-    write_number(tally.back);
-    write_number(tally.sum / 65536);
-    write_number(tally.sum % 65536);
+fn write_tally(rt: &impl Print, length: usize, tally: Tally) -> io::Result<()> {
+    write_number(rt, length as u64)?;
+    write_number(rt, tally.converted)?;
+    write_number(rt, tally.back)?;
+    write_number(rt, tally.sum / 65536)?;
+    write_number(rt, tally.sum % 65536)
 }
 
 // The test's inputs of one length, and the old units of the first.
-fn show(length: usize, d1: &mut [u16], units: &mut [u16], back: &mut [u16]) {
+fn show(
+    rt: &impl Print,
+    length: usize,
+    d1: &mut [u16],
+    units: &mut [u16],
+    back: &mut [u16],
+) -> io::Result<()> {
     let tally = convert_all(100, d1, units, back);
-    write_tally(length, tally);
+    write_tally(rt, length, tally)?;
     fill(d1, 1);
     let r = new_to_old(&*d1, units);
-    write_units(&units[..r.length]);
-    io::write_all(STDOUT_FILENO, b"\n");
+    write_units(rt, &units[..r.length])?;
+    println!(rt)
 }
 
-fn short(length: usize) {
+fn short(rt: &impl Print, length: usize) -> io::Result<()> {
     let mut d1 = [0u16; 101];
     let mut units = [0u16; 128];
     let mut back = [0u16; 128];
     if length < 101 {
-        show(length, &mut d1[..length + 1], &mut units, &mut back);
+        show(rt, length, &mut d1[..length + 1], &mut units, &mut back)?;
     }
+    Ok(())
 }
 
-fn all_short() {
-    let mut length = 0;
-    while length <= 100 {
-        short(length);
-        length += 1;
+fn all_short(rt: &impl Print) -> io::Result<()> {
+    for length in 0..=100 {
+        short(rt, length)?;
     }
+    Ok(())
 }
 
 // The longer ones that the limits allow, and one above them.
-fn long(length: usize) {
+fn long(rt: &impl Print, length: usize) -> io::Result<()> {
     let mut d1 = [0u16; 33001];
     let mut units = [0u16; 37448];
     let mut back = [0u16; 32769];
     if length <= 33000 {
         let tally = convert_all(3, &mut d1[..length + 1], &mut units, &mut back);
-        write_tally(length, tally);
-        io::write_all(STDOUT_FILENO, b"\n");
+        write_tally(rt, length, tally)?;
+        println!(rt)?;
     }
+    Ok(())
 }
 
 // Number, detail, length, and the whole area afterwards.
-fn write_answer(number: u64, detail: u64, length: usize, area: &[u16]) {
-    write_number(number);
-    write_number(detail);
-    write_number(length as u64);
-    write_units(area);
+fn write_answer(
+    rt: &impl Print,
+    number: u64,
+    detail: u64,
+    length: usize,
+    area: &[u16],
+) -> io::Result<()> {
+    write_number(rt, number)?;
+    write_number(rt, detail)?;
+    write_number(rt, length as u64)?;
+    write_units(rt, area)
 }
 
 // An input both ways, into areas of nine units.
-fn both(d1: &[u16]) {
+fn both(rt: &impl Print, d1: &[u16]) -> io::Result<()> {
     let mut area = [0xeeu16; 9];
-    let r = old_to_new(&*d1, &mut area);
-    write_answer(r.number, r.detail, r.length, &area);
+    let r = old_to_new(d1, &mut area);
+    write_answer(rt, r.number, r.detail, r.length, &area)?;
     let mut other = [0xeeu16; 9];
-    let s = new_to_old(&*d1, &mut other);
-    write_answer(s.number, s.detail, s.length, &other);
-    io::write_all(STDOUT_FILENO, b"\n");
+    let s = new_to_old(d1, &mut other);
+    write_answer(rt, s.number, s.detail, s.length, &other)?;
+    println!(rt)
 }
 
-fn forms() {
+fn forms(rt: &impl Print) -> io::Result<()> {
     let empty = [0u16; 0];
-    both(&empty);
+    both(rt, &empty)?;
     let marker_alone = [0u16];
-    both(&marker_alone);
+    both(rt, &marker_alone)?;
     let one_old = [5u16];
-    both(&one_old);
+    both(rt, &one_old)?;
     let above_first = [0x12cu16, 1];
-    both(&above_first);
+    both(rt, &above_first)?;
     let above_later = [1u16, 0x400, 0xffff];
-    both(&above_later);
+    both(rt, &above_later)?;
     let above_marked = [0u16, 0x7f, 0x100];
-    both(&above_marked);
+    both(rt, &above_marked)?;
     let marker_in_low_byte = [0x100u16];
-    both(&marker_in_low_byte);
+    both(rt, &marker_in_low_byte)
 }
 
-fn groups() {
+fn groups(rt: &impl Print) -> io::Result<()> {
     let old = [2u16, 5, 0xd, 0x21, 0x51, 0x41, 0x42, 4];
-    both(&old);
+    both(rt, &old)?;
     let high_bits = [1u16, 2, 3, 0x7f, 0x80, 0xff, 0x40, 0x55];
-    both(&high_bits);
+    both(rt, &high_bits)?;
     let later_zeros = [1u16, 0, 0, 0, 0, 0, 0, 0, 0];
-    both(&later_zeros);
+    both(rt, &later_zeros)?;
     let ones = [0u16, 0x7f];
-    both(&ones);
+    both(rt, &ones)?;
     let all_ones = [0u16, 0xff, 0xff];
-    both(&all_ones);
+    both(rt, &all_ones)?;
     let marked = [0u16, 1, 2, 3, 4, 5, 6, 7];
-    both(&marked);
+    both(rt, &marked)?;
     let no_room = [0u16, 1, 2, 3, 4, 5, 6, 7, 8];
-    both(&no_room);
+    both(rt, &no_room)
 }
 
-fn limit() {
+fn limit(rt: &impl Print) -> io::Result<()> {
     let at_limit = [1u16; 32768];
-    both(&at_limit);
+    both(rt, &at_limit)?;
     let over = [0u16; 32769];
-    both(&over);
+    both(rt, &over)
 }
 
-fn main() {
-    all_short();
-    long(1000);
-    long(32000);
-    long(33000);
-    forms();
-    groups();
-    limit();
+fn main(rt: HostRuntime) -> io::Result<()> {
+    all_short(&rt)?;
+    long(&rt, 1000)?;
+    long(&rt, 32000)?;
+    long(&rt, 33000)?;
+    forms(&rt)?;
+    groups(&rt)?;
+    limit(&rt)
 }

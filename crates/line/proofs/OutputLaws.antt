@@ -2,69 +2,52 @@
 -- Assumes nothing.
 use mathlib.Core.Path.{◌≡◌, refl, sym, ap, ◌∙◌}
 use mathlib.Core.List.{List, [], ◌∷◌, ◌++◌}
-use Prim.Native.Nat.{ℕ, zero, suc, ◌+◌, ◌-◌, ◌*◌, ◌/◌, ◌%◌, ◌^◌, ◌≤◌, ◌<◌}
-use native.Mathlib.Nat.{pow-suc, mod-eq_of_lt, one-le-pow, pow-le-pow_right}
+use Prim.Native.Nat.{ℕ, zero, suc, ◌+◌, ◌*◌, ◌/◌, ◌%◌, ◌^◌, ◌≤◌, ◌<◌}
 use native.Mathlib.Numerals.{add-one}
 use native.Mathlib.Omega.{arith}
-use mathlib.Core.Bool.{Bool, true, false}
-use borrow.Author.Tests.{lt-ltb, le-ltb, leb-true, leb-false}
+use mathlib.Core.Bool.{false}
+use borrow.Author.Tests.{lt-ltb, le-ltb}
 use lib.ListN.{length, get_or, set, drop, length-append, drop_of_length-le}
-use lib.Dec.{ltb, leb}
+use lib.Dec.{ltb}
 use lib.Seq.{sets, drop-cons}
 use Rattle.foundation.proofs.ChoiceLaws.{if_ind}
 use Rattle.foundation.proofs.OverlayLaws.{sets_then}
-use Rattle.io.specs.Digits.{hex_digit_ascii, last_digits, IsDigitCount}
+use Rattle.std.specs.Fmt as Fmt
+use Rattle.std.specs.Fmt.{digit_glyph}
+use Rattle.std.proofs.Common.{rules}
+use Rattle.std.proofs.lemmas.Fmt.{AppendsLastDigit, decimal_from_appends, length-decimal-le}
 use Rattle.line.specs.Line.{decimal_within, decimal, hex_of, part_of, line_of}
 use Rattle.line.specs.Wrote.{Wrote}
 
--- the fewest digits that hold a number are its decimal
-decimal-digits : (k r n : ℕ) → r ≤ k → IsDigitCount 10 1 n r → last_digits 10 r n ≡ decimal_within k n
-decimal-digits k zero n h f = absurd (omega (arith, f.0))
-decimal-digits zero (suc r) n h f = absurd (omega arith)
-decimal-digits (suc k) (suc zero) n h f =
-    let s : n < 10 = omega (arith, f.1) in
-    rw (mod-eq_of_lt s, lt-ltb n 10 s)
-decimal-digits (suc k) (suc (suc r)) n h f =
-    let p : 1 ≤ 10 ^ r = one-le-pow r 10 (omega arith) in
-    let e : 10 ^ suc r ≡ 10 ^ r * 10 = pow-suc 10 r in
-    let g : 10 ^ suc (suc r) ≡ 10 ^ suc r * 10 = pow-suc 10 (suc r) in
-    let y : suc (suc r) - 1 ≡ suc r = omega arith in
-    let z : suc r - 1 ≡ r = omega arith in
-    let l : 10 ^ suc r ≤ n = rw y at (f.2 (omega arith)) in
-    let s : 10 ≤ n = omega arith in
-    let i : IsDigitCount 10 1 (n / 10) (suc r) = (omega arith, omega (arith, f.1), λ t. rw z (omega arith)) in
-    rw (le-ltb n 10 s, decimal-digits k (suc r) (n / 10) (omega arith) i)
-
--- 20 digits are enough for 64 bits
-pub fewest_twenty : (n r : ℕ) → n < 2 ^ 64 → IsDigitCount 10 1 n r → r ≤ 20
-fewest_twenty n r h f = go (leb r 20) refl
-  where
-    go : (t : Bool) → leb r 20 ≡ t → r ≤ 20
-    go true e = leb-true _ _ e
-    go false e =
-        let l : 20 < r = leb-false _ _ e in
-        let k : 20 ≤ r - 1 = omega arith in
-        let m : 10 ^ 20 ≤ 10 ^ (r - 1) = pow-le-pow_right {n = 10} (omega arith) k in
-        let b : 10 ^ (r - 1) ≤ n = f.2 (omega arith) in
-        absurd (omega arith)
+-- the line's decimal is std's: both put the last digit after those of what is left
+appends : AppendsLastDigit decimal_within
+appends = record {
+  one = λ k n h. rw (lt-ltb n 10 h) (search rules);
+  more = λ k n h. rw (le-ltb n 10 h) (search rules);
+}
 
 decimal-length : (k n : ℕ) → length (decimal_within k n) ≤ k
 decimal-length zero n = omega arith
 decimal-length (suc k) n =
     if_ind (λ (ds : List ℕ). length ds ≤ suc k) (ltb n 10) (λ t. omega arith) λ t.
-    rw (length-append (decimal_within k (n / 10)) (hex_digit_ascii (n % 10) ∷ [])) (omega (arith, decimal-length k (n / 10)))
+    rw (length-append (decimal_within k (n / 10)) (digit_glyph false (n % 10) ∷ [])) (omega (arith, decimal-length k (n / 10)))
 
 pub decimal-short : (n : ℕ) → length (decimal n) ≤ 20
 unfolding decimal
 decimal-short n = decimal-length 20 n
 
--- what `io::decimal` made is written
-pub wrote_decimal : (n r at : ℕ) (made S S' : List ℕ) → r ≤ 20 → IsDigitCount 10 1 n r → made ≡ last_digits 10 r n → r ≡ length made → S' ≡ sets S at made
-    → Wrote (decimal n) at (at + r) S S'
+-- 20 digits are enough for 64 bits
+decimal_is : (n : ℕ) → n < 2 ^ 64 → Fmt.decimal n ≡ decimal n
 unfolding decimal
-wrote_decimal n r at made S S' h f e l w =
-    let d : made ≡ decimal_within 20 n = e ∙ decimal-digits 20 r n h f in
-    record { ends = ap (λ (k : ℕ). at + k) (l ∙ ap length d); area = w ∙ ap (λ (ds : List ℕ). sets S at ds) d }
+decimal_is n h =
+    let wide : n < 10 ^ 20 = omega arith in
+    sym (decimal_from_appends decimal_within appends 20 n h (length-decimal-le 20 n (omega arith) wide h))
+
+-- what `itoa` made is written
+pub wrote_decimal : (n at : ℕ) (made S S' : List ℕ) → n < 2 ^ 64 → made ≡ Fmt.decimal n → S' ≡ sets S at made → Wrote (decimal n) at (at + length made) S S'
+wrote_decimal n at made S S' h e w =
+    let d : made ≡ decimal n = e ∙ decimal_is n h in
+    record { ends = ap (λ (ds : List ℕ). at + length ds) d; area = w ∙ ap (λ (ds : List ℕ). sets S at ds) d }
 
 -- two texts, one after the other
 pub wrote_then : {t u S S' S'' : List ℕ} {at m r : ℕ} → Wrote t at m S S' → Wrote u m r S' S'' → Wrote (t ++ u) at r S S''
@@ -83,7 +66,7 @@ length-hex [] = refl
 length-hex (b ∷ bs) = omega (arith, length-hex bs)
 
 pub hex-step : (bs whole area : List ℕ) (place i : ℕ) → i < length bs → whole ≡ sets area place (hex_of (drop i bs))
-    → whole ≡ sets (set (set area place (hex_digit_ascii (get_or bs i 0 / 16))) (place + 1) (hex_digit_ascii (get_or bs i 0 % 16))) (place + 2) (hex_of (drop (i + 1) bs))
+    → whole ≡ sets (set (set area place (digit_glyph false (get_or bs i 0 / 16))) (place + 1) (digit_glyph false (get_or bs i 0 % 16))) (place + 2) (hex_of (drop (i + 1) bs))
 unfolding hex_of
 hex-step bs whole area place i h e =
     let two : place + 2 ≡ suc (suc place) = omega arith in
@@ -91,7 +74,7 @@ hex-step bs whole area place i h e =
 
 -- a byte's two digits, put one after the other
 pub hex-put : (bs whole area : List ℕ) (place i : ℕ) {g h : ℕ} {S S' : List ℕ} → i < length bs
-    → g ≡ hex_digit_ascii (get_or bs i 0 / 16) → S ≡ set area place g → h ≡ hex_digit_ascii (get_or bs i 0 % 16) → S' ≡ set S (place + 1) h
+    → g ≡ digit_glyph false (get_or bs i 0 / 16) → S ≡ set area place g → h ≡ digit_glyph false (get_or bs i 0 % 16) → S' ≡ set S (place + 1) h
     → whole ≡ sets area place (hex_of (drop i bs)) → whole ≡ sets S' (place + 2) (hex_of (drop (i + 1) bs))
 hex-put bs whole area place i l p q r t e =
     hex-step bs whole area place i l e ∙ sym (rw (t, q, p, r))

@@ -1,14 +1,14 @@
 -- The line that the program prints, document 01, "A whole line", in ASCII.
 -- Assumes nothing.
-use Rattle.std.specs.Prelude.{List, [], ◌∷◌, ◌++◌, ℕ, zero, suc, ◌/◌, ◌%◌, ltb, if◌then◌else◌}
-use Rattle.io.specs.Digits.{hex_digit_ascii}
+use Rattle.std.specs.Prelude.{false, List, [], ◌∷◌, ◌++◌, ℕ, zero, suc, ◌/◌, ◌%◌, ltb, if◌then◌else◌}
+use Rattle.std.specs.Fmt.{digit_glyph}
 
 -- a number in decimal, of at most k digits, the highest first, without zeros in front
 abbrev pub decimal_within : ℕ → ℕ → List ℕ
 decimal_within zero n = []
 decimal_within (suc k) n =
-    let more = decimal_within k (n / 10) ++ (hex_digit_ascii (n % 10) ∷ []) in
-    if ltb n 10 then hex_digit_ascii n ∷ [] else more
+    let more = decimal_within k (n / 10) ++ (digit_glyph false (n % 10) ∷ []) in
+    if ltb n 10 then digit_glyph false n ∷ [] else more
 
 -- 20 digits are enough for 64 bits
 unfoldable pub decimal : ℕ → List ℕ
@@ -17,7 +17,7 @@ decimal n = decimal_within 20 n
 -- bytes in hex, two digits each, in lower case
 unfoldable pub hex_of : List ℕ → List ℕ
 hex_of [] = []
-hex_of (b ∷ bs) = hex_digit_ascii (b / 16) ∷ hex_digit_ascii (b % 16) ∷ hex_of bs
+hex_of (b ∷ bs) = digit_glyph false (b / 16) ∷ digit_glyph false (b % 16) ∷ hex_of bs
 
 abbrev pub hex_or_dash : List ℕ → List ℕ
 hex_or_dash [] = 0x2d ∷ []

@@ -3,4 +3,4 @@
 
 pub mod input; // input.rt: the input
 pub mod output; // output.rt: the line
-pub mod stream; // stream.rt: the input read from a file descriptor
+pub mod stream; // stream.rt: the input read from a reader

@@ -1,24 +1,26 @@
 // The line that the program prints, written into an area: number and detail in decimal, sheet and text in hex. A write past the area's end is
 // left out.
-ghost use Rattle.std.specs.Prelude.{◌≡◌, ◌+◌, ◌^◌, ◌<◌, length};
-ghost use Rattle.io.specs.Digits.{hex_digit_ascii as Digits·glyph};
+ghost use Rattle.std.specs.Prelude.{◌≡◌, false, ◌+◌, ◌^◌, ◌<◌, length};
+ghost use Rattle.std.specs.Fmt.{digit_glyph};
 ghost use Rattle.line.specs.Line.{decimal, hex_of, part_of, line_of};
 ghost use Rattle.line.specs.Wrote.{Wrote};
+
+use itoa::Buffer;
 
 fn put_decimal(area: &mut [u8], at: usize, n: u64) -> usize
     requires { at < 2 ^ 60 }
     ensures { Wrote (decimal n) at result area.old area.new }
 {
-    let mut digits = [0u8; 20];
-    let count = io::decimal(n, &mut digits);
-    sheet::put_all(area, at, &digits[..count]);
-    at + count
+    let mut buffer = Buffer::new();
+    let digits = buffer.format(n).as_bytes();
+    sheet::put_all(area, at, digits);
+    at + digits.len()
 }
 
 // A digit of base 16, in lower case.
 fn glyph(digit: u8) -> u8
     requires { digit < 16 }
-    ensures { result ≡ Digits·glyph digit }
+    ensures { result ≡ digit_glyph false digit }
 {
     if digit < 10 { 48 + digit } else { 87 + digit }
 }

@@ -1,10 +1,12 @@
-// The input read from a file descriptor. Its beginning is kept, as much as an input within the reader's limits can have; of the rest only the
-// counts are taken. No contract can say which bytes a read gives: what is said here is said of whatever bytes they were.
-ghost use Rattle.std.specs.Prelude.{◌≡◌, ◌+◌, ◌^◌, ◌≤◌, ◌<◌, length};
+// The input read from standard input, a file or any other reader. Its beginning is kept, as much as an input within the limits can have; of the
+// rest only the counts are taken. What is said here is said of whatever bytes the reads gave.
+ghost use Rattle.std.specs.Prelude.{◌≡◌, ◌+◌, ◌^◌, ◌≤◌, ◌<◌, length, take};
+ghost use Rattle.std.specs.Io.KnownBytes.{Consumes};
 ghost use Rattle.line.specs.told.Pieces.{CountsFit};
 ghost use Rattle.line.specs.told.Taken.{kept_limit, TookSome, PieceRead, PassedOver, Begun, Went};
 
 use crate::input::{Counts, counts_in};
+use std::io::Read;
 
 // What was read: the counts, how many bytes, and how many of them are kept.
 #[derive(Clone, Copy)]
@@ -20,12 +22,30 @@ fn least(a: usize, b: usize) -> usize
     if a < b { a } else { b }
 }
 
+// Reads until the area is full or the reader's bytes end; a read that fails ends them too. Answers how many bytes stand at the area's beginning:
+// those that the reader has given.
+pub fn read_full<R: Read>(reader: &mut R, area: &mut [u8]) -> usize
+    ensures inside { result ≤ length area.new }
+    ensures same_length { length area.new ≡ length area.old }
+    ensures given { Consumes (R.remaining reader.old) (R.remaining reader.new) (take result area.new) }
+{
+    let mut done = 0;
+    while done < area.len() {
+        match reader.read(&mut area[done..]) {
+            Ok(0) => return done,
+            Ok(count) => done += count,
+            Err(_) => return done,
+        }
+    }
+    done
+}
+
 // The next piece of the input, read into an area; its counts are taken.
-fn take_piece(fd: i32, area: &mut [u8], taken: Taken) -> Taken
+fn take_piece<R: Read>(reader: &mut R, area: &mut [u8], taken: Taken) -> Taken
     requires { CountsFit taken.counts × (taken.total ≤ 2 ^ 40) × (length area.old ≤ 2 ^ 40) }
     ensures { PieceRead area.new taken result }
 {
-    let size = io::read_full(fd, area);
+    let size = read_full(reader, area);
     let base = taken.total;
     let so_far = taken.counts;
     let counts = counts_in(&area[..size], base, so_far);
@@ -37,24 +57,24 @@ fn take_piece(fd: i32, area: &mut [u8], taken: Taken) -> Taken
 }
 
 // A piece of at most `room` bytes that is not kept.
-fn pass_piece(fd: i32, room: usize, taken: Taken) -> Taken
+fn pass_piece<R: Read>(reader: &mut R, room: usize, taken: Taken) -> Taken
     requires { CountsFit taken.counts × (taken.total ≤ 2 ^ 40) }
     ensures { PassedOver room taken result }
 {
-    let mut buffer = io::large_buffer();
+    let mut buffer = [0u8; 65536];
     let size = least(room, 65536);
-    take_piece(fd, &mut buffer[..size], taken)
+    take_piece(reader, &mut buffer[..size], taken)
 }
 
 // Reads on to the input's end, or until `limit` bytes were read in all.
-fn pass_rest(fd: i32, limit: usize, first: Taken) -> Taken
+fn pass_rest<R: Read>(reader: &mut R, limit: usize, first: Taken) -> Taken
     requires { Begun first × (limit ≤ 2 ^ 40) }
     ensures { Went first result }
 {
     let mut taken = first;
     while taken.total < limit {
         let before = taken.total;
-        let next = pass_piece(fd, limit - before, taken);
+        let next = pass_piece(reader, limit - before, taken);
         if next.total == before {
             return taken;
         }
@@ -65,7 +85,7 @@ fn pass_rest(fd: i32, limit: usize, first: Taken) -> Taken
 
 // Reads an input of at most `limit` bytes and keeps its beginning.
 // Callers show that the area has the size of what is kept, by its type, and that places fit 64 bits: answer_lines asks that of its own callers.
-pub fn take_input(fd: i32, area: &mut [u8], limit: usize) -> Taken
+pub fn take_input<R: Read>(reader: &mut R, area: &mut [u8], limit: usize) -> Taken
     requires { (length area.old ≡ kept_limit) × (limit ≤ 2 ^ 40) }
     ensures { TookSome area.new result }
 {
@@ -79,7 +99,7 @@ pub fn take_input(fd: i32, area: &mut [u8], limit: usize) -> Taken
         kept: 0,
     };
     let most = least(limit, area.len());
-    let first = take_piece(fd, &mut area[..most], nothing);
+    let first = take_piece(reader, &mut area[..most], nothing);
     let size = first.total;
     let counts = first.counts;
     let begun = Taken {
@@ -90,5 +110,5 @@ pub fn take_input(fd: i32, area: &mut [u8], limit: usize) -> Taken
     if size < 147484 {
         return begun;
     }
-    pass_rest(fd, limit, begun)
+    pass_rest(reader, limit, begun)
 }

@@ -2,17 +2,14 @@
 // a string or q for a class name. Writes the note and the name's text in UTF-8, in hex.
 #![tactic(auto)]
 
-ghost use Rattle.std.specs.Prelude.{◌≤◌, ◌<◌, length};
+ghost use Rattle.std.specs.Prelude.{◌≤◌, ◌<◌, length, IfOk};
 
 use characters::Character;
-use libc::{STDIN_FILENO, STDOUT_FILENO};
 use messages::Checked;
 use names::name::{Change, Name, PREDEFINED};
 use names::records::RecordIndex;
-
-fn print(text: &[u8]) {
-    io::write_all(STDOUT_FILENO, text);
-}
+use std::io;
+use std::io::Read;
 
 fn digit(c: u8) -> u8
     ensures { result ≤ 15 }
@@ -106,84 +103,84 @@ fn read_ends(s: &[u8], area: &mut [u32]) -> usize
     count
 }
 
-fn wide(byte: u8) -> u64 {
-    byte as u64
-}
-
-fn print_character(code: u32) {
+fn print_character(rt: &impl Print, code: u32) -> io::Result<()> {
     let mut area = [0u8; 4];
     let size = characters::put_character(&mut area, 0, code);
-    let mut i = 0;
-    while i < 4 {
-        if size <= i {
-            return;
-        }
-        io::print_hex(STDOUT_FILENO, wide(area[i]), 2);
-        i += 1;
+    for byte in area.iter().take(size) {
+        print!(rt; "{byte:02x}")?;
     }
+    Ok(())
 }
 
-fn print_bytes(s: &[u8], change: Change) {
+fn print_bytes(rt: &impl Print, s: &[u8], change: Change) -> io::Result<()> {
     let mut at = 0;
     loop {
         let character = characters::utf8_at(s, at);
         let Character::Read { code, next } = character else {
-            return;
+            return Ok(());
         };
-        print_character(names::name::character_of(change, code));
+        print_character(rt, names::name::character_of(change, code))?;
         at = next;
     }
 }
 
-fn print_units(units: &[u16], start: usize, end: usize, change: Change) {
+fn print_units(
+    rt: &impl Print,
+    units: &[u16],
+    start: usize,
+    end: usize,
+    change: Change,
+) -> io::Result<()> {
     let mut at = start;
     loop {
         let character = characters::utf16_at(units, at, end);
         let Character::Read { code, next } = character else {
-            return;
+            return Ok(());
         };
-        print_character(names::name::character_of(change, code));
+        print_character(rt, names::name::character_of(change, code))?;
         at = next;
     }
 }
 
-fn print_name(payload: &[u8], units: &[u16], name: Name) {
+fn print_name(rt: &impl Print, payload: &[u8], units: &[u16], name: Name) -> io::Result<()> {
     let source = name.source;
     let start = name.start;
     let end = name.end;
     if source == 0 {
-        print(b"absent");
-        return;
+        return print!(rt; "absent");
     }
     let change = names::name::change_of(name, false);
     if source == 3 {
-        print_units(units, start, end, change);
-        return;
+        return print_units(rt, units, start, end, change);
     }
     let s = names::name::base_part(payload, &PREDEFINED, source, start, end);
-    print_bytes(s, change);
+    print_bytes(rt, s, change)
 }
 
-fn look_up(table: &[u8], units: &[u16], ends: &[u32], index: u32, kind: u8) {
+fn look_up(
+    rt: &impl Print,
+    table: &[u8],
+    units: &[u16],
+    ends: &[u32],
+    index: u32,
+    kind: u8,
+) -> io::Result<()> {
     let checked = messages::check(table, 0);
     let Checked::Whole = checked else {
-        print(b"refused");
-        return;
+        return print!(rt; "refused");
     };
     let mut notes = [0u64; 48];
     let indexed = names::records::index_records(table, 0, &mut notes);
     let RecordIndex::Records { count } = indexed else {
-        print(b"refused");
-        return;
+        return print!(rt; "refused");
     };
     lookup::resolve::resolve(table, &mut notes, count);
     if kind == b'q' {
         let name = lookup::qualified::qualified_name(table, &notes, count, units, ends, index);
-        print_name(table, units, name);
-        return;
+        return print_name(rt, table, units, name);
     }
     let name = lookup::string(table, &notes, count, ends, index);
-    print_name(table, units, name);
+    print_name(rt, table, units, name)
 }
 
 fn byte_at(s: &[u8], at: usize) -> u8 {
@@ -194,73 +191,87 @@ fn byte_at(s: &[u8], at: usize) -> u8 {
 }
 
 // The rest of a line from the index on. Each answers the place after the line.
-fn with_strings(s: &[u8], at: usize, table: &[u8], units: &[u16], ends: &[u32]) -> usize
+fn with_strings(
+    rt: &impl Print,
+    s: &[u8],
+    at: usize,
+    table: &[u8],
+    units: &[u16],
+    ends: &[u32],
+) -> io::Result<usize>
     requires { at ≤ length s.now }
-    ensures { (at ≤ result) × (result ≤ length s.now) }
+    ensures { IfOk result (λ next. (at ≤ next) × (next ≤ length s.now)) }
 {
     let end = field_end(s, at);
     let index = number(&s[at..end]);
     let kind_at = after(s, end);
     let kind = byte_at(s, kind_at);
-    look_up(table, units, ends, index, kind);
+    look_up(rt, table, units, ends, index, kind)?;
     let line_end = field_end(s, kind_at);
-    after(s, line_end)
+    Ok(after(s, line_end))
 }
 
 // From the ends on.
-fn with_units(s: &[u8], at: usize, table: &[u8], units: &[u16]) -> usize
+fn with_units(
+    rt: &impl Print,
+    s: &[u8],
+    at: usize,
+    table: &[u8],
+    units: &[u16],
+) -> io::Result<usize>
     requires { at ≤ length s.now }
-    ensures { (at ≤ result) × (result ≤ length s.now) }
+    ensures { IfOk result (λ next. (at ≤ next) × (next ≤ length s.now)) }
 {
     let end = field_end(s, at);
     let mut ends = [0u32; 8];
     let count = read_ends(&s[at..end], &mut ends);
     let next = after(s, end);
-    with_strings(s, next, table, units, &ends[..count])
+    with_strings(rt, s, next, table, units, &ends[..count])
 }
 
 // From the units on.
-fn with_table(s: &[u8], at: usize, table: &[u8]) -> usize
+fn with_table(rt: &impl Print, s: &[u8], at: usize, table: &[u8]) -> io::Result<usize>
     requires { at ≤ length s.now }
-    ensures { (at ≤ result) × (result ≤ length s.now) }
+    ensures { IfOk result (λ next. (at ≤ next) × (next ≤ length s.now)) }
 {
     let end = field_end(s, at);
     let mut units = [0u16; 16];
     let count = read_units(&s[at..end], &mut units);
     let next = after(s, end);
-    with_units(s, next, table, &units[..count])
+    with_units(rt, s, next, table, &units[..count])
 }
 
 // From the table on.
-fn look_up_line(s: &[u8], at: usize) -> usize
+fn look_up_line(rt: &impl Print, s: &[u8], at: usize) -> io::Result<usize>
     requires { at ≤ length s.now }
-    ensures { (at ≤ result) × (result ≤ length s.now) }
+    ensures { IfOk result (λ next. (at ≤ next) × (next ≤ length s.now)) }
 {
     let end = field_end(s, at);
     let mut table = [0u8; 64];
     let count = read_bytes(&s[at..end], &mut table);
     let next = after(s, end);
-    with_table(s, next, &table[..count])
+    with_table(rt, s, next, &table[..count])
 }
 
-fn look_up_all(s: &[u8]) {
+fn look_up_all(rt: &impl Print, s: &[u8]) -> io::Result<()> {
     let mut at = 0;
     while at < s.len() {
         let note_end = field_end(s, at);
-        print(&s[at..note_end]);
-        print(b": ");
+        rt.write_all(&s[at..note_end])?;
+        print!(rt; ": ")?;
         let line = after(s, note_end);
-        let next = look_up_line(s, line);
-        print(b"\n");
+        let next = look_up_line(rt, s, line)?;
+        println!(rt)?;
         if next <= at {
-            return;
+            return Ok(());
         }
         at = next;
     }
+    Ok(())
 }
 
-fn main() {
-    let mut input = io::large_buffer();
-    let size = io::read_full(STDIN_FILENO, &mut input);
-    look_up_all(&input[..size]);
+fn main(rt: HostRuntime) -> io::Result<()> {
+    let mut input = Vec::new(rt.alloc());
+    rt.stdin().take(65536).read_to_end(&mut input)?;
+    look_up_all(&rt, &input)
 }

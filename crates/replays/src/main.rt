@@ -1,27 +1,30 @@
 // Reads inputs one after the other, each with its length in 4 bytes in front, and writes a line for each.
 #![tactic(auto)]
 
-use libc::{STDIN_FILENO, STDOUT_FILENO};
+use line::stream::read_full;
+use std::io;
+use std::io::Read;
 
-// One input; false at the end, or where a line can't be written.
-fn replay() -> bool {
+// One input; false at the end.
+fn replay<R: Read>(rt: &impl Print, input: &mut R) -> io::Result<bool> {
     let mut head = [0u8; 4];
-    let got = io::read_full(STDIN_FILENO, &mut head);
+    let got = read_full(input, &mut head);
     if got < 4 {
-        return false;
+        return Ok(false);
     }
     let size = line::input::four_in(&head, 0, 0);
     let mut area = [0u8; 262190];
-    let length = answer_lines::answer_input(STDIN_FILENO, size, &mut area);
-    io::write_all(STDOUT_FILENO, &area[..length])
+    let length = answer_lines::answer_input(input, size, &mut area);
+    rt.write_all(&area[..length])?;
+    Ok(true)
 }
 
-fn main() {
-    let mut left: usize = 1000000;
-    while 0 < left {
-        if !replay() {
-            return;
+fn main(rt: HostRuntime) -> io::Result<()> {
+    let mut input = rt.stdin();
+    for _ in 0..1000000 {
+        if !replay(&rt, &mut input)? {
+            break;
         }
-        left -= 1;
     }
+    Ok(())
 }

@@ -34,7 +34,7 @@ pub extern "C" fn sheet_read(
     text: &mut [u8],
     answer: &mut [u64; 5],
 )
-    ensures ends_value { read sheet.old text.old (input k (major ∷ minor ∷ patch ∷ []) d1.now d2.now ends.now) ≡ told_in answer.new sheet.new text.new }
+    ensures value { read sheet.old text.old (input k (major ∷ minor ∷ patch ∷ []) d1.now d2.now ends.now) ≡ told_in answer.new sheet.new text.new }
     ensures enough { Enough sheet.old text.old (input k (major ∷ minor ∷ patch ∷ []) d1.now d2.now ends.now) (told_in answer.new sheet.new text.new) }
     ensures broke { T (tells_offset (get_or answer.new 0 0)) → BrokeAt (input k (major ∷ minor ∷ patch ∷ []) d1.now d2.now ends.now) (told_in answer.new sheet.new text.new) }
     ensures units { Units d2.now }
@@ -69,7 +69,7 @@ pub extern "C" fn sheet_room(
     ends: &[u32],
     answer: &mut [u64; 19],
 )
-    ensures ends_value { room (input k (major ∷ minor ∷ patch ∷ []) d1.now d2.now ends.now) ≡ room_in answer.new }
+    ensures value { room (input k (major ∷ minor ∷ patch ∷ []) d1.now d2.now ends.now) ≡ room_in answer.new }
     ensures units { Units d2.now }
     ensures exact { RoomExact (input k (major ∷ minor ∷ patch ∷ []) d1.now d2.now ends.now) (room_in answer.new) }
     ensures unused { UnusedInRoom (input k (major ∷ minor ∷ patch ∷ []) d1.now d2.now ends.now) (room_in answer.new) }
@@ -106,7 +106,7 @@ pub extern "C" fn sheet_room(
 // comes back from `sheet_new_to_old` if it was as packing makes it. Nothing is asked of what is handed in.
 #[unsafe(no_mangle)]
 pub extern "C" fn sheet_old_to_new(d1: &[u16], units: &mut [u16], answer: &mut [u64; 3])
-    ensures d1_value { old_to_new units.old d1.now ≡ converted_in answer.new units.new }
+    ensures value { old_to_new units.old d1.now ≡ converted_in answer.new units.new }
     ensures refusals { OldToNewNumber units.old d1.now (get_or answer.new 0 0) }
     ensures enough { longest_new ≤ length units.old → get_or answer.new 0 0 ≡ 12 → ⊥ }
     ensures kept { AnswerKept units.old d1.now (converted_in answer.new units.new) }
@@ -121,7 +121,7 @@ pub extern "C" fn sheet_old_to_new(d1: &[u16], units: &mut [u16], answer: &mut [
 // `sheet_old_to_new`, up to 28,672 bytes, and is read alike in both forms.
 #[unsafe(no_mangle)]
 pub extern "C" fn sheet_new_to_old(d1: &[u16], units: &mut [u16], answer: &mut [u64; 3])
-    ensures d1_value { new_to_old units.old d1.now ≡ converted_in answer.new units.new }
+    ensures value { new_to_old units.old d1.now ≡ converted_in answer.new units.new }
     ensures refusals { NewToOldNumber units.old d1.now (get_or answer.new 0 0) }
     ensures enough { longest_old ≤ length units.old → get_or answer.new 0 0 ≡ 12 → ⊥ }
     ensures kept { AnswerKept units.old d1.now (converted_in answer.new units.new) }

@@ -19,6 +19,6 @@ stopped_at n c p strings i = if eqb i n && ltb i (length strings) then refused c
 unfoldable pub FallsTo : Input → ℕ → Type 0
 FallsTo i n = (c : Cause) (p : ℕ) → reading_with (stopped_at n c p (strings_of i)) i ≡ refused c p
 
--- The reading passes string n by: it is the same if that look-up is refused. Of any string just one of the two holds (`falls-or-passes`).
+-- The reading passes string n by: it is the same if that look-up is refused. Of any string just one of the two holds (`falls_or_passes`).
 unfoldable pub PassesBy : Input → ℕ → Type 0
 PassesBy i n = (c : Cause) (p : ℕ) → reading_with (stopped_at n c p (strings_of i)) i ≡ reading i

@@ -2,239 +2,230 @@
 // value or places, or the refusal with its offset.
 #![tactic(auto)]
 
-use libc::STDOUT_FILENO;
 use messages::repeated::{FirstTwo, Two};
 use messages::{Checked, Found};
+use std::io;
 use wire::{FieldStep, Varint, WireError, WireValue};
 
-fn print(text: &[u8]) {
-    io::write_all(STDOUT_FILENO, text);
-}
-
-fn print_number(before: &[u8], n: u64) {
-    print(before);
-    io::print_decimal(STDOUT_FILENO, n);
-}
-
-fn print_refusal(error: WireError) {
+fn print_refusal(rt: &impl Print, error: WireError) -> io::Result<()> {
     match error {
-        WireError::VarintCutShort { place } => print_number(b"varint cut short at ", place as u64),
-        WireError::OversizedVarint { place } => print_number(b"oversized varint at ", place as u64),
-        WireError::PastItsMessage { place } => print_number(b"past its message at ", place as u64),
-        WireError::FieldTooLarge { place } => print_number(b"field too large at ", place as u64),
-        WireError::ForbiddenField { place } => print_number(
-            b"field number forbidden at ",
-            place as u64,
-        ),
-        WireError::WireType { kind, place } => {
-            print_number(b"wire type ", kind as u64);
-            print_number(b" at ", place as u64);
-        }
+        WireError::VarintCutShort { place } => println!(rt; "varint cut short at {place}"),
+        WireError::OversizedVarint { place } => println!(rt; "oversized varint at {place}"),
+        WireError::PastItsMessage { place } => println!(rt; "past its message at {place}"),
+        WireError::FieldTooLarge { place } => println!(rt; "field too large at {place}"),
+        WireError::ForbiddenField { place } => println!(rt; "field number forbidden at {place}"),
+        WireError::WireType { kind, place } => println!(rt; "wire type {kind} at {place}"),
     }
-    print(b"\n");
 }
 
-fn print_value(value: WireValue) {
+fn print_value(rt: &impl Print, value: WireValue) -> io::Result<()> {
     match value {
-        WireValue::Varint { value: n } => print_number(b" varint ", n),
+        WireValue::Varint { value: n } => println!(rt; " varint {n}"),
         WireValue::Fixed { width, number } => {
-            print_number(b" fixed", 8 * (width as u64 % 16));
-            print_number(b" ", number);
+            let bits = 8 * (width as u64 % 16);
+            println!(rt; " fixed{bits} {number}")
         }
-        WireValue::Body { start, end } => {
-            print_number(b" body ", start as u64);
-            print_number(b"..", end as u64);
-        }
+        WireValue::Body { start, end } => println!(rt; " body {start}..{end}"),
     }
-    print(b"\n");
 }
 
 // The fields of a message, up to its end or to what refuses it.
-fn show(name: &[u8], s: &[u8], base: u32) {
-    print(name);
-    print(b"\n");
+fn show(rt: &impl Print, name: &str, s: &[u8], base: u32) -> io::Result<()> {
+    println!(rt; "{name}")?;
     let mut at = 0;
     while at < s.len() {
         let step = wire::field_at(s, base, at);
-        print(b"  ");
+        print!(rt; "  ")?;
         let FieldStep::Field {
             number,
             value,
             next,
         } = step
         else {
-            print_refusal(step.error());
-            return;
+            return print_refusal(rt, step.error());
         };
-        print_number(b"field ", number as u64);
-        print_value(value);
+        print!(rt; "field {number}")?;
+        print_value(rt, value)?;
         at = next;
     }
+    Ok(())
 }
 
 // The numbers of a packed run.
-fn show_packed(name: &[u8], s: &[u8], base: u32) {
-    print(name);
-    print(b"\n ");
+fn show_packed(rt: &impl Print, name: &str, s: &[u8], base: u32) -> io::Result<()> {
+    print!(rt; "{name}\n ")?;
     let mut at = 0;
     while at < s.len() {
         let step = wire::varint_at(s, base, at);
-        print(b" ");
+        print!(rt; " ")?;
         let Varint::Read { value, next } = step else {
-            print_refusal(step.error());
-            return;
+            return print_refusal(rt, step.error());
         };
-        print_number(b"", value);
+        print!(rt; "{value}")?;
         at = next;
     }
-    print(b"\n");
+    println!(rt)
 }
 
-fn print_checked(checked: Checked) {
+fn print_checked(rt: &impl Print, checked: Checked) -> io::Result<()> {
     let Checked::Whole = checked else {
-        print_refusal(checked.error());
-        return;
+        return print_refusal(rt, checked.error());
     };
-    print(b"whole\n");
+    println!(rt; "whole")
 }
 
 // A message cut short after each of its bytes.
-fn show_cuts(name: &[u8], s: &[u8]) {
-    print(name);
-    print(b", cut short\n");
-    let mut n = 0;
-    while n < s.len() {
-        print_number(b"  ", n as u64);
-        print(b" bytes: ");
-        print_checked(messages::check(&s[..n], 0));
-        n = n + 1;
+fn show_cuts(rt: &impl Print, name: &str, s: &[u8]) -> io::Result<()> {
+    println!(rt; "{name}, cut short")?;
+    for n in 0..s.len() {
+        print!(rt; "  {n} bytes: ")?;
+        print_checked(rt, messages::check(&s[..n], 0))?;
     }
+    Ok(())
 }
 
-fn show_first(name: &[u8], s: &[u8], number: u32) {
-    print(name);
-    print(b"\n  first");
+fn show_first(rt: &impl Print, name: &str, s: &[u8], number: u32) -> io::Result<()> {
+    print!(rt; "{name}\n  first")?;
     let found = messages::find(s, 0, number);
     let Found::Value { value } = found else {
-        print(b" nothing\n");
-        return;
+        return println!(rt; " nothing");
     };
-    print_value(value);
+    print_value(rt, value)
 }
 
-fn print_two(two: Two) {
+fn print_two(rt: &impl Print, two: Two) -> io::Result<()> {
     match two {
-        Two::Neither => print(b"none"),
-        Two::One { first } => print_number(b"one ", first as u64),
-        Two::Both { first, second } => {
-            print_number(b"two ", first as u64);
-            print_number(b" ", second as u64);
-        }
+        Two::Neither => println!(rt; "none"),
+        Two::One { first } => println!(rt; "one {first}"),
+        Two::Both { first, second } => println!(rt; "two {first} {second}"),
     }
-    print(b"\n");
 }
 
 // The first two of a repeated number, mod 2^32.
-fn show_two(name: &[u8], s: &[u8], number: u32) {
-    print(name);
-    print(b"\n  ");
+fn show_two(rt: &impl Print, name: &str, s: &[u8], number: u32) -> io::Result<()> {
+    print!(rt; "{name}\n  ")?;
     let numbers = messages::repeated::first_two(s, 0, number);
     let FirstTwo::Numbers { two } = numbers else {
-        print_refusal(numbers.error());
-        return;
+        return print_refusal(rt, numbers.error());
     };
-    print_two(two);
+    print_two(rt, two)
 }
 
-fn published() {
-    show(b"150", b"\x08\x96\x01", 0);
-    show(b"testing", b"\x12\x07testing", 0);
-    show(b"embedded", b"\x1a\x03\x08\x96\x01", 0);
-    show(b"the message in it", b"\x08\x96\x01", 2);
+fn published(rt: &impl Print) -> io::Result<()> {
+    show(rt, "150", b"\x08\x96\x01", 0)?;
+    show(rt, "testing", b"\x12\x07testing", 0)?;
+    show(rt, "embedded", b"\x1a\x03\x08\x96\x01", 0)?;
+    show(rt, "the message in it", b"\x08\x96\x01", 2)?;
     show(
-        b"hello and 1, 2, 3",
+        rt,
+        "hello and 1, 2, 3",
         b"\x22\x05hello\x28\x01\x28\x02\x28\x03",
         0,
-    );
-    show(b"packed", b"\x32\x06\x03\x8e\x02\x9e\xa7\x05", 0);
-    show_packed(b"the numbers in it", b"\x03\x8e\x02\x9e\xa7\x05", 2);
+    )?;
+    show(rt, "packed", b"\x32\x06\x03\x8e\x02\x9e\xa7\x05", 0)?;
+    show_packed(rt, "the numbers in it", b"\x03\x8e\x02\x9e\xa7\x05", 2)
 }
 
-fn numbers() {
-    show(b"-2", b"\x08\xfe\xff\xff\xff\xff\xff\xff\xff\xff\x01", 0);
-    show(b"-1", b"\x08\xff\xff\xff\xff\xff\xff\xff\xff\xff\x01", 0);
+fn numbers(rt: &impl Print) -> io::Result<()> {
+    show(rt, "-2", b"\x08\xfe\xff\xff\xff\xff\xff\xff\xff\xff\x01", 0)?;
+    show(rt, "-1", b"\x08\xff\xff\xff\xff\xff\xff\xff\xff\xff\x01", 0)?;
     show(
-        b"only the lowest bit of the tenth byte",
+        rt,
+        "only the lowest bit of the tenth byte",
         b"\x08\x80\x80\x80\x80\x80\x80\x80\x80\x80\x7e",
         0,
-    );
-    show(b"fixed64 200", b"\x31\xc8\x00\x00\x00\x00\x00\x00\x00", 0);
-    show(b"fixed32 200", b"\x35\xc8\x00\x00\x00", 0);
-    show(b"double 25.4", b"\x29\x66\x66\x66\x66\x66\x66\x39\x40", 0);
-    show(b"float 25.4", b"\x2d\x33\x33\xcb\x41", 0);
-}
-
-fn cut_short() {
-    show_cuts(b"150", b"\x08\x96\x01");
-    show_cuts(b"testing", b"\x12\x07testing");
-    show_cuts(b"fixed64", b"\x31\xc8\x00\x00\x00\x00\x00\x00\x00");
-    show_cuts(b"fixed32", b"\x35\xc8\x00\x00\x00");
-    show_cuts(
-        b"ten bytes",
-        b"\x08\xff\xff\xff\xff\xff\xff\xff\xff\xff\xff\x01",
-    );
-}
-
-fn wire_types() {
-    show(b"wire type 3", b"\x0b", 0);
-    show(b"wire type 4", b"\x08\x01\x0c", 0);
-    show(b"wire type 6", b"\x0e\x01", 0);
-    show(b"wire type 7", b"\x0f\x01", 40);
+    )?;
     show(
-        b"oversized",
+        rt,
+        "fixed64 200",
+        b"\x31\xc8\x00\x00\x00\x00\x00\x00\x00",
+        0,
+    )?;
+    show(rt, "fixed32 200", b"\x35\xc8\x00\x00\x00", 0)?;
+    show(
+        rt,
+        "double 25.4",
+        b"\x29\x66\x66\x66\x66\x66\x66\x39\x40",
+        0,
+    )?;
+    show(rt, "float 25.4", b"\x2d\x33\x33\xcb\x41", 0)
+}
+
+fn cut_short(rt: &impl Print) -> io::Result<()> {
+    show_cuts(rt, "150", b"\x08\x96\x01")?;
+    show_cuts(rt, "testing", b"\x12\x07testing")?;
+    show_cuts(rt, "fixed64", b"\x31\xc8\x00\x00\x00\x00\x00\x00\x00")?;
+    show_cuts(rt, "fixed32", b"\x35\xc8\x00\x00\x00")?;
+    show_cuts(
+        rt,
+        "ten bytes",
+        b"\x08\xff\xff\xff\xff\xff\xff\xff\xff\xff\xff\x01",
+    )
+}
+
+fn wire_types(rt: &impl Print) -> io::Result<()> {
+    show(rt, "wire type 3", b"\x0b", 0)?;
+    show(rt, "wire type 4", b"\x08\x01\x0c", 0)?;
+    show(rt, "wire type 6", b"\x0e\x01", 0)?;
+    show(rt, "wire type 7", b"\x0f\x01", 40)?;
+    show(
+        rt,
+        "oversized",
         b"\x08\xff\xff\xff\xff\xff\xff\xff\xff\xff\xff\x01",
         0,
-    );
-    show(b"body one byte past its message", b"\x12\x08testing", 0);
+    )?;
+    show(rt, "body one byte past its message", b"\x12\x08testing", 0)?;
     show(
-        b"body of 2^64 - 1 bytes",
+        rt,
+        "body of 2^64 - 1 bytes",
         b"\x12\xff\xff\xff\xff\xff\xff\xff\xff\xff\x01",
         0,
-    );
+    )
 }
 
-fn field_numbers() {
-    show(b"field 0", b"\x00\x05", 0);
-    show(b"field 0 with a body", b"\x08\x01\x02\x00", 7);
-    show(b"field 0 with wire type 3", b"\x03", 0);
-    show(b"field 0 in a tag of three bytes", b"\x80\x80\x00\x05", 0);
-    show(b"field 1 in a tag of two bytes", b"\x88\x00\x05", 0);
-    show(b"field 536,870,911", b"\xf8\xff\xff\xff\x0f\x05", 0);
-    show(b"field 536,870,912", b"\x80\x80\x80\x80\x10\x05", 0);
-    show(b"field 2^32 - 1", b"\xf8\xff\xff\xff\x7f\x05", 0);
-    show(b"field 2^32", b"\x80\x80\x80\x80\x80\x01\x05", 0);
+fn field_numbers(rt: &impl Print) -> io::Result<()> {
+    show(rt, "field 0", b"\x00\x05", 0)?;
+    show(rt, "field 0 with a body", b"\x08\x01\x02\x00", 7)?;
+    show(rt, "field 0 with wire type 3", b"\x03", 0)?;
     show(
-        b"field 2^32 with wire type 7",
+        rt,
+        "field 0 in a tag of three bytes",
+        b"\x80\x80\x00\x05",
+        0,
+    )?;
+    show(rt, "field 1 in a tag of two bytes", b"\x88\x00\x05", 0)?;
+    show(rt, "field 536,870,911", b"\xf8\xff\xff\xff\x0f\x05", 0)?;
+    show(rt, "field 536,870,912", b"\x80\x80\x80\x80\x10\x05", 0)?;
+    show(rt, "field 2^32 - 1", b"\xf8\xff\xff\xff\x7f\x05", 0)?;
+    show(rt, "field 2^32", b"\x80\x80\x80\x80\x80\x01\x05", 0)?;
+    show(
+        rt,
+        "field 2^32 with wire type 7",
         b"\x87\x80\x80\x80\x80\x01",
         0,
-    );
+    )
 }
 
-fn asked() {
-    show_first(b"1 before 2", b"\x08\x01\x08\x02", 1);
-    show_first(b"fixed before varint", b"\x0d\x07\x00\x00\x00\x08\x02", 1);
-    show_first(b"no field 3", b"\x08\x01\x10\x02", 3);
-    show_first(b"field 0 is never found", b"\x00\x05", 0);
-    show_two(b"packed and single", b"\x32\x02\x03\x01\x30\x05", 6);
-    show_two(b"one", b"\x30\xff\xff\xff\xff\xff\x01", 6);
-    show_two(b"an error after two", b"\x30\x01\x30\x02\x32\x01\x80", 6);
+fn asked(rt: &impl Print) -> io::Result<()> {
+    show_first(rt, "1 before 2", b"\x08\x01\x08\x02", 1)?;
+    show_first(
+        rt,
+        "fixed before varint",
+        b"\x0d\x07\x00\x00\x00\x08\x02",
+        1,
+    )?;
+    show_first(rt, "no field 3", b"\x08\x01\x10\x02", 3)?;
+    show_first(rt, "field 0 is never found", b"\x00\x05", 0)?;
+    show_two(rt, "packed and single", b"\x32\x02\x03\x01\x30\x05", 6)?;
+    show_two(rt, "one", b"\x30\xff\xff\xff\xff\xff\x01", 6)?;
+    show_two(rt, "an error after two", b"\x30\x01\x30\x02\x32\x01\x80", 6)
 }
 
-fn main() {
-    published();
-    numbers();
-    cut_short();
-    wire_types();
-    field_numbers();
-    asked();
+fn main(rt: HostRuntime) -> io::Result<()> {
+    published(&rt)?;
+    numbers(&rt)?;
+    cut_short(&rt)?;
+    wire_types(&rt)?;
+    field_numbers(&rt)?;
+    asked(&rt)
 }

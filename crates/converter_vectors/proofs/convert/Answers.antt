@@ -1,0 +1,16 @@
+-- The units stand inside their areas.
+use Rattle.std.proofs.Common.{rules}
+use Rattle.converter_vectors.proofs.VectorLaws.{old-inside, new-inside}
+use Rattle.converter_vectors.proofs.convert.Goals as goal
+
+pub slice_bounds-old-end : goal.slice_bounds-old-end
+slice_bounds-old-end c = search (rules, new-inside)
+
+pub slice_bounds-old-end-2 : goal.slice_bounds-old-end-2
+slice_bounds-old-end-2 c = search (rules, new-inside)
+
+pub slice_bounds-same-end : goal.slice_bounds-same-end
+slice_bounds-same-end c = search (rules, old-inside)
+
+pub slice_bounds-same-end-2 : goal.slice_bounds-same-end-2
+slice_bounds-same-end-2 c = search (rules, old-inside)

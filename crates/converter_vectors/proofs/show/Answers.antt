@@ -1,0 +1,10 @@
+-- The units stand inside their area.
+use Rattle.std.proofs.Common.{rules}
+use Rattle.converter_vectors.proofs.VectorLaws.{new-inside}
+use Rattle.converter_vectors.proofs.show.Goals as goal
+
+pub slice_bounds-write_units-end : goal.slice_bounds-write_units-end
+slice_bounds-write_units-end g c = search (rules, new-inside)
+
+pub slice_bounds-write_units-end-2 : goal.slice_bounds-write_units-end-2
+slice_bounds-write_units-end-2 g c = search (rules, new-inside)

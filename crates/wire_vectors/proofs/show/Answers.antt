@@ -1,0 +1,8 @@
+use Rattle.std.proofs.Common.{arith}
+use Rattle.wire.proofs.WalkLaws.{field-inside}
+use Rattle.wire_vectors.proofs.show.Goals as goal
+
+pub loop-at-smaller : goal.loop-at-smaller
+loop-at-smaller g c =
+    let past = field-inside c.args.base c.args.s.now c.loop-at.at (c.field_at-step.ensures.inside (omega arith)) (omega arith) c.in-Field.is in
+    omega (arith, past.0, past.1)
