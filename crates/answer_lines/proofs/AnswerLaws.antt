@@ -7,7 +7,7 @@ use mathlib.Core.Option.{Option, some, none}
 use Prim.Native.Nat.{ℕ, ◌+◌, ◌-◌, ◌^◌, ◌≤◌, ◌<◌, min}
 use native.Mathlib.Nat.{zero-add}
 use native.Mathlib.Omega.{arith}
-use borrow.Author.Tests.{le-leb, lt_leb, ltb-false}
+use borrow.Author.Tests.{le-leb, lt-leb, ltb-false}
 use lib.Dec.{ltb}
 use lib.IntN.{ℤ}
 use mir.Syntax.{w32}
@@ -108,7 +108,7 @@ module _ (S T bs : List ℕ) (t : Taken) (s : SoFar bs t) where
   unfolding whole_input
   given-short h =
       let k : length bs < input_end (counts_of bs) = let e : input_end t.counts ≡ input_end (counts_of bs) = ap input_end s.counts in omega (arith, e, s.total) in
-      rw (lt_leb (input_end (counts_of bs)) (length bs) k)
+      rw (lt-leb (input_end (counts_of bs)) (length bs) k)
 
   pub printed-short : t.total < input_end t.counts → printed S T bs ≡ ascii "input\n"
   unfolding printed
