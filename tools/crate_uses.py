@@ -9,10 +9,18 @@ A text names a crate by `NAME::` in code and by `Rattle.NAME` in contracts, defi
 only those that it names use: the check finds that by itself."""
 import pathlib
 import re
+import shutil
 import sys
 
 ROOT = pathlib.Path(__file__).resolve().parent.parent
-KIT = ('check', 'io', 'libc', 'os', 'bytes')  # of the kit's libraries; std is linked without being listed
+STD = re.compile(r'core|std(_\w+)?')  # linked without being listed
+
+
+def libraries():
+    """The kit's libraries, but for std; where there is no kit, some of them."""
+    command = shutil.which('rt')
+    found = sorted((pathlib.Path(command).resolve().parent.parent / 'rlibs').glob('*.rlib')) if command else ()
+    return [path.stem for path in found if not STD.fullmatch(path.stem)] or ['bytes', 'check', 'io', 'itoa', 'libc', 'os']
 
 
 def listed():
@@ -69,7 +77,7 @@ def main(words):
     if words not in ([], ['--check'], ['--write']):
         sys.exit(__doc__)
     have = listed()
-    known = [*have, *KIT]
+    known = [*have, *libraries()]
     uses = {crate: named_by(crate, known) for crate in have}
     if words == ['--write']:
         file = ROOT / 'crates.txt'
