@@ -14,7 +14,7 @@ fn main() {
     };
     let archive = archive
         .canonicalize()
-        .unwrap_or_else(|_| panic!("no static library at {}: run rt staticlib sheet_calls", archive.display()));
+        .unwrap_or_else(|_| panic!("no static library at {}: run ./sheet build", archive.display()));
     println!("cargo:rerun-if-changed={}", archive.display());
     println!("cargo:rustc-link-arg={}", archive.display());
 }

@@ -2,7 +2,7 @@
  * room the sheet takes (sheet_room); and two functions that convert d1 between its old form and the one with the marker. docs/MANUAL.md tells all
  * of it.
  *
- * Build the archive with `rt staticlib sheet_calls`, and link target/staticlib/libsheet_calls.a (x86-64 Linux). It needs no other library,
+ * Build the archive with `./sheet build`, and link target/staticlib/libsheet_calls.a (x86-64 Linux). It needs no other library,
  * allocates nothing, keeps nothing between calls and may be called from several threads at once.
  */
 #ifndef SHEET_READER_H

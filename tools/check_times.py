@@ -1,26 +1,27 @@
 #!/usr/bin/env python3
 """usage: check_times.py [--unfinished] LOG > docs/CHECK_TIMES.md      LOG: what a gate printed, as bash .ci/run | tee LOG
 
-Writes how long each crate and its must-fail edits took in a gate that passed, and each part of the gate where the log tells it. With
---unfinished also of a gate that was ended before; the page then says so."""
+Writes after how many seconds a gate that passed had proved each crate, how many wrong edits of each it tried, and how long each part of the gate took.
+With --unfinished also of a gate that was ended before; the page then says so."""
 import re, signal, sys
 
-PROVED = re.compile(r'^rt: (\w+) proved \((\d+) s\)$')
-REFUSED = re.compile(r'^rt: must-fail (\w+)/(\w+): refused, as it must be \((?:.*; )?(\d+) s\)$')
+PROVED = re.compile(r'^rt: (\w+) (proved|is kept: .*) \(after (\d+) s\)$')
+REFUSED = re.compile(r'^rt: must-fail (\w+)/\S+\.edit: refused, as it must be')
 PART = re.compile(r'^\.ci/run: (.*) took (\d+) s$')
-MACHINE = re.compile(r'^\.ci/run: (\d+ processors?, \d+ checks at once)$')
+MACHINE = re.compile(r'^\.ci/run: (\d+ processors?)$')
 PASSED = re.compile(r'^[1-9]\d* passed, 0 failed$')
 
 
 class Log:
     def __init__(self, lines):
-        self.crates, self.edits, self.parts, self.machine = {}, {}, [], None
+        self.crates, self.kept, self.edits, self.parts, self.machine = {}, set(), {}, [], None
         self.passed = bool(lines) and bool(PASSED.match(lines[-1]))
         for line in lines:
             if found := PROVED.match(line):
-                self.crates[found[1]] = int(found[2])
+                self.crates[found[1]] = int(found[3])
+                self.kept |= {found[1]} if found[2] != 'proved' else set()
             elif found := REFUSED.match(line):
-                self.edits.setdefault(found[1], []).append(int(found[3]))
+                self.edits[found[1]] = self.edits.get(found[1], 0) + 1
             elif found := PART.match(line):
                 self.parts.append((found[1], int(found[2])))
             elif found := MACHINE.match(line):
@@ -35,19 +36,19 @@ def page(log):
     yield '# Check times\n'
     yield ('Made by `tools/check_times.py` from what a gate printed (`bash .ci/run | tee LOG`), not by hand. Checks run beside each other'
            + (f' ({log.machine})' if log.machine else '')
-           + ', so a crate takes\nlonger here than alone (`rt check NAME`), and the sums are more than the time that passed.\n')
+           + ', each crate\nafter those below it, and wrong edits beside them: told is after how many seconds the gate had proved a crate. `rt check` in its folder takes less.\n')
     if not log.passed:
         yield 'This gate was ended before it was through: edits and parts that it had not come to are missing here.\n'
+    if log.kept:
+        yield f'{len(log.kept)} of the crates were kept from an earlier run of the same files on that machine, and not proved again.\n'
     if log.parts:
         yield '| part of the gate | time |\n|---|---|'
         yield from (f'| {name} | {minutes(seconds)} |' for name, seconds in log.parts)
         yield f'| all | {minutes(sum(seconds for _, seconds in log.parts))} |\n'
-    yield '| crate | proof, s | checks of edits | all of them, s |\n|---|---|---|---|'
-    for crate, seconds in log.crates.items():
-        edits = log.edits.get(crate, [])
-        yield f'| `{crate}` | {seconds} | {len(edits) or "-"} | {sum(edits) if edits else "-"} |'
-    every = [seconds for edits in log.edits.values() for seconds in edits]
-    yield f'| {len(log.crates)} crates | {sum(log.crates.values())} | {len(every)} | {sum(every)} |'
+    yield '| crate | proved after, s | wrong edits |\n|---|---|---|'
+    for crate, seconds in sorted(log.crates.items(), key=lambda it: it[1]):
+        yield f'| `{crate}` | {"kept" if crate in log.kept else seconds} | {log.edits.get(crate, "-")} |'
+    yield f'| {len(log.crates)} crates | {max(log.crates.values())} | {sum(log.edits.values())} |'
 
 
 def main(args):

@@ -5,44 +5,60 @@ usage: tools/crate_uses.py             a line for each crate, as in crates.txt: 
        tools/crate_uses.py --check     only what differs from crates.txt; the status is 1 if anything does
        tools/crate_uses.py --write     crates.txt anew, with its crates in their order and its comments
 
-A text names a crate by `NAME::` in code and by `Rattle·NAME` in contracts, definitions and proofs. Comments don't count. A crate needs no line for what
+A text names a crate by `NAME::` in code and by `Rattle.NAME` in contracts, definitions and proofs. Comments don't count. A crate needs no line for what
 only those that it names use: the check finds that by itself."""
 import pathlib
 import re
+import shutil
 import sys
 
 ROOT = pathlib.Path(__file__).resolve().parent.parent
-KIT = ('check', 'io', 'libc', 'os', 'bytes')  # the kit's libraries; std is linked without being listed
+STD = re.compile(r'core|std(_\w+)?')  # linked without being listed
+
+
+def libraries():
+    """The kit's libraries, but for std; where there is no kit, some of them."""
+    command = shutil.which('rt')
+    found = sorted((pathlib.Path(command).resolve().parent.parent / 'rlibs').glob('*.rlib')) if command else ()
+    return [path.stem for path in found if not STD.fullmatch(path.stem)] or ['bytes', 'check', 'io', 'itoa', 'libc', 'os']
 
 
 def listed():
-    """crates.txt: name -> the crates that it lists, in their order."""
+    """crates.txt: name -> the crates that it lists, in their order. What stands after the name, as staticlib, is left out."""
     lines = (line.partition('#')[0].partition(':') for line in (ROOT / 'crates.txt').read_text().splitlines())
-    return {name.strip(): words.split() for name, colon, words in lines if colon}
+    return {name.split()[0]: words.split() for name, colon, words in lines if colon}
 
 
 def texts_of(crate):
-    """The texts of a crate without comments: code, and definitions and proofs."""
+    """The texts of a crate without comments: of each file of code, and of definitions and proofs."""
     folder = ROOT / 'crates' / crate
     code = [re.sub(r'//.*', '', file.read_text()) for file in sorted((folder / 'src').glob('**/*.rt'))]
     logic = [re.sub(r'(?<!\S)--.*', '', file.read_text()) for part in ('specs', 'proofs') for file in sorted((folder / part).glob('**/*.antt'))]
-    return '\n'.join(code), '\n'.join(logic)
+    return code, '\n'.join(logic)
+
+
+def begun(code):
+    """The names with which paths of a file begin, but for those that a `use` brings in from another one, as `io` by `use std::io;`."""
+    items = [re.match(r'(\w+)(.*)', item, re.S) for item in re.findall(r'\buse\s+(\w[^;]*);', re.sub(r'\bghost use [^;]*;', '', code))]
+    brought = {name for item in items for name in re.findall(r'\w+', item[2])}
+    return set(re.findall(r'(?<![\w:])(\w+)::', code)) - brought | {item[1] for item in items}
 
 
 def named_by(crate, known):
     """The known crates that a crate's text names, in the order of `known`."""
-    code, logic = texts_of(crate)
+    files, logic = texts_of(crate)
+    code = '\n'.join(files)
     modules = set(re.findall(r'^\s*(?:pub(?:\(crate\))? )?mod (\w+);', code, re.M))
-    found = set(re.findall(r'(?<![\w:])(\w+)::', code)) - modules
-    found |= set(re.findall(r'Rattle·(\w+)', code + logic))
+    found = set().union(*map(begun, files)) - modules
+    found |= set(re.findall(r'(?<![\w.])Rattle\.(\w+)', code + logic))
     return [name for name in known if name in found and name != crate]
 
 
 def rewritten(text, uses):
     """crates.txt with the lists as they are to be."""
     def line(match):
-        return ' '.join([match.group(1) + ':', *uses[match.group(1)]]) + (' ' if match.group(2) else '')
-    return re.sub(r'^(\w+)[ \t]*:[^#\n]*(?=(#)?)', line, text, flags=re.M)
+        return ' '.join([match.group(1) + match.group(2).rstrip() + ':', *uses[match.group(1)]]) + (' ' if match.group(3) else '')
+    return re.sub(r'^(\w+)([^:#\n]*):[^#\n]*(?=(#)?)', line, text, flags=re.M)
 
 
 def differences(have, uses):
@@ -61,7 +77,7 @@ def main(words):
     if words not in ([], ['--check'], ['--write']):
         sys.exit(__doc__)
     have = listed()
-    known = [*have, *KIT]
+    known = [*have, *libraries()]
     uses = {crate: named_by(crate, known) for crate in have}
     if words == ['--write']:
         file = ROOT / 'crates.txt'

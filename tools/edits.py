@@ -1,27 +1,34 @@
 #!/usr/bin/env python3
-"""The wrong edits of crates/*/must-fail, several of which can be tried by one check.
+"""The wrong edits of crates/*/must-fail, each in a file of its own, and whether the prover refuses each for what it gets wrong.
 
-usage: tools/edits.py --check             whether they fit the files
-       tools/edits.py --refused [CRATE..] after rt ci or rt must-fail: whether each of those that were tried at once was refused by itself
-       tools/edits.py --join [CRATE..]    writes those that can be tried at once into one file
+usage: tools/edits.py --check                  whether they fit the files
+       tools/edits.py --refused LOG [CRATE..]  LOG: what `rt ci` or `rt must-fail` printed: whether each was refused at a goal of its function
+       tools/edits.py --split [CRATE..]        gives each of several edits that stand in one file a file of its own
+       tools/edits.py --names [CRATE..]        has edits that change names bring the proof along, after a change of the edits, the code or its proofs
 
-rt checks a whole crate for each file of edits, and says only that something was refused. A file can hold several edits: before each stands a line
-"# LABEL in FUNCTION: what is wrong". They change code, each in functions of its own (and constants that only these name). What a proof of a function needs is said by its own code and by
-contracts, definitions and laws, which none of them changes; so each is refused as it would be alone. --refused looks that up in what the check printed
-(target/must-fail/CRATE/FILE/.log): each must be refused at a need of each function that it names, and nothing else may be refused for a reason of its own."""
-import collections
+A file can name the function that its edit falls on, in a line "# LABEL in FUNCTION: what is wrong"; LABEL is the file's name. Such an edit changes code, in
+that function (or a constant that only it names). What a proof of a function needs is said by its own code and by contracts, definitions and laws, which the
+edit doesn't change. So what rt tells first of its refusal must be a goal of that function, or of one of those that are named, and not that its proof
+doesn't fit the code any more. An edit of a definition names no function, and rt's own word counts.
+
+Goals and steps are named after the code, as `if-tag-lt8` after `tag < 8`. An edit that changes such a text changes the names, and the proof would be
+refused for that alone. So after its pairs in src/ stand the lines of the proof with the names that are then right; --names writes them."""
+import pathlib
 import re
+import shutil
 import sys
+import tempfile
 
-from wrong_answers import ROOT, WRONG, functions_of, proof_of, reached, refusals, verdict
+from wrong_answers import GONE, REFUSED, ROOT, UNMET, copy_to, follow, functions_of, restore
 
 PART = re.compile(r'^# (\w+) in (\w[\w:]*(?:, \w[\w:]*)*): (.*)$')
 CONSTANT = re.compile(r'^(?:pub(?:\(crate\))? )?const (\w+)', re.M)
-TOGETHER = 'Several wrong edits in one check, each in another function: tools/edits.py holds each to a need of its function.'
+TRIED = re.compile(r'^rt: must-fail (\w+)/(\S+)\.edit: (.*)$', re.M)
+AS_IT_MUST_BE = 'refused, as it must be'
 
 
 class Part:
-    """One wrong edit: its pairs of old and new text, the functions at whose needs it is refused, and what is wrong."""
+    """One wrong edit: its pairs of old and new text, the functions at whose goals it is refused, and what is wrong."""
 
     def __init__(self, crate, label, named, words):
         self.crate, self.label, self.named, self.words, self.pairs = crate, label, named, words, []
@@ -30,6 +37,8 @@ class Part:
         """The functions that it changes: a constant is a part of each that names it. Nothing if some of it stands elsewhere."""
         found = set()
         for file, at, end in self.places():
+            if self.named and file.startswith('proofs/') and at is not None:
+                continue
             around = [f.path for f in known.values() if at is not None and f'src/{f.file}' == file and f.start <= at and end <= f.end][:1]
             around = around or [path for name in constants_at(self.crate, file, at, end) for path in naming(self.crate, name, known)]
             if not around:
@@ -40,12 +49,13 @@ class Part:
     def places(self):
         """Where its old texts stand: file, start and end. As rt has it, one after the other, each once in what the one before has left."""
         texts = {}
-        for file, old, _ in self.pairs:
+        for file, old, new in self.pairs:
             source = ROOT / 'crates' / self.crate / file
-            text = texts.get(file) or (source.read_text() if source.is_file() else '')
-            at = text.find(old) if text.count(old) == 1 else None
+            # as it is edited, and as it was, with blanks for what is edited
+            edited, text = texts.get(file) or [source.read_text() if source.is_file() else ''] * 2
+            at = text.find(old) if edited.count(old) == 1 else None
             yield file, at, at and at + len(old)
-            texts[file] = text.replace(old, '\0' * len(old))
+            texts[file] = edited.replace(old, new), text.replace(old, '\0' * len(old))
 
     def lines(self):
         file = None
@@ -79,7 +89,7 @@ def naming(crate, name, known):
 
 
 def parts_of(path):
-    """The edits of a file, and whether they are tried at once."""
+    """The edits of a file, and whether they name functions."""
     crate, parts, file, old, words = path.parent.parent.name, [], None, None, []
     for line in path.read_text().splitlines():
         if found := PART.match(line):
@@ -97,122 +107,152 @@ def parts_of(path):
     return parts, any(part.named for part in parts)
 
 
-class Changed(collections.namedtuple('Changed', 'crate function')):
-    """A function that an edit changes."""
-
-
-def places_of(crate, functions):
-    """The folders of the proofs of these functions: those that call each other in a circle have one."""
-    return {proof_of(Changed(crate, function)) for function in functions}
-
-
 def files(crates=()):
     return sorted(path for path in ROOT.glob('crates/*/must-fail/*.edit') if not crates or path.parent.parent.name in crates)
 
 
 def misfits(path):
-    """Why the edits of a file don't fit."""
-    parts, at_once = parts_of(path)
+    """Why the edits of a file don't fit the crate, or the file doesn't fit them."""
+    parts, named = parts_of(path)
+    if len(parts) > 1:
+        yield 'it has several edits, of which rt tells only that one was refused; tools/edits.py --split gives each a file'
     for part in parts:
         for (file, at, _), (_, old, _) in zip(part.places(), part.pairs):
             if at is None:
                 yield f'{part.label}: its old text does not stand once in {file}: {old.strip()}'
-    if not at_once:
+    if not named:
         return
-    known, taken = functions_of(parts[0].crate), {}
+    known = functions_of(parts[0].crate)
     for part in parts:
         changed = part.changed(known)
         if not changed or not set(part.named) <= changed:
             yield f'{part.label}: it does not change {", ".join(part.named)}, or not only functions'
-        for place in places_of(part.crate, changed):
-            if place in taken:
-                yield f'{part.label}: {taken[place]} changes {place} too'
-            taken[place] = part.label
+    if len(parts) == 1 and parts[0].label != path.stem:
+        yield f'{parts[0].label}: its label is not the name of its file'
 
 
-def unrefused(path):
-    """What of the edits of a file that are tried at once was not refused as it must be."""
-    parts, at_once = parts_of(path)
-    if not at_once:
+def tried(log):
+    """What rt printed of each edit: crate and name -> words."""
+    return {(crate, name): words for crate, name, words in TRIED.findall(log)}
+
+
+def unrefused(path, said):
+    """Why an edit was not refused as it must be."""
+    (part, *_), _ = parts_of(path)
+    words = said.get((part.crate, path.stem), 'it was not tried')
+    if not words.startswith(AS_IT_MUST_BE):
+        yield words
         return
-    log = ROOT / 'target' / 'must-fail' / parts[0].crate / path.stem / '.log'
-    if not log.is_file():
-        yield 'it was not tried'
+    why, known = words[len(AS_IT_MUST_BE):], functions_of(part.crate)
+    if not part.named:
         return
-    text, known = log.read_text(errors='replace'), functions_of(parts[0].crate)
-    for part in parts:
-        for function in part.named:
-            needs, _, misfit = refusals(Changed(part.crate, function), text)
-            kind, words = verdict(Changed(part.crate, function), text)
-            if misfit or (not needs and kind == WRONG):
-                yield f'{part.label}: {function}: {words}'
-    proofs = {f'proofs/{place}/Proof.antt' for part in parts for place in places_of(part.crate, part.changed(known))}
-    for file, words in re.findall(r'^\S*/must-fail/\w+/\w+/(\S+?)(?::\d+:\d+)?: error: (.*)$', text, re.M):
-        if 'was not admitted' not in words and file not in proofs:
-            yield f'refused too, at {file}: {words[:100]}'
+    if why.startswith(' (only by a limit'):
+        yield f'refused, but{why[:200]}'
+    elif why.startswith(' (only because') or GONE.search(why):
+        yield f'its proof no longer fits{why[:200]}'
+    elif not any(is_at(why.removeprefix(': '), known[name]) for name in part.named if name in known):
+        yield f'refused, but not first at a goal of {", ".join(part.named)}{why[:200]}'
 
 
-def alone(part):
-    """The text of a file with one edit."""
-    return '\n'.join([f'# {part.words}', *list(part.lines())[1:]]) + '\n'
+def is_at(why, function):
+    """Whether what rt tells first is a goal of a function."""
+    unmet, refused = re.match(UNMET, why), re.match(REFUSED, why)
+    return bool(unmet and function.has(unmet['file'], int(unmet['line'])) or refused and refused['place'] == function.place)
 
 
-def together(parts):
-    return '\n'.join([f'# {TOGETHER}', *(line for part in parts for line in ['', *part.lines()])]) + '\n'
-
-
-def grouped(crate, parts):
-    """The edits that can be tried at once, in groups, those that stand together already first; the others each in a group of its own."""
-    known, groups, others = functions_of(crate), [], []
-    for part in sorted(parts, key=lambda part: not part.named):
-        changed = part.changed(known)
-        places = places_of(crate, changed)
-        part.named = part.named or sorted(changed)
-        free = [group for group in groups if not places & group[0]]
-        if not changed:
-            others.append([part])
-        elif free:
-            free[0][0].update(places)
-            free[0][1].append(part)
-        else:
-            groups.append((set(places), [part]))
-    return [group for _, group in groups] + others
-
-
-def join(crate):
-    """Writes the edits of a crate anew, in as few files as can be. Those with several are together.edit, together_2.edit, .."""
-    before = files([crate])
-    parts = [part for path in before for part in parts_of(path)[0]]
-    texts = {}
-    for group in grouped(crate, parts):
-        if len(group) == 1:
-            texts[group[0].label] = alone(group[0])
+def split(crates):
+    """Gives each edit of a file with several a file of its own."""
+    for path in files(crates):
+        parts, _ = parts_of(path)
+        if len(parts) == 1:
             continue
-        number = sum(name.startswith('together') for name in texts) + 1
-        name = 'together' + (f'_{number}' if number > 1 else '')
-        texts[name] = together(group)
-        print(f'{crate}/{name}:', ', '.join(part.label for part in group))
-    for path in before:
+        places = {part.label: path.with_name(f'{part.label}.edit') for part in parts}
+        if len(places) < len(parts) or any(place.exists() for place in places.values()):
+            sys.exit(f'edits.py: {path.parent.parent.name}/{path.stem}: there is another edit with the name of one of these')
         path.unlink()
-    for name, text in texts.items():
-        (ROOT / 'crates' / crate / 'must-fail' / f'{name}.edit').write_text(text)
+        for part in parts:
+            places[part.label].write_text('\n'.join(part.lines()) + '\n')
+        print(f'{path.parent.parent.name}/{path.stem}:', ', '.join(places))
+
+
+def apart(edits, known):
+    """Edits in groups of which no two change one function's proof."""
+    groups = []
+    for path, part in edits:
+        places = {known[function].place for function in part.changed(known)}
+        group = next((group for group in groups if not places & group[0]), None)
+        if group is None:
+            groups.append(group := (set(), []))
+        group[0].update(places)
+        group[1].append((path, part, places))
+    return [group for _, group in groups]
+
+
+def proof_pairs(crate, places, moved):
+    """The lines of some proofs whose names are others, each as it is and as it must then be."""
+    for place in sorted(places):
+        for path in follow.files(ROOT / 'crates' / crate, place) if moved.get(place) else ():
+            path = pathlib.Path(path)
+            lines = [(line, follow.followed(line, moved[place])) for line in path.read_text().splitlines()]
+            lines = [(old, new) for old, new in lines if old != new]
+            while lines:
+                # first one whose new text is not that of a line still to be edited
+                at = next((at for at, (_, new) in enumerate(lines) if not any(old in new for old, _ in lines[:at] + lines[at + 1:])), 0)
+                yield str(path.relative_to(ROOT / 'crates' / crate)), *lines.pop(at)
+
+
+def bring_along(crates):
+    """Writes the pairs of proofs into the edits of some crates that name functions."""
+    with tempfile.TemporaryDirectory() as folder:
+        copy = pathlib.Path(folder)
+        copy_to(copy)
+        for crate in sorted({path.parent.parent.name for path in files(crates)}):
+            edits, known = [], functions_of(crate)
+            for path in files([crate]):
+                parts, named = parts_of(path)
+                if named and len(parts) == 1:
+                    parts[0].pairs = [pair for pair in parts[0].pairs if not pair[0].startswith('proofs/')]
+                    edits.append((path, parts[0]))
+            before = follow.names(ROOT / 'crates' / crate) if edits else None
+            for group in apart(edits, known):
+                for _, part, _ in group:
+                    for file, old, new in part.pairs:
+                        if file.startswith('src/'):
+                            source = copy / 'crates' / crate / file
+                            source.write_text(source.read_text().replace(old, new))
+                moved = follow.renamings(before, follow.names(copy / 'crates' / crate))
+                for path, part, places in group:
+                    if any(moved.get(place, {}) is None for place in places):
+                        print(f'{crate}/{path.stem}: other goals or steps than the code has')
+                    lines = list(proof_pairs(crate, places, moved))
+                    part.pairs += lines
+                    if part.pairs != parts_of(path)[0][0].pairs:
+                        path.write_text('\n'.join(part.lines()) + '\n')
+                        print(f'{crate}/{path.stem}: {len(lines)} lines of its proof')
+                restore(crate, copy / 'crates' / crate / 'src')
 
 
 def main(words):
-    command, crates = words[:1], words[1:]
-    if command not in (['--check'], ['--refused'], ['--join']) or (crates and command == ['--check']):
+    command, rest = words[:1], words[1:]
+    if command not in (['--check'], ['--refused'], ['--split'], ['--names']) or command == ['--check'] and rest or command == ['--refused'] and not rest:
         sys.exit(__doc__)
-    if command == ['--join']:
-        for crate in crates or sorted({path.parent.parent.name for path in files()}):
-            join(crate)
+    if command == ['--names']:
+        bring_along(rest)
         return False
+    if command == ['--split']:
+        split(rest)
+        return False
+    crates, said = rest[1:], None
+    if command == ['--refused']:
+        with open(rest[0], encoding='utf-8', errors='replace') as f:
+            said = tried(f.read())
     wrong = count = 0
     for path in files(crates):
         count += len(parts_of(path)[0])
-        for why in (misfits if command == ['--check'] else unrefused)(path):
+        for why in misfits(path) if said is None else unrefused(path, said):
             print(f'! {path.parent.parent.name}/{path.stem}: {why}')
             wrong += 1
-    print(f'edits: {count} in {len(files(crates))} checks, {wrong} not as they must be')
+    print(f'edits: {count} in {len(files(crates))} files, {wrong} not as they must be')
     return wrong > 0
 
 

@@ -8,32 +8,37 @@ here=$(mktemp -d)
 trap 'rm -rf "$here"' EXIT
 failed=0
 cat > "$here/log" <<'L'
-.ci/run: 2 processors, 4 checks at once
+.ci/run: 4 processors
 fn low::f: proved
-rt: low proved (3 s)
-rt: high proved (61 s)
-rt: must-fail high/blank: refused, as it must be (first at proofs/f/Proof.antt:1:2; 7 s)
-rt: must-fail high/wrong: refused, as it must be (12 s)
+rt: low proved (after 3 s)
+rt: high: its tests are proved (after 50 s)
+rt: high proved (after 61 s)
+rt: low: trying its must-fail edits (1)
+rt: must-fail high/blank.edit: refused, as it must be: ./proofs/f/Answers.antt:1:2: error: `returns`: the sides differ
+rt: must-fail high/wrong.edit: refused, as it must be
 .ci/run: crates and edits took 100 s
-.ci/run: static library took 20 s
+.ci/run: the static library took 20 s
 4 passed, 0 failed
 L
 cat > "$here/expected" <<'T'
 | part of the gate | time |
 |---|---|
 | crates and edits | 1 min 40 s |
-| static library | 20 s |
+| the static library | 20 s |
 | all | 2 min 0 s |
 
-| crate | proof, s | checks of edits | all of them, s |
-|---|---|---|---|
-| `low` | 3 | - | - |
-| `high` | 61 | 2 | 19 |
-| 2 crates | 64 | 2 | 19 |
+| crate | proved after, s | wrong edits |
+|---|---|---|
+| `low` | 3 | - |
+| `high` | 61 | 2 |
+| 2 crates | 61 | 2 |
 T
 python3 -B tools/check_times.py "$here/log" > "$here/page"
 sed -n '/^| part/,$p' "$here/page" | cmp - "$here/expected" || failed=1
-grep -q '2 processors, 4 checks at once' "$here/page" || { echo 'check_times: the machine is not told'; failed=1; }
+grep -q '(4 processors)' "$here/page" || { echo 'check_times: the machine is not told'; failed=1; }
+sed 's/^rt: low proved/rt: low is kept: an earlier run on this machine proved the same files over the same libraries/' "$here/log" > "$here/again"
+python3 -B tools/check_times.py "$here/again" > "$here/out"
+grep -q '^1 of the crates were kept' "$here/out" && grep -qx '| `low` | kept | - |' "$here/out" || { echo 'check_times: what was kept'; failed=1; }
 refused() { # words, log
     if python3 -B tools/check_times.py "$2" > "$here/out" 2>&1 || ! grep -q "$1" "$here/out"; then echo "check_times: not refused, '$1'"; failed=1; fi
 }
@@ -63,17 +68,17 @@ sed -i 's/`wire`: `Wire`, `Messages`/`wire`: `Wire`/' "$here/copy/README.md"
 if python3 -B "$here/copy/tools/trusted.py" --check > "$here/out" 2>&1; then echo 'trusted: not found, README has a file fewer'; failed=1; fi
 python3 -B "$here/copy/tools/trusted.py" --write
 cmp README.md "$here/copy/README.md" || failed=1
-echo 'use Rattle·lookup.specs.told.Strings.{codesIn}' >> "$here/copy/crates/metadata/specs/Read.antt"
+echo 'use Rattle.lookup.specs.told.Strings.{codes_in}' >> "$here/copy/crates/metadata/specs/Read.antt"
 believes 'lookup/specs/told/Strings.antt: crates/metadata/specs/Read.antt rests on it'
 mv "$here/copy/crates/wire/specs/told/WireTold.antt" "$here/copy/crates/wire/specs/WireTold.antt"
 believes 'wire/specs/WireTold.antt: nothing to be believed rests on it'
-echo 'use Rattle·promises.specs.Walk.{refText}' >> "$here/copy/crates/wire/specs/Wire.antt"
+echo 'use Rattle.promises.specs.Walk.{ref_text}' >> "$here/copy/crates/wire/specs/Wire.antt"
 believes 'wire/specs/Wire.antt: it is read before crates/promises/specs/Walk.antt'
-echo 'use Rattle·wire.specs.More.{more}' >> "$here/copy/crates/wire/specs/Messages.antt"
+echo 'use Rattle.wire.specs.More.{more}' >> "$here/copy/crates/wire/specs/Messages.antt"
 echo '-- more' > "$here/copy/crates/wire/specs/More.antt"
 believes 'wire/specs/More.antt: it has no place in ORDER'
-printf 'abbrev pub bodyIn : ℕ\nbodyIn = 0\n' >> "$here/copy/crates/wire/specs/told/WireTold.antt"
-believes 'bodyIn is defined in crates/schema/specs/Members.antt and in crates/wire/specs/told/WireTold.antt'
+printf 'abbrev pub body_in : ℕ\nbody_in = 0\n' >> "$here/copy/crates/wire/specs/told/WireTold.antt"
+believes 'body_in is defined in crates/schema/specs/Members.antt and in crates/wire/specs/told/WireTold.antt'
 
 # the lines that README shows of ./sheet are those that it prints
 grep '^    public ' README.md | sed 's/^    //' > "$here/shown"
@@ -94,8 +99,8 @@ traced() { # words that must be said
         failed=1
     fi
 }
-sed -i 's/`firstAbove255`/`firstAbove256`/' "$here/traced/docs/TRACE.md"
-traced 'firstAbove256 is defined nowhere'
+sed -i 's/`first_above255`/`first_above256`/' "$here/traced/docs/TRACE.md"
+traced 'first_above256 is defined nowhere'
 cp docs/TRACE.md "$here/traced/docs"
 mv "$here/traced/crates/encoding/specs/Encoding.antt" "$here/traced/crates/encoding/specs/Units.antt"
 traced 'there should be .*encoding/specs/Units.antt'

@@ -6,7 +6,7 @@ usage: tools/public.py             a line for each such item, and what it could 
        tools/public.py --write     makes those items `pub(crate)` or private
 
 Items are functions, methods, types, constants and modules. Another crate names one by its path in code, CRATE::MODULE::NAME, or in contracts,
-definitions and proofs, Rattle·CRATE.proofs.MODULE.NAME and Rattle·CRATE.specs.declared.MODULE.NAME; a method of a public type by a call VALUE.NAME(..),
+definitions and proofs, Rattle.CRATE.proofs.MODULE.NAME and Rattle.CRATE.specs.declared.MODULE.NAME; a method of a public type by a call VALUE.NAME(..),
 if the text doesn't show that the value is of another type. Comments don't count. A type or constant stays public where a public item's signature or
 fields name it, a module where it holds a public item. A function that is exported to C stays as it is.
 
@@ -50,8 +50,8 @@ class Crate:
         self.code = {file: without_comments(text) for file, text in self.files.items()}
         logic = (file for part in ('specs', 'proofs') for file in sorted((folder / part).glob('**/*.antt')))
         self.text = '\n'.join([*self.code.values(), *(re.sub(r'(?<!\S)--.*', '', file.read_text()) for file in logic)])
-        self.paths = set(re.findall(r'(?<![\w:·])\w+(?:::\w+)+', self.text))
-        self.paths |= {path.replace('.', '::') for path in re.findall(r'Rattle·(\w+(?:\.[\w]+)+)', self.text)}
+        self.paths = set(re.findall(r'(?<![\w:])\w+(?:::\w+)+', self.text)).union(*map(used, self.code.values()))
+        self.paths |= {path.replace('.', '::') for path in re.findall(r'(?<![\w.])Rattle\.(\w+(?:\.[\w]+)+)', self.text)}
         self.answers = [pair for code in self.code.values() for pair in re.findall(r"\bfn (\w+)[^{]*?\)\s*->\s*(\w+)", code)]
         self.calls = {file: list(method_calls(code)) for file, code in self.code.items()}
         self.items = list(self.public_items())
@@ -67,6 +67,25 @@ class Crate:
                 owner = re.findall(r'^impl(?:<[^>]*>)? (\w+)', code[:match.start()], re.M)[-1:] if indent else []
                 home = homes[owner[0]] if owner else module_of(file)
                 yield Item(self.name, file, match.start(2) - len('pub '), kind, [*home, *owner, name], seen_text(code, match, kind))
+
+
+def used(code):
+    """The paths that the `use` items of a file bring in, those of a group each by itself, and those that begin with the last name of one."""
+    found = set()
+    for item in re.findall(r'(?<!ghost )\buse ([^;]*);', code):
+        above, path = [], ''
+        for word in re.findall(r'[\w:]+|[{},]', re.sub(r'\s+as\s+\w+', '', item)):
+            if word == '{':
+                above.append(path)
+            elif word in '},':
+                found.add(path)
+                path = above[-1] if above else ''
+                above = above[:-1] if word == '}' else above
+            else:
+                path += word
+        found.add(path)
+    last = {path.split('::')[-1]: path for path in found}
+    return found | {last[first] + rest for first, rest in re.findall(r'(?<![\w:])(\w+)((?:::\w+)+)', code) if first in last}
 
 
 def module_of(file):
@@ -167,7 +186,7 @@ def narrowed(found, crate, answers):
 
 def listed():
     lines = (line.partition('#')[0].partition(':') for line in (ROOT / 'crates.txt').read_text().splitlines())
-    return [name.strip() for name, colon, _ in lines if colon]
+    return [name.split()[0] for name, colon, _ in lines if colon]
 
 
 def traced():

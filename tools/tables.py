@@ -8,14 +8,14 @@ classes. Says each difference; the exit status is then 1."""
 import importlib.util, pathlib, re, sys
 
 SPECS = {
-    'recordTable': 'sheet/specs/Rows.antt',
+    'record_table': 'sheet/specs/Rows.antt',
     'rows': ['declarations/specs/Payload.antt', 'declaration_rows/specs/Rows.antt', 'descriptors/specs/Defaults.antt'],
-    'refusals': [('inputs/specs/Refusals.antt', 'numberOf', 'detailOf'), ('converter/specs/Conversions.antt', 'faultNumber', 'faultDetail')],
+    'refusals': [('inputs/specs/Refusals.antt', 'number_of', 'detail_of'), ('converter/specs/Conversions.antt', 'fault_number', 'fault_detail')],
     'roles': 'declaration_rows/specs/Rows.antt',
     'projections': 'declaration_rows/specs/Declarations.antt',
     'lists': 'room/specs/Room.antt',
-    'limits': {'unitLimit': 'encoding/specs/Encoding.antt', 'stringLimit': 'inputs/specs/Inputs.antt', 'allowance': 'schema/specs/Reading.antt',
-               'textLimit': 'passes/specs/Answered.antt', 'maxDepth': 'schema/specs/Types.antt'},
+    'limits': {'unit_limit': 'encoding/specs/Encoding.antt', 'string_limit': 'inputs/specs/Inputs.antt', 'allowance': 'schema/specs/Reading.antt',
+               'text_limit': 'passes/specs/Answered.antt', 'max_depth': 'schema/specs/Types.antt'},
 }
 
 # what the definitions' names are called elsewhere
@@ -24,10 +24,10 @@ CELLS = {
     'name': ['name', 'class name'],
     'signature name': ["signature's name", 'signature name', 'signature'],
     'signature descriptor': ["signature's descriptor", 'descriptor'],
-    'hasReceiver': ['receiver'],
-    'getterIsDefault': ['getter is default', 'getter default'],
-    'setterIsDefault': ['setter is default', 'setter default'],
-    'declaresDefault': ['has a default value', 'default'],
+    'has_receiver': ['receiver'],
+    'getter_is_default': ['getter is default', 'getter default'],
+    'setter_is_default': ['setter is default', 'setter default'],
+    'declares_default': ['has a default value', 'default'],
     **{f'{part} name': [f"{part}'s name", part] for part in ('field', 'getter', 'setter')},
     **{f'{part} descriptor': [f"{part}'s descriptor", f'{part} descriptor', 'its descriptor'] for part in ('field', 'getter', 'setter')},
     **{name: [name, f'count of {name}'] for name in ('constructors', 'functions', 'properties', 'parameters', 'arguments')},
@@ -36,48 +36,48 @@ CELLS = {
 RECORD_NAMES = {'types': 'type', 'default': 'default descriptor'}
 # of a cause: its name in the header, and words that tell it
 CAUSES = {
-    'd1TooLong': ('D1_TOO_LONG', 'd1 has more than'),
-    'd2TooLong': ('D2_TOO_LONG', 'd2 has more than'),
-    'stringEnds': ('STRING_ENDS', 'string ends'),
-    'newerVersion': ('NEWER_VERSION', 'major'),
-    'emptyPayload': ('EMPTY', 'd1 is empty'),
-    'notAByte': ('NOT_A_BYTE', 'above 255'),
-    'varintCutShort': ('TRUNCATED', 'truncated'),
-    'pastItsMessage': ('PAST_MESSAGE', 'past its message'),
-    'fieldTooLarge': ('FIELD_TOO_LARGE', 'too large for 32 bits'),
-    'forbiddenField': ('FORBIDDEN_FIELD', 'field number is forbidden'),
-    'wireType': ('WIRE_TYPE', 'wire type'),
-    'oversizedVarint': ('OVERSIZED_VARINT', 'varint'),
-    'tooManyTypes': ('TOO_MANY_TYPES', 'types'),
-    'textTooLong': ('TEXT_TOO_LONG', 'text'),
-    'sheetTooLong': ('SHEET_TOO_LONG', 'sheet'),
+    'd1_too_long': ('D1_TOO_LONG', 'd1 has more than'),
+    'd2_too_long': ('D2_TOO_LONG', 'd2 has more than'),
+    'string_ends': ('STRING_ENDS', 'string ends'),
+    'newer_version': ('NEWER_VERSION', 'major'),
+    'empty_payload': ('EMPTY', 'd1 is empty'),
+    'not_a_byte': ('NOT_A_BYTE', 'above 255'),
+    'varint_cut_short': ('TRUNCATED', 'truncated'),
+    'past_its_message': ('PAST_MESSAGE', 'past its message'),
+    'field_too_large': ('FIELD_TOO_LARGE', 'too large for 32 bits'),
+    'forbidden_field': ('FORBIDDEN_FIELD', 'field number is forbidden'),
+    'wire_type': ('WIRE_TYPE', 'wire type'),
+    'oversized_varint': ('OVERSIZED_VARINT', 'varint'),
+    'too_many_types': ('TOO_MANY_TYPES', 'types'),
+    'text_too_long': ('TEXT_TOO_LONG', 'text'),
+    'sheet_too_long': ('SHEET_TOO_LONG', 'sheet'),
     # of the conversions
-    'tooManyUnits': ('D1_TOO_LONG', 'd1 has more than'),
-    'nothingThere': ('EMPTY', 'd1 is empty'),
-    'wrongForm': ('WRONG_FORM', 'wrong form'),
-    'unitAbove255': ('NOT_A_BYTE', 'above 255'),
-    'firstUnitZero': ('FIRST_UNIT_ZERO', 'would be 0'),
-    'unitsAreaTooShort': ('SHEET_TOO_LONG', 'area'),
+    'too_many_units': ('D1_TOO_LONG', 'd1 has more than'),
+    'nothing_there': ('EMPTY', 'd1 is empty'),
+    'wrong_form': ('WRONG_FORM', 'wrong form'),
+    'unit_above255': ('NOT_A_BYTE', 'above 255'),
+    'first_unit_zero': ('FIRST_UNIT_ZERO', 'would be 0'),
+    'units_area_too_short': ('SHEET_TOO_LONG', 'area'),
 }
 ROLES = {
-    'returnRole': ('RETURNED', 'returned'),
-    'receiverRole': ('RECEIVER', 'receiver'),
-    'parameterRole': ('PARAMETER_TYPE', 'parameter'),
-    'varargRole': ('VARARG_ELEMENT', 'vararg'),
-    'argumentRole': ('ARGUMENT', 'argument'),
-    'underlyingRole': ('UNDERLYING', 'underlying'),
-    'expandedRole': ('EXPANDED', 'expanded'),
+    'return_role': ('RETURNED', 'returned'),
+    'receiver_role': ('RECEIVER', 'receiver'),
+    'parameter_role': ('PARAMETER_TYPE', 'parameter'),
+    'vararg_role': ('VARARG_ELEMENT', 'vararg'),
+    'argument_role': ('ARGUMENT', 'argument'),
+    'underlying_role': ('UNDERLYING', 'underlying'),
+    'expanded_role': ('EXPANDED', 'expanded'),
 }
 # the projections that the definitions don't name, and those that they do
 UNNAMED_PROJECTIONS = {'in': 0, 'out': 1}
 PROJECTIONS = ('invariant', 'star')
 # of a limit: its name in the header, its rows in MANUAL's table of limits
 LIMITS = {
-    'unitLimit': ('UNIT_LIMIT', ['units of d1', 'units of d2']),
-    'stringLimit': ('STRING_LIMIT', ['strings of d2']),
+    'unit_limit': ('UNIT_LIMIT', ['units of d1', 'units of d2']),
+    'string_limit': ('STRING_LIMIT', ['strings of d2']),
     'allowance': ('TYPE_LIMIT', ['types of a class']),
-    'textLimit': ('TEXT_LIMIT', ['text']),
-    'maxDepth': (None, ['depth of types by index']),
+    'text_limit': ('TEXT_LIMIT', ['text']),
+    'max_depth': (None, ['depth of types by index']),
 }
 
 
@@ -118,24 +118,24 @@ def arguments(text):
 def meant(argument):
     """The field that an argument is about, else its own word."""
     fields = re.findall(r'\.(\w+)', argument)
-    words = [w for w in re.findall(r'\w+', argument) if w not in ('some', 'length', 'mapOption', 'countOf')]
+    words = [w for w in re.findall(r'\w+', argument) if w not in ('some', 'length', 'map_option', 'count_of')]
     return fields[-1] if fields else words[0]
 
 
-ARGUMENT = r'(\((?:[^()]|\((?:[^()]|\([^()]*\))*\))*\)|\w+)'
+ARGUMENT = r'(\((?:[^()]|\((?:[^()]|\([^()]*\))*\))*\)|[\w.]+)'
 
 
 def cells(expression, text):
     """Name and width of each cell of a row's expression; a ref's width is 4."""
-    called = re.match(r'\s*(\w+Cells) (.*)', expression, re.S)
-    if called and called[1] != 'signatureCells':
+    called = re.match(r'\s*(\w+_cells) (.*)', expression, re.S)
+    if called and called[1] != 'signature_cells':
         parameters, body = definition(text, called[1])
         given = dict(zip(parameters, map(meant, arguments(called[2]))))
         return [(given.get(name, name), width) for name, width in cells(body, text)]
     found = []
-    for form, argument in re.findall(r'\b(num \d+|bit|nameCell|ref|signatureCells) ' + ARGUMENT, expression):
-        if form == 'signatureCells':
-            found += [(f'{meant(argument)} {part}', 4) for part, _ in cells(definition(text, 'signatureCells')[1], text)]
+    for form, argument in re.findall(r'\b(num \d+|bit|name_cell|ref|signature_cells) ' + ARGUMENT, expression):
+        if form == 'signature_cells':
+            found += [(f'{meant(argument)} {part}', 4) for part, _ in cells(definition(text, 'signature_cells')[1], text)]
         else:
             found.append((meant(argument), int(form[4:]) if form.startswith('num') else 1 if form == 'bit' else 4))
     return found
@@ -143,7 +143,7 @@ def cells(expression, text):
 
 def table_widths(root):
     """The widths of the table of records, by kind."""
-    rows = re.findall(r'\(([^()]*)\)', definition(spec(root, SPECS['recordTable']), 'recordTable')[1])
+    rows = re.findall(r'\(([^()]*)\)', definition(spec(root, SPECS['record_table']), 'record_table')[1])
     widths = [[4 if form == 'text' else int(form.split()[1]) for form in map(str.strip, row.split('∷')) if form != '[]'] for row in rows]
     return dict(enumerate(widths, 1))
 
@@ -154,10 +154,10 @@ def defined_records(root):
     for path in SPECS['rows']:
         text = spec(root, path)
         for row in re.finditer(r'\brow (\d+) \(', text):
-            owner = re.findall(r'^(\w+?)Rows?\b.* =', text[:row.start()], re.M)[-1]
+            owner = re.findall(r'^(\w+?)_rows?\b.* =', text[:row.start()], re.M)[-1]
             records[int(row[1])] = (RECORD_NAMES.get(owner, owner), cells(balanced(text, row.end() - 1), text))
     if {kind: [width for _, width in found] for kind, (_, found) in records.items()} != widths:
-        raise NotFound('the same widths in recordTable and in the definitions of rows')
+        raise NotFound('the same widths in record_table and in the definitions of rows')
     return records
 
 
@@ -307,12 +307,12 @@ ANSWER = 5  # the numbers of an answer, which the room's numbers begin with
 
 
 # the rows of a list in the definition, and what the list is called
-LISTS = {'member.Property': 'properties', 'member.Function': 'functions', 'member.Constructor': 'constructors', 'member.Alias': 'aliases', 'headRow': 'head'}
+LISTS = {'member.Property': 'properties', 'member.Function': 'functions', 'member.Constructor': 'constructors', 'member.Alias': 'aliases', 'head_row': 'head'}
 
 
 def defined_lists(root):
     """The lists whose text is told, in their order."""
-    return [LISTS[rows] for rows in re.findall(r'member\.\w+|headRow', definition(spec(root, SPECS['lists']), 'listsOf')[1])]
+    return [LISTS[rows] for rows in re.findall(r'member\.\w+|head_row', definition(spec(root, SPECS['lists']), 'lists_of')[1])]
 
 
 def check_room(d, where, text, records, lists):
@@ -371,8 +371,8 @@ def check_tool(d, where, module, records, causes, details, roles, limits):
     short = {number: name.replace('_', ' ').lower() for name, number in names(CAUSES, causes).items()}
     d.same(where, 'names of refusals', short, module.REFUSAL_NAMES)
     d.worded(where, 'role', words(ROLES, roles), module.ROLES)
-    d.same(where, 'limit TEXT_LIMIT', limits['textLimit'], module.TEXT_LIMIT)
-    for cause, limit in (('d1TooLong', 'unitLimit'), ('d2TooLong', 'stringLimit'), ('tooManyTypes', 'allowance'), ('textTooLong', 'textLimit')):
+    d.same(where, 'limit TEXT_LIMIT', limits['text_limit'], module.TEXT_LIMIT)
+    for cause, limit in (('d1_too_long', 'unit_limit'), ('d2_too_long', 'string_limit'), ('too_many_types', 'allowance'), ('text_too_long', 'text_limit')):
         if f'{limits[limit]:,}' not in told.get(causes[cause], ''):
             d.say(where, f'refusal {causes[cause]} does not tell the limit {limits[limit]:,}')
 
@@ -384,7 +384,7 @@ def check_java(d, where, root, records, limits):
     d.same(f'{where}/Records.java', 'bytes of the records', ', '.join(str(placed(*records[kind])[1]) for kind in sorted(records)),
            lengths and lengths[1])
     text = (root / where / 'SheetReader.java').read_text(encoding='utf-8')
-    d.named(f'{where}/SheetReader.java', 'limit', {'UNIT_LIMIT': limits['unitLimit'], 'STRING_LIMIT': limits['stringLimit']}, text)
+    d.named(f'{where}/SheetReader.java', 'limit', {'UNIT_LIMIT': limits['unit_limit'], 'STRING_LIMIT': limits['string_limit']}, text)
 
 
 def main(args):

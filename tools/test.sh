@@ -3,7 +3,8 @@
 # statuses (sheet_test.py), on a fresh copy (build_test.py), on damaged classes (mutation_test.py).
 # targets.py and measure_links.py on the examples. crate_uses.py and public.py on a repository of two crates; public.py on the crates.
 # That MANUAL, the header and the tools have the definitions' tables; that README names the files to believe, README and
-# NOTICE every crate; the page of check times. The tools for proofs, and that each proof is what its template gives.
+# NOTICE every crate; the page of check times. The gate itself, with scripts in place of what it calls. The tools for proofs, and that each proof is of
+# a function of the code.
 set -eu
 cd "$(dirname "$0")/.."
 here=$(mktemp -d)
@@ -79,14 +80,19 @@ uses_are 'by code' ' low'
 refused 'lists io' python3 -B "$uses/tools/crate_uses.py" --check
 printf '// low::f\nuse io::write;\n' > "$uses/crates/high/src/lib.rt"
 uses_are 'not by comments' ' io'
-echo 'use Rattle·low.specs.F.{f} -- Rattle·check' > "$uses/crates/high/proofs/Lib.antt"
+printf 'use std::{io, os::unix};\nfn g() { io::write(); os::h(); }\n' > "$uses/crates/high/src/lib.rt"
+uses_are "not by names of std's modules" ''
+printf 'use std::low;\nuse io::write;\nfn g() { low::f(); }\n' > "$uses/crates/high/src/lib.rt"
+uses_are 'by one name of two' ' io'
+printf '// low::f\nuse io::write;\n' > "$uses/crates/high/src/lib.rt"
+echo 'use Rattle.low.specs.F.{f} -- Rattle.check' > "$uses/crates/high/proofs/Lib.antt"
 uses_are 'by a proof' ' low io'
 python3 -B "$uses/tools/crate_uses.py" --check > "$here/given" || { echo 'crate_uses: refused as it should be'; failed=1; }
-echo 'low:' > "$uses/crates.txt"
+echo 'low staticlib:' > "$uses/crates.txt"
 echo 'high: # nothing' >> "$uses/crates.txt"
 refused 'its text names low' python3 -B "$uses/tools/crate_uses.py" --check
 python3 -B "$uses/tools/crate_uses.py" --write
-printf 'low:\nhigh: low io # nothing\n' > "$here/expected"
+printf 'low staticlib:\nhigh: low io # nothing\n' > "$here/expected"
 same 'crate_uses --write' "$here/expected" "$uses/crates.txt"
 
 # public.py: what a crate above names stays public, and what nothing names is told, one wrong thing at a time
@@ -104,11 +110,16 @@ begin_public() { # both crates as they should be; `named` shows One, which no cr
 public_check() { python3 -B "$public/tools/public.py" --check; }
 begin_public
 public_check > "$here/given" || { echo 'public.py: refused as it should be'; cat "$here/given"; failed=1; }
+sed -i '2d; s/^use low::named;/use low::{\n    deep, named,\n};/; s/ asked(one/ deep::asked(one/' "$public/crates/high/src/lib.rt"
+public_check > "$here/given" || { echo 'public.py: a group of names, and a module that it brings in'; cat "$here/given"; failed=1; }
+sed -i 's/deep, named/named/' "$public/crates/high/src/lib.rt"
+refused 'low::deep::asked (fn): no other crate names it' public_check
+begin_public
 echo 'pub fn spare() {}' >> "$public/crates/low/src/lib.rt"
 refused 'low::spare (fn): no other crate names it; it can be private' public_check
 echo '// low::spare' >> "$public/crates/high/src/lib.rt"
 refused 'low::spare (fn): no other crate names it' public_check
-echo 'use Rattle·low.proofs.spare.Reads as reads' > "$public/crates/high/proofs/Lib.antt"
+echo 'use Rattle.low.proofs.spare.Reads as reads' > "$public/crates/high/proofs/Lib.antt"
 refused 'low::spare is public, and the table' public_check
 sed -i 's/^| `named`.*/&\n| `spare` | - |/' "$public/docs/TRACE.md"
 public_check > "$here/given" || { echo 'public.py: a proof names spare'; cat "$here/given"; failed=1; }
@@ -142,9 +153,10 @@ if command -v rt > "$here/out"; then
 else
     echo 'tools: ./sheet skipped, no rt to build its library'
 fi
-if [ -x target/bin/sheet_reader ]; then
+program=crates/sheet_reader/out/sheet_reader
+if [ -x $program ]; then
     for line in examples/*.line; do
-        python3 -B tools/class_input.py "${line%.line}.class" | target/bin/sheet_reader > "$here/line"
+        python3 -B tools/class_input.py "${line%.line}.class" | $program > "$here/line"
         same "sheet_reader" "$line" "$here/line"
     done
 else
@@ -164,15 +176,17 @@ fi
 bash tools/tables_test.sh || failed=1
 # pages that tools make or hold to the crates
 bash tools/pages_test.sh || failed=1
-# wrong edits that are tried at once
+# wrong edits and what was said of them
 bash tools/edits_test.sh || failed=1
+# the gate
+bash tools/gate_test.sh || failed=1
 
-# proofs and their templates
+# proofs, each of a function
 bash tools/proofs/test.sh || failed=1
 python3 -B tools/proofs/check.py > "$here/proofs" || { cat "$here/proofs"; failed=1; }
 
 # the maps
-for crate in $(sed 's/#.*//; s/:.*//' crates.txt); do
+for crate in $(sed 's/#.*//; s/[ :].*//' crates.txt); do
     sed '/Apache License/,$d' NOTICE | grep -qw -- "$crate" || { echo "NOTICE doesn't name $crate"; failed=1; }
     grep -q -- "\`$crate\`" README.md || { echo "README's map doesn't name $crate"; failed=1; }
 done
@@ -183,11 +197,11 @@ while read -r constant name file; do
     definition=$(sed -n "s/^$name = \([0-9]*\)$/\1/p" "crates/$file")
     [ "${header:-none}" = "$definition" ] || { echo "$constant: ${header:-none} in the header, $name is ${definition:-none}"; failed=1; }
 done <<'L'
-SHEET_UNIT_LIMIT unitLimit encoding/specs/Encoding.antt
-SHEET_STRING_LIMIT stringLimit inputs/specs/Inputs.antt
+SHEET_UNIT_LIMIT unit_limit encoding/specs/Encoding.antt
+SHEET_STRING_LIMIT string_limit inputs/specs/Inputs.antt
 SHEET_TYPE_LIMIT allowance schema/specs/Reading.antt
-SHEET_TEXT_LIMIT textLimit passes/specs/Answered.antt
-SHEET_LONGEST longestSheet promises/specs/Promises.antt
+SHEET_TEXT_LIMIT text_limit passes/specs/Answered.antt
+SHEET_LONGEST longest_sheet promises/specs/Promises.antt
 L
 
 if [ "$failed" = 0 ]; then echo 'tools: ok'; else exit 1; fi

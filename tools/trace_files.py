@@ -3,8 +3,8 @@
        trace_files.py --check     whether it is right: each name of a row stands in one of the row's files, and no other file is named
 
 The files are those where the names in a row's first columns are defined: definitions and theorems in specs/ and proofs/, functions in src/,
-edits in must-fail/. Where several crates have a name, the crate that the cell names before it is meant, then that of the section, then one in
-which another name of the row stands."""
+edits in must-fail/. Where a definition and a function have one name, the column says which is meant. Where several crates have a name, the crate that
+the cell names before it is meant, then that of the section, then one in which another name of the row stands."""
 import collections, pathlib, re, sys
 
 ROOT = pathlib.Path(__file__).resolve().parent.parent
@@ -47,27 +47,40 @@ class Names:
                 self.files[name].add(str(at))
 
     def of(self, name):
-        """The files of a name as it stands in backquotes, and its module if it says one."""
+        """The files of a name as it stands in backquotes, its module if it says one, and whether it is defined there, or a part of what is."""
         found = re.match(r'[^\s(<,]+', name)
         words = found[0].split('::') if found else ['']
         types = [word for word in words[:-1] if word[:1].isupper()]
         if name in self.crates:
-            return {path for path in (f'{name}/src/main.rt', f'{name}/src/lib.rt') if (ROOT / 'crates' / path).exists()}, []
+            found = {path for path in (f'{name}/src/main.rt', f'{name}/src/lib.rt') if (ROOT / 'crates' / path).exists()}
+            return found | self.files.get(name, set()), [], True
         for word in (types or words)[::-1]:
             if word not in OUTSIDE and (word in self.files or word in self.parts):
-                return self.files.get(word) or self.parts[word], words[:-1]
-        return set(), words[:-1]
+                return self.files.get(word) or self.parts[word], words[:-1], word in self.files
+        return set(), words[:-1], False
 
 
-def preferred(files, kinds, crates, modules):
-    """The files among them that are meant: of a kind of folder, of a crate, of a module."""
-    tests = [lambda f, c=c: f.split('/')[0] == c for c in crates if c]
-    tests += [lambda f, k=k: f.split('/')[1] == k for k in kinds]
-    tests += [lambda f: any(f'/src/{m}.rt' in f for m in modules or ['lib'])]
+def narrowed(files, tests):
     for test in tests:
         if len(files) > 1:
             files = {f for f in files if test(f)} or files
     return files
+
+
+def of_kind(files, kinds, crate, defined):
+    """The files among them that are meant: of a crate, of one that is no program, of a kind. A definition and a function can have one name."""
+    tests = [lambda f: f.split('/')[0] == crate, lambda f: not (ROOT / 'crates' / f.split('/')[0] / 'src' / 'main.rt').exists()]
+    if defined:
+        tests.append(lambda f: (f.split('/')[1] == 'specs') == (kinds[0] == 'specs'))
+    return narrowed(files, tests)
+
+
+def preferred(files, kinds, crates, modules):
+    """The files among them that are meant: of a crate, of a kind of folder, of a module."""
+    tests = [lambda f, c=c: f.split('/')[0] == c for c in crates if c]
+    tests += [lambda f, k=k: f.split('/')[1] == k for k in kinds]
+    tests += [lambda f: any(f'/src/{m}.rt' in f for m in modules or ['lib'])]
+    return narrowed(files, tests)
 
 
 KINDS = {'definition': ['specs'], 'theorem or contract': ['src', 'proofs', 'specs'], 'function': ['src'], 'contract': ['specs', 'proofs'],
@@ -84,9 +97,9 @@ def row_files(names, columns, cells, section):
         for word, name in re.findall(r'([A-Za-z_]+)|`([^`]+)`', re.sub(r"'s\b", '', cell)):
             crate = word if word in names.crates else crate if word else crate
             if name:
-                files, modules = names.of(name)
+                files, modules, defined = names.of(name)
                 if files:
-                    seen.append((files, KINDS[column], crate, modules))
+                    seen.append((of_kind(files, KINDS[column], crate, defined), KINDS[column], crate, modules))
                 elif re.fullmatch(r'[\w·′-]+(::\w+)*', name) and name not in OUTSIDE:
                     unknown.append(name)
     alone = {next(iter(files)).split('/')[0] for files, *_ in seen if len({f.split('/')[0] for f in files}) == 1}

@@ -36,7 +36,7 @@ BESIDE = [('beside the library: the program', 'line: Input Line Wrote; answer_li
 BESIDE_FROM = {('answer_lines', 'Program'), ('examples', 'Marked'), ('strings', 'Examples')}
 
 # names that several files define: "and then" of results, readings and walks; the JVM's base types, as parts and in the grammar
-SEVERAL = {'_>>=_', 'byte', 'char', 'double', 'float', 'int', 'long', 'short', 'boolean'}
+SEVERAL = {'◌>>=◌', 'byte', 'char', 'double', 'float', 'int', 'long', 'short', 'boolean'}
 DEFINED = r'^(?:(?:abbrev|unfoldable) )*pub (?!mod |use )(?:data |record )?([^\s:(){}]+)'
 CONSTRUCTORS = r'^pub data .*\n((?:  .*\n)+)'
 
@@ -53,7 +53,7 @@ def path_of(crate, file):
 def named(text):
     """Crate and file of the definitions that a text names, `told.FILE` of the vocabulary; what is declared in code is left out."""
     text = re.sub(r'(--|//).*', '', text)
-    found = re.findall(r'\bRattle·(\w+?)(?:·specs)?\.specs\.((?:told\.)?\w+)', text)
+    found = re.findall(r'(?<![\w.])Rattle\.(\w+)\.specs\.((?:told\.)?\w+)', text)
     return {(crate, file) for crate, file in found if file != 'declared' and path_of(crate, file).exists()}
 
 

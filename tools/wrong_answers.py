@@ -5,10 +5,11 @@ usage: tools/wrong_answers.py [--list] [NAME..]     NAME is a crate, or a module
                                                     no name: all; --list: only tests that the edits fit the files
 
 A line of the table is one edit: crate, file, function, old text, new text, what is wrong, with tabs between. The old text stands once in the function.
-The edits of a crate are tried in a copy of the repository, several at once, but never in two functions of which one leads to the other, since a
-caller is proved only above callees that are proved. Told for each: the needs that are not met (see `rt dev`). A proof by hand has no needs; it follows
+The edits of a crate are tried in a copy of the repository by `rt check`, several at once, but never in two functions of which one leads to the other,
+since a caller is proved only above callees that are proved. Told for each: the goals that are not met. A proof by hand (Proof.antt) has no goals; it follows
 the code step by step, so that its refusal tells less and is counted apart. The status is 1 if an edit is proved, doesn't reach the prover, or is refused
-for another reason than a need."""
+for another reason than a goal. Where an edit changes what goals and steps are named after, as the number in a test, the names in the proof are first
+brought along (proofs/follow.py)."""
 import pathlib
 import re
 import shutil
@@ -17,9 +18,18 @@ import sys
 import tempfile
 
 ROOT = pathlib.Path(__file__).resolve().parent.parent
+sys.dont_write_bytecode = True
+sys.path.insert(0, str(ROOT / 'tools' / 'proofs'))
+import follow  # noqa: E402 (it stands in another folder)
+
 TABLE = ROOT / 'tools' / 'wrong_answers.tsv'
-AT_NEED, BY_HAND, WRONG = 'refused at a need', 'refused in a proof by hand', 'not refused so'
+AT_GOAL, BY_HAND, WRONG = 'refused at a goal', 'refused in a proof by hand', 'not refused so'
+MISFIT = 'its proof no longer fits'
 FUNCTION = re.compile(r'^( *)(?:pub(?:\(crate\))? )?(?:extern "C" )?fn (\w+)', re.M)
+# what the check says of a goal: where it stands in the code, or in the file that answers it
+UNMET = r'note: src/(?P<file>\S+\.rt):(?P<line>\d+):\d+: it is not proved that '
+REFUSED = r'(?:\./)?proofs/(?P<place>\S+)/(?:Answers|Proof)\.antt:\d+:\d+: error: `'
+GONE = re.compile('is not in scope|has no field|has no `')  # a proof that names what isn't there any more
 
 
 class Edit:
@@ -31,11 +41,20 @@ class Edit:
 
 
 class Function:
-    """A function of a crate: where its text stands, and the names that it calls."""
+    """A function of a crate: where its text stands, its lines, the names that it calls, and the folder of its proof below `proofs`."""
 
-    def __init__(self, path, file, start, end, body):
+    def __init__(self, path, file, start, end, text):
         self.path, self.file, self.start, self.end = path, file, start, end
-        self.calls = set(re.findall(r'\b(\w+)\(', body))
+        attributes = re.search(r'(?:^ *#\[[^\n]*\]\n)*\Z', text[:start], re.M)
+        self.first, self.last = text.count('\n', 0, attributes.start()) + 1, text.count('\n', 0, end) + 2
+        self.calls = set(re.findall(r'\b(\w+)\(', FUNCTION.sub('', text[start:end], count=1)))
+        # functions that call each other have one proof in common, +NAME
+        cycle = re.search(r'#\[cycle\((\w+)\)\]', attributes[0])
+        *above, name = path.split('::')
+        self.place = '/'.join([*above, f'+{cycle[1]}' if cycle else name])
+
+    def has(self, file, line):
+        return self.file == file and self.first <= line <= self.last
 
     @property
     def name(self):
@@ -56,7 +75,7 @@ def functions_of(crate):
             owner = re.findall(r"^impl(?:<[^>]*>)? (\w+)", text[:start], re.M)[-1:] if indent else []
             home = homes[owner[0]] if owner else module
             path = '::'.join(home + owner + [match.group(2)])
-            found[path] = Function(path, file.name, start, end, text[match.end():end])
+            found[path] = Function(path, file.name, start, end, text)
     return found
 
 
@@ -106,6 +125,17 @@ def misfit(edit, functions):
 def restore(crate, sources):
     for file in sources.glob('*.rt'):
         shutil.copy(ROOT / 'crates' / crate / 'src' / file.name, file)
+    for file in sources.parent.glob('proofs/**/*.antt'):
+        shutil.copy(ROOT / 'crates' / crate / file.relative_to(sources.parent), file)
+
+
+def bring_along(crate, places, before, folder):
+    """Gives the proofs in some places of a copy's crate the names of its changed code."""
+    moved = follow.renamings(before, follow.names(folder))
+    for place in places:
+        for path in follow.files(folder, place) if moved.get(place) else ():
+            path = pathlib.Path(path)
+            path.write_text(follow.followed(path.read_text(), moved[place]))
 
 
 def apply(batch, functions, sources):
@@ -118,59 +148,52 @@ def apply(batch, functions, sources):
         file.write_text(text[:function.start] + part + text[function.end:])
 
 
-def proof_of(edit):
-    """The folder of a function's proof, below `proofs`. Functions that call each other have one in common, +ONE+OTHER."""
-    *above, name = edit.function.split('::')
-    home = ROOT.joinpath('crates', edit.crate, 'proofs', *above)
-    shared = [folder.name for folder in home.glob('+*') if name in folder.name.split('+')]
-    return '/'.join(above + (shared or [name]))
+def is_by_hand(crate, function):
+    return (ROOT / 'crates' / crate / 'proofs' / function.place / 'Proof.antt').exists()
 
 
-def refusals(edit, log):
-    """The needs of a function's proof that the log refuses; whether the proof is by hand; why it no longer fits, if so."""
-    place, needs = proof_of(edit), []
-    proof = ROOT / 'crates' / edit.crate / 'proofs' / place / 'Proof.antt'
-    asked = set(re.findall(r'^(\S+) : (?:\(t : ℕ\) → )?\S+\.Need-', proof.read_text(), re.M)) if proof.exists() else set()
-    by_hand = proof.exists() and not asked
-    for name, words in re.findall(rf'/proofs/{re.escape(place)}/Proof\.antt:\d+:\d+: error: `([^`]*)`: (.*)', log):
-        if 'not in scope' in words:
-            return needs, by_hand, words
-        if 'was not admitted' not in words and name not in needs and (name in asked or by_hand):
-            needs.append(name)
-    return needs, by_hand, None
+def refusals(function, log):
+    """The goals of a function that the check says are not met; why its proof no longer fits, if so."""
+    goals = [found[3] for found in re.finditer(rf'^{UNMET}.*\(`([^`]*)`\)', log, re.M) if function.has(found['file'], int(found['line']))]
+    for found in re.finditer(rf'^{REFUSED}(?P<name>[^`]*)`: (?P<words>.*)', log, re.M):
+        if found['place'] != function.place or 'was not admitted' in found['words']:
+            continue
+        if GONE.search(found['words']):
+            return goals, found['words']
+        goals.append(found['name'])
+    return goals, None
 
 
-def verdict(edit, log):
-    """AT_NEED, BY_HAND or WRONG, and in which words the log says so."""
-    line = re.search(rf'^fn {edit.crate}::{re.escape(edit.function)}: (.*)$', log, re.M)
+def verdict(crate, function, log):
+    """AT_GOAL, BY_HAND or WRONG, and in which words the log says so."""
+    line = re.search(rf'^fn {crate}::{re.escape(function.path)}: (.*)$', log, re.M)
     if line is None:
         return WRONG, 'it did not reach the prover'
-    said = line.group(1)
+    said = line[1]
     if said == 'proved':
         return WRONG, 'PROVED'
-    if 'which is not proved' in said and 'does not close' not in said:
-        return WRONG, 'not tried, for ' + said.split('; ')[-1]
-    unclosed = [name.strip('`') for name in re.findall(r'`search` does not close (.*)', said)]
-    needs, by_hand, misfit = refusals(edit, log)
+    goals, misfit = refusals(function, log)
     if misfit:
-        return WRONG, f'its proof no longer fits: {misfit[:100]}'
-    needs = unclosed + [name for name in needs if name not in unclosed]
-    if not needs:
+        return WRONG, f'{MISFIT}: {misfit[:100]}'
+    searched = re.search(r'`search` did not prove ((?:`[^`]*`(?:, | and )?)+)', said)
+    goals = list(dict.fromkeys([*(re.findall('`([^`]*)`', searched[1]) if searched else []), *goals]))
+    if not goals and 'which is not proved' in said:
+        return WRONG, 'not tried, for ' + said.split(': ')[-1].split('; ')[-1]
+    if not goals:
         return WRONG, said
-    return BY_HAND if by_hand else AT_NEED, f'refused{" in a proof by hand" if by_hand else ""} at {", ".join(needs)}'
+    hand = is_by_hand(crate, function)
+    return BY_HAND if hand else AT_GOAL, f'refused{" in a proof by hand" if hand else ""} at {", ".join(goals)}'
 
 
 def check(crate, copy):
-    result = subprocess.run(['rt', 'dev', crate], cwd=copy, stdout=subprocess.PIPE, stderr=subprocess.STDOUT, text=True)
+    result = subprocess.run(['rt', 'check'], cwd=copy / 'crates' / crate, stdout=subprocess.PIPE, stderr=subprocess.STDOUT, text=True)
     return result.stdout
 
 
 def copy_to(folder):
+    """A copy without what rt has made: `rt check` there begins with what checks in other checkouts kept, as those in this one."""
     shutil.copy(ROOT / 'crates.txt', folder)
-    shutil.copytree(ROOT / 'crates', folder / 'crates', symlinks=True)
-    for part in ('rlib', 'stamp', 'log'):
-        if (ROOT / 'target' / part).is_dir():
-            shutil.copytree(ROOT / 'target' / part, folder / 'target' / part, symlinks=True)
+    shutil.copytree(ROOT / 'crates', folder / 'crates', ignore=shutil.ignore_patterns('out'))
 
 
 def try_crate(crate, edits, functions, copy, count):
@@ -181,12 +204,17 @@ def try_crate(crate, edits, functions, copy, count):
         return
     parts = batches(edits, reached(functions))
     print(f'{crate}: {len(edits)} wrong answers in {len(parts)} runs', flush=True)
-    sources = copy / 'crates' / crate / 'src'
+    sources, names = copy / 'crates' / crate / 'src', None
     for batch in parts:
         apply(batch, functions, sources)
         log = check(crate, copy)
+        lost = [edit for edit in batch if MISFIT in verdict(crate, functions[edit.function], log)[1]]
+        if lost:
+            names = names or follow.names(ROOT / 'crates' / crate)
+            bring_along(crate, [functions[edit.function].place for edit in lost], names, sources.parent)
+            log = check(crate, copy)
         for edit in batch:
-            kind, words = verdict(edit, log)
+            kind, words = verdict(crate, functions[edit.function], log)
             count[kind] += 1
             print(f'{"!" if kind == WRONG else " "} {crate} {edit.function}: {edit.words}: {words}', flush=True)
         if not re.search('^fn ', log, re.M):
@@ -214,7 +242,7 @@ def main(words):
     if wrong or only:
         print(f'{len(edits)} wrong answers, {wrong} do not fit')
         return wrong > 0
-    count = {AT_NEED: 0, BY_HAND: 0, WRONG: 0}
+    count = {AT_GOAL: 0, BY_HAND: 0, WRONG: 0}
     with tempfile.TemporaryDirectory() as folder:
         copy = pathlib.Path(folder)
         copy_to(copy)

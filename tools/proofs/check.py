@@ -1,56 +1,58 @@
 #!/usr/bin/env python3
-"""usage: check.py [--paths] [CRATE..]
-Tells each Proof.antt that has no template beside it, and each that is not what its template gives. Without crates: all of them.
-Compared up to layout (rt fmt may change that), the order of `use` lines and the comments. It takes a second and runs nothing: a path into `c` is
-compared by where it goes and not by how many `.before` it has. --paths compares those too, which takes a run of the check for each crate.
-A Proof.antt that answers no need (no `Need-` in it) is a walk by hand and has no template."""
-import glob, os, sys
+"""usage: check.py [CRATE..]
+Tells each folder of a proof that belongs to no function of its crate's code, and each file there that the check doesn't read. Without crates: all
+of them. It takes a second and runs nothing; whether a proof holds says `rt check`.
+A proof is Answers.antt, with Invariants.antt where there is a loop or a cycle of calls. A Proof.antt is a walk by hand."""
+import collections, os, sys
 sys.dont_write_bytecode = True
-import fill, generated, proof_text
+sys.path.insert(0, os.path.dirname(os.path.dirname(os.path.abspath(__file__))))
+from wrong_answers import ROOT, functions_of
+
+ANSWERED, HAND = ('Answers.antt', 'Invariants.antt'), 'Proof.antt'
 
 
-def exact(crate, where, proof, template):
-    """as fill.py would write it now, beside what stands there"""
-    f = generated.function(crate, os.path.relpath(where, f'crates/{crate}/proofs'))
-    if not f: return ['the check made no modules for it']
-    text, _ = fill.filled(f, proof, template)
-    new, old = proof_text.Proof(text), proof_text.Proof(proof)
-    wrong = [b.name for a, b in zip(old.clauses(), new.clauses()) if proof_text.flat(a.body) != proof_text.flat(b.body)]
-    wrong += [proof_text.declared_name(b) for a, b in zip(old.declared(), new.declared()) if proof_text.flat(a) != proof_text.flat(b)]
-    return [w + ': other paths than the template gives' for w in wrong]
+def listed():
+    with open(ROOT / 'crates.txt', encoding='utf-8') as f:
+        lines = [line.split('#')[0] for line in f]
+    return [line.split(':')[0].split()[0] for line in lines if ':' in line]
 
 
-def looked_at(crate, where, paths):
-    """(what it is, what is wrong with it)"""
-    text = generated.read(where + '/Proof.antt')
-    proof, file = proof_text.Proof(text), where + '/answers.txt'
-    if proof.by_hand: return 'by hand', ['it is by hand, and has a template'] if os.path.exists(file) else []
-    if not os.path.exists(file): return 'without a template', ['no template']
-    template = generated.read(file)
-    try: wrong = proof_text.differences(proof, proof_text.Template(template)) or (exact(crate, where, text, template) if paths else [])
-    except proof_text.Wrong as e: wrong = [str(e)]
-    return 'as their templates' if not wrong else 'other than their templates', wrong
+def looked_at(crate):
+    """Of each folder of a proof: its place, what it is, and what is wrong with it."""
+    places = {function.place for function in functions_of(crate).values()}
+    top = ROOT / 'crates' / crate / 'proofs'
+    for folder, folders, files in os.walk(top):
+        folders.sort()
+        place = os.path.relpath(folder, top)
+        if place == '.' or not files and folders:
+            continue
+        wrong = [f'{name}, which no check reads' for name in sorted(files) if name not in (*ANSWERED, HAND)]
+        if place not in places:
+            wrong.append('no function of the code has this proof')
+        by_hand = HAND in files
+        if by_hand and set(files) & set(ANSWERED):
+            wrong.append('a walk by hand beside answers')
+        if not files:
+            wrong.append('it is empty')
+        yield place, 'by hand' if by_hand else 'with answers', wrong
 
 
 def main(args):
-    paths = '--paths' in args
-    crates = [a for a in args if a != '--paths'] or sorted(os.listdir('crates'))
-    if any(c.startswith('-') for c in crates): sys.exit(__doc__)
-    count, bad = {}, 0
-    for crate in crates:
-        files = sorted(glob.glob(f'crates/{crate}/proofs/**/Proof.antt', recursive=True))
-        if paths and files: generated.fresh(crate)
-        for p in files:
-            kind, wrong = looked_at(crate, os.path.dirname(p), paths)
-            count[kind] = count.get(kind, 0) + 1
-            bad += bool(wrong)
-            for w in wrong: print(f'{os.path.dirname(p)}: {w}')
-    for a in sorted(glob.glob('crates/*/proofs/**/answers.txt', recursive=True)):
-        if a.split('/')[1] in crates and not os.path.exists(a[:-11] + 'Proof.antt'):
-            print(f'{a}: no Proof.antt beside it')
-            bad += 1
-    print('proofs: ' + ', '.join(f'{n} {k}' for k, n in sorted(count.items())))
-    sys.exit(1 if bad else 0)
+    if any(arg.startswith('-') for arg in args):
+        sys.exit(__doc__)
+    for crate in args:
+        if crate not in listed():
+            sys.exit(f'there is no crate {crate}')
+    count, failed = collections.Counter(), False
+    for crate in args or listed():
+        for place, kind, wrong in looked_at(crate):
+            count[kind] += 1
+            for why in wrong:
+                print(f'crates/{crate}/proofs/{place}: {why}')
+                failed = True
+    print('proofs: ' + ', '.join(f'{number} {kind}' for kind, number in sorted(count.items(), reverse=True)))
+    return failed
 
 
-if __name__ == '__main__': main(sys.argv[1:])
+if __name__ == '__main__':
+    sys.exit(main(sys.argv[1:]))
