@@ -6,7 +6,8 @@ usage: tools/proving.py SINCE     the same right after `rt ci`; SINCE is a file 
 
 `rt ci` proves each crate from nothing and leaves the libraries in out/ that it has proved so. `rt lib` doesn't take these, it would prove them all once more.
 So where each library is of that run, crates/sheet_calls alone is proved again, over them, and the archive written by the kit's compiler as `rt lib` calls
-it. Where one isn't, as in a checkout in which crates were checked before, since `rt ci` puts back what `rt check` left, the archive is built by `rt lib`."""
+it. Where one isn't, as in a checkout in which crates were checked before, since `rt ci` puts back what `rt check` left, or where that fails, the archive is
+built by `rt lib`."""
 import os, queue, re, shutil, subprocess, sys, tempfile, threading, time
 
 import library_build
@@ -105,16 +106,20 @@ def build_over(archive, toolchain):
 
 
 def after_ci(since):
-    if not are_of_run(since):
+    if are_of_run(since):
+        try:
+            with tempfile.TemporaryDirectory() as work:
+                build_over(os.path.join(work, ARCHIVE), os.path.join(library_build.kit(), 'toolchain'))
+                keep(os.path.join(work, ARCHIVE))
+            return
+        except BuildFailed as why:
+            print(f'proving: {why}\nproving: so rt lib builds the archive', flush=True)
+    else:
         print('proving: the libraries in out/ are not those that rt ci has proved now, so rt lib builds the archive', flush=True)
-        for line in lines_of(['rt', 'lib'], FOLDER):
-            if DONE.match(line or ''):
-                print(line, flush=True)
-        keep(os.path.join(FOLDER, 'out', ARCHIVE))
-        return
-    with tempfile.TemporaryDirectory() as work:
-        build_over(os.path.join(work, ARCHIVE), os.path.join(library_build.kit(), 'toolchain'))
-        keep(os.path.join(work, ARCHIVE))
+    for line in lines_of(['rt', 'lib'], FOLDER):
+        if DONE.match(line or ''):
+            print(line, flush=True)
+    keep(os.path.join(FOLDER, 'out', ARCHIVE))
 
 
 def main(words):

@@ -14,7 +14,7 @@ CONSTRUCTORS = r'^  ((?:[^\s:(){}.=]+ )+): '
 CODE = r'^ *(?:pub(?:\(crate\))? )?(?:extern "C" )?(?:fn|struct|enum) (\w+)'
 CLAUSE = r'^ *ensures (\w+) \{'
 # words in backquotes that name nothing of the crates: of the Rust, of the kit, parameters
-OUTSIDE = {'default_jvm_signature', 'of', 'is_local', 'class_name', 'first', 'second', 'src', 'msg', 'base', 'set', 'sets', 'take', 'drop'}
+OUTSIDE = {'default_jvm_signature', 'of', 'is_local', 'class_name', 'first', 'second', 'src', 'msg', 'base', 'set', 'sets', 'take', 'drop', 'Consumes'}
 TESTS = ('tests', 'ruled out', 'must-fail', 'requires')
 
 
