@@ -12,6 +12,7 @@ use lib.Dec.{ltb}
 use lib.IntN.{ℤ}
 use mir.Syntax.{w32}
 use mir.Val.{to_z, of_z}
+use Rattle.std.specs.Prelude as Std
 use Rattle.line.proofs.InputLaws.{number-below}
 use Rattle.line.proofs.OutputLaws.{decimal-short, part_length}
 use Rattle.line.proofs.SignedLaws.{signed_back}
@@ -38,8 +39,8 @@ use Rattle.line.specs.declared.stream.Taken.{Taken}
 use Rattle.line.specs.Input.{d1_place, d2_place, ends_place, number_at, numbers_at, signed_of, counts_of, input_end, input_of, whole_input}
 use Rattle.line.specs.Line.{decimal, part_of, line_of}
 use Rattle.line.specs.Wrote.{Wrote}
-use Rattle.line.specs.told.Taken.{SoFar, kept_limit, TookSome}
-use Rattle.answer_lines.specs.Program.{answer_line, printed, zeros, WroteLine}
+use Rattle.line.specs.told.Taken.{SoFar, kept_limit, TookGiven}
+use Rattle.answer_lines.specs.Program.{answer_line, printed, zeros, WroteGiven}
 use Rattle.answer_lines.specs.told.LineTold.{kept_input, input_with, version_at, WroteRead, WroteKept, WrotePrinted}
 use Rattle.answer_lines.proofs.KeptLaws.{length_numbers, read_kept}
 
@@ -227,7 +228,9 @@ printed-length bs = go (whole_input bs)
     go (some i) = answer-length i
 
 -- the program's whole way
-pub wrote_line_of : {area : List ℕ} {t : Taken} → TookSome area t → {r : ℕ} {S S' : List ℕ} → WrotePrinted (take t.kept area) t r S S' → WroteLine r S S'
-wrote_line_of {area} {t} (bs, k) {r} w =
-    let l = w bs k.so_far k.begins in
-    record { bytes = bs; line = l; short = omega (arith, l.ends, printed-length bs) }
+pub wrote_given : {known left : Std.Option (List ℕ)} {area : List ℕ} {t : Taken} → TookGiven known left area t
+    → {r : ℕ} {S S' : List ℕ} → WrotePrinted (take t.kept area) t r S S' → WroteGiven known left r S S'
+wrote_given g {r} w =
+    let k = g.took.1 in
+    let l = w g.took.0 k.so_far k.begins in
+    record { wrote = record { bytes = g.took.0; line = l; short = omega (arith, l.ends, printed-length g.took.0) }; given = g.given }

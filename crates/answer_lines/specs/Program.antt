@@ -1,6 +1,7 @@
 -- What the program prints for the bytes that it reads.
 -- Assumes nothing.
-use Rattle.std.specs.Prelude.{List, ℕ, ◌≤◌, take, replicate}
+use Rattle.std.specs.Prelude.{List, ℕ, ◌≤◌, take, replicate, Option}
+use Rattle.std.specs.Io.KnownBytes.{Consumes}
 use Rattle.foundation.specs.Choices.{if_some}
 use Rattle.foundation.specs.Texts.{ascii}
 use Rattle.inputs.specs.Outcomes.{Answer}
@@ -25,3 +26,8 @@ pub record WroteLine (r : ℕ) (S S' : List ℕ) : Type 0 where
   pub bytes : List ℕ
   pub line : Wrote (printed zeros zeros bytes) 0 r S S'
   pub short : r ≤ 262190
+
+-- These bytes are those that a reader gave, where it is known what it had left: it has the others left afterwards.
+pub record WroteGiven (known left : Option (List ℕ)) (r : ℕ) (S S' : List ℕ) : Type 0 where
+  pub wrote : WroteLine r S S'
+  pub given : Consumes known left wrote.bytes

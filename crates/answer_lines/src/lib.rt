@@ -3,7 +3,7 @@
 
 ghost use Rattle.std.specs.Prelude.{◌<◌, ◌≤◌, ◌^◌};
 ghost use Rattle.line.specs.told.Pieces.{CountsFit};
-ghost use Rattle.answer_lines.specs.Program.{WroteLine};
+ghost use Rattle.answer_lines.specs.Program.{WroteGiven};
 ghost use Rattle.answer_lines.specs.told.LineTold.{WroteRead, WroteKept, WrotePrinted};
 
 use line::input::{Counts, ends_at, input_end, signed_at, units_at};
@@ -71,7 +71,7 @@ fn put_answer(kept: &[u8], taken: Taken, area: &mut [u8]) -> usize
 // Callers show that places of a read that goes on fit 64 bits: the limit of sheet_reader is a written number, that of replays one of 4 bytes.
 pub fn answer_input<R: Read>(reader: &mut R, limit: usize, area: &mut [u8]) -> usize
     requires { limit ≤ 2 ^ 40 }
-    ensures { WroteLine result area.old area.new }
+    ensures { WroteGiven (R.remaining reader.old) (R.remaining reader.new) result area.old area.new }
 {
     let mut kept = [0u8; 147484];
     let taken = take_input(reader, &mut kept, limit);

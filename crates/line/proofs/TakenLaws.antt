@@ -7,10 +7,13 @@ use native.Mathlib.Nat.{zero-add}
 use native.Mathlib.Omega.{arith}
 use lib.ListN.{length, get_or, take, length-append}
 use lib.Seq.{take-append-le, length-take-le, take_all}
+use Rattle.std.specs.Prelude.{Option}
+use Rattle.std.specs.Io.KnownBytes.{Consumes}
+use Rattle.std.proofs.KnownBytes.{Consumes-nil, Consumes-trans}
 use Rattle.line.specs.declared.stream.Taken.{Taken}
 use Rattle.line.specs.Input.{d1_count, d2_count, ends_count, counts_of, d2_place, ends_place}
 use Rattle.line.specs.told.Pieces.{CountsFit}
-use Rattle.line.specs.told.Taken.{kept_limit, SoFar, Took, PieceRead, PassedOver, Went}
+use Rattle.line.specs.told.Taken.{kept_limit, SoFar, Took, PieceRead, PassedOver, Went, PieceGiven, PassedGiven, WentGiven, TookGiven}
 use Rattle.line.proofs.InputLaws.{counts-append, counts_none, number-below}
 
 -- a part of bytes is bytes
@@ -97,3 +100,36 @@ took_rest {bs} {area} a h w = record {
   inside = rw w.kept a.inside;
   begins = ap (λ (k : ℕ). take k area) w.kept ∙ a.begins ∙ sym (take-append-le kept_limit bs w.more h);
 }
+
+-- the reader's part: what it gave, one after the other
+pub gave_none : (known : Option (List ℕ)) (t : Taken) → WentGiven known known t t
+unfolding went_none
+gave_none known t = record { went = went_none t; given = Consumes-nil known }
+
+module _ {known left now : Option (List ℕ)} {room : ℕ} {t u r : Taken} (w : WentGiven known left t u) (p : PassedGiven left now room u r) where
+  gave : Consumes known now (w.went.more ++ take p.over.piece.size p.over.area)
+  gave = Consumes-trans known left now w.went.more (take p.over.piece.size p.over.area) w.given p.given
+
+  pub gave_on : WentGiven known now t r
+  unfolding went_on
+  gave_on = record { went = went_on w.went p.over; given = gave }
+
+  -- a piece of no bytes is the end
+  pub gave_end : r.total ≡ u.total → WentGiven known now t u
+  gave_end e =
+      let z : p.over.piece.size ≡ 0 = omega (arith, p.over.piece.total) in
+      let n : w.went.more ++ take p.over.piece.size p.over.area ≡ w.went.more = rw z (append-nil w.went.more) in
+      record { went = w.went; given = subst (Consumes known now) n gave }
+
+module _ {known left : Option (List ℕ)} (part tail : List ℕ) {r : Taken} (p : PieceGiven known left part nothing r) (h : length part ≤ kept_limit) where
+  pub gave_first : TookGiven known left (part ++ tail) (all_kept r)
+  gave_first = record { took = (take p.piece.size part, took_first part tail p.piece h); given = p.given }
+
+  pub gave_rest : kept_limit ≤ r.total → {now : Option (List ℕ)} {s : Taken} → WentGiven left now (all_kept r) s → TookGiven known now (part ++ tail) s
+  gave_rest k {now} w =
+      let bs = take p.piece.size part in
+      let first = took_first part tail p.piece h in
+      record {
+        took = (bs ++ w.went.more, took_rest first (omega (arith, first.so_far.total)) w.went);
+        given = Consumes-trans known left now bs w.went.more p.given w.given;
+      }

@@ -1,9 +1,9 @@
 // The input read from standard input, a file or any other reader. Its beginning is kept, as much as an input within the limits can have; of the
-// rest only the counts are taken. What is said here is said of whatever bytes the reads gave.
+// rest only the counts are taken. What is said here is said of whatever bytes the reads gave; where a reader's bytes are known, these are they.
 ghost use Rattle.std.specs.Prelude.{◌≡◌, ◌+◌, ◌^◌, ◌≤◌, ◌<◌, length, take};
 ghost use Rattle.std.specs.Io.KnownBytes.{Consumes};
 ghost use Rattle.line.specs.told.Pieces.{CountsFit};
-ghost use Rattle.line.specs.told.Taken.{kept_limit, TookSome, PieceRead, PassedOver, Begun, Went};
+ghost use Rattle.line.specs.told.Taken.{kept_limit, Begun, PieceGiven, PassedGiven, WentGiven, TookGiven};
 
 use crate::input::{Counts, counts_in};
 use std::io::Read;
@@ -43,7 +43,7 @@ pub fn read_full<R: Read>(reader: &mut R, area: &mut [u8]) -> usize
 // The next piece of the input, read into an area; its counts are taken.
 fn take_piece<R: Read>(reader: &mut R, area: &mut [u8], taken: Taken) -> Taken
     requires { CountsFit taken.counts × (taken.total ≤ 2 ^ 40) × (length area.old ≤ 2 ^ 40) }
-    ensures { PieceRead area.new taken result }
+    ensures { PieceGiven (R.remaining reader.old) (R.remaining reader.new) area.new taken result }
 {
     let size = read_full(reader, area);
     let base = taken.total;
@@ -59,7 +59,7 @@ fn take_piece<R: Read>(reader: &mut R, area: &mut [u8], taken: Taken) -> Taken
 // A piece of at most `room` bytes that is not kept.
 fn pass_piece<R: Read>(reader: &mut R, room: usize, taken: Taken) -> Taken
     requires { CountsFit taken.counts × (taken.total ≤ 2 ^ 40) }
-    ensures { PassedOver room taken result }
+    ensures { PassedGiven (R.remaining reader.old) (R.remaining reader.new) room taken result }
 {
     let mut buffer = [0u8; 65536];
     let size = least(room, 65536);
@@ -69,7 +69,7 @@ fn pass_piece<R: Read>(reader: &mut R, room: usize, taken: Taken) -> Taken
 // Reads on to the input's end, or until `limit` bytes were read in all.
 fn pass_rest<R: Read>(reader: &mut R, limit: usize, first: Taken) -> Taken
     requires { Begun first × (limit ≤ 2 ^ 40) }
-    ensures { Went first result }
+    ensures { WentGiven (R.remaining reader.old) (R.remaining reader.new) first result }
 {
     let mut taken = first;
     while taken.total < limit {
@@ -87,7 +87,7 @@ fn pass_rest<R: Read>(reader: &mut R, limit: usize, first: Taken) -> Taken
 // Callers show that the area has the size of what is kept, by its type, and that places fit 64 bits: answer_lines asks that of its own callers.
 pub fn take_input<R: Read>(reader: &mut R, area: &mut [u8], limit: usize) -> Taken
     requires { (length area.old ≡ kept_limit) × (limit ≤ 2 ^ 40) }
-    ensures { TookSome area.new result }
+    ensures { TookGiven (R.remaining reader.old) (R.remaining reader.new) area.new result }
 {
     let nothing = Taken {
         counts: Counts {

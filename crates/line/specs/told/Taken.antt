@@ -1,6 +1,7 @@
--- An input that was read from a file descriptor: some bytes, of which the beginning is kept.
+-- An input that was read: some bytes, of which the beginning is kept.
 -- Assumes nothing.
-use Rattle.std.specs.Prelude.{◌≡◌, List, ◌++◌, ℕ, ◌+◌, ◌≤◌, ◌<◌, length, get_or, take}
+use Rattle.std.specs.Prelude.{◌≡◌, List, ◌++◌, ℕ, ◌+◌, ◌≤◌, ◌<◌, length, get_or, take, Option}
+use Rattle.std.specs.Io.KnownBytes.{Consumes}
 use Rattle.line.specs.declared.stream.Taken.{Taken}
 use Rattle.line.specs.Input.{counts_of}
 use Rattle.line.specs.told.Pieces.{counts_in}
@@ -47,3 +48,20 @@ pub record Went (t r : Taken) : Type 0 where
   pub more : List ℕ
   pub after : (bs : List ℕ) → SoFar bs t → SoFar (bs ++ more) r
   pub kept : r.kept ≡ t.kept
+
+-- Each of these with the reader's part in it: where the bytes that it had left are known, it gave those that were read and has the others left.
+pub record PieceGiven (known left : Option (List ℕ)) (area : List ℕ) (t r : Taken) : Type 0 where
+  pub piece : PieceRead area t r
+  pub given : Consumes known left (take piece.size area)
+
+pub record PassedGiven (known left : Option (List ℕ)) (room : ℕ) (t r : Taken) : Type 0 where
+  pub over : PassedOver room t r
+  pub given : Consumes known left (take over.piece.size over.area)
+
+pub record WentGiven (known left : Option (List ℕ)) (t r : Taken) : Type 0 where
+  pub went : Went t r
+  pub given : Consumes known left went.more
+
+pub record TookGiven (known left : Option (List ℕ)) (area : List ℕ) (t : Taken) : Type 0 where
+  pub took : TookSome area t
+  pub given : Consumes known left took.0

@@ -5,4 +5,11 @@ shorter : (xs : List ℕ) (a : List ℕ) {n room : ℕ} → length a ≡ length 
 shorter xs a {n} {room} e h = omega (arith, length-take n xs)
 
 pub returns : goal.returns
-returns g c = record { area = c.take_piece.new.area; within = shorter _ c.take_piece.new.area c.take_piece.auto.area c.least-size.ensures.0; piece = c.take_piece.ensures }
+returns g c = record {
+  over = record {
+    area = c.take_piece.new.area;
+    within = shorter _ c.take_piece.new.area c.take_piece.auto.area c.least-size.ensures.0;
+    piece = c.take_piece.ensures.piece;
+  };
+  given = c.take_piece.ensures.given;
+}

@@ -1,7 +1,7 @@
 use mathlib.Core.Path.{sym}
 use native.Mathlib.Omega.{arith}
 use lib.Seq.{length-take-le}
-use Rattle.line.proofs.TakenLaws.{first-so_far, took_first, took_rest}
+use Rattle.line.proofs.TakenLaws.{first-so_far, gave_first, gave_rest}
 use Rattle.line.proofs.stream.take_input.Goals as goal
 
 pub slice_bounds-take_piece-end-2 : goal.slice_bounds-take_piece-end-2
@@ -15,13 +15,13 @@ take_piece-first-requires g c =
 pub returns-then-size-lt147484 : goal.returns-then-size-lt147484
 returns-then-size-lt147484 g c =
     let size = length-take-le c.least-most.result c.args.area.now c.least-most.ensures.1 in
-    (_, took_first c.take_piece-first.new.area _ c.take_piece-first.ensures (omega (arith, c.take_piece-first.auto.area, size, c.least-most.ensures.1)))
+    gave_first c.take_piece-first.new.area _ c.take_piece-first.ensures (omega (arith, c.take_piece-first.auto.area, size, c.least-most.ensures.1))
 
 pub pass_rest-requires : goal.pass_rest-requires
-pass_rest-requires g c = ((_, first-so_far c.take_piece-first.ensures), omega arith)
+pass_rest-requires g c = ((_, first-so_far c.take_piece-first.ensures.piece), omega arith)
 
 pub returns : goal.returns
 returns g c =
     let size = length-take-le c.least-most.result c.args.area.now c.least-most.ensures.1 in
-    let first = took_first c.take_piece-first.new.area _ c.take_piece-first.ensures (omega (arith, c.take_piece-first.auto.area, size, c.least-most.ensures.1)) in
-    (_, took_rest first (omega (arith, first.so_far.total, c.if-size-lt147484.false)) c.pass_rest.ensures)
+    gave_rest c.take_piece-first.new.area _ c.take_piece-first.ensures (omega (arith, c.take_piece-first.auto.area, size, c.least-most.ensures.1))
+    (omega (arith, c.if-size-lt147484.false)) c.pass_rest.ensures
