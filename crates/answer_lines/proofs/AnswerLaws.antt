@@ -228,9 +228,9 @@ printed-length bs = go (whole_input bs)
     go (some i) = answer-length i
 
 -- the program's whole way
-pub wrote_given : {known left : Std.Option (List ℕ)} {area : List ℕ} {t : Taken} → TookGiven known left area t
+pub wrote_line_of : {known left : Std.Option (List ℕ)} {area : List ℕ} {t : Taken} → TookGiven known left area t
     → {r : ℕ} {S S' : List ℕ} → WrotePrinted (take t.kept area) t r S S' → WroteGiven known left r S S'
-wrote_given g {r} w =
+wrote_line_of g {r} w =
     let k = g.took.1 in
     let l = w g.took.0 k.so_far k.begins in
     record { wrote = record { bytes = g.took.0; line = l; short = omega (arith, l.ends, printed-length g.took.0) }; given = g.given }
