@@ -1,9 +1,10 @@
 #!/usr/bin/env python3
-"""The wrong edits of crates/*/must-fail, each in a file of its own, and whether the prover refuses each for what it gets wrong.
+"""The wrong edits of crates/*/must-fail, and whether the prover refuses each for what it gets wrong. Of a file with several edits rt tells only that
+something was refused, so each of them stands in a file of its own too.
 
 usage: tools/edits.py --check                  whether they fit the files
        tools/edits.py --refused LOG [CRATE..]  LOG: what `rt ci` or `rt must-fail` printed: whether each was refused at a goal of its function
-       tools/edits.py --split [CRATE..]        gives each of several edits that stand in one file a file of its own
+       tools/edits.py --split [CRATE..]        gives each of several edits that stand in one file a file of its own too
        tools/edits.py --names [CRATE..]        names the function of each edit of one; has edits that change names bring the proof along, after a change of
                                                the edits, the code or its proofs
 
@@ -115,8 +116,12 @@ def files(crates=()):
 def misfits(path):
     """Why the edits of a file don't fit the crate, or the file doesn't fit them."""
     parts, named = parts_of(path)
-    if len(parts) > 1:
-        yield 'it has several edits, of which rt tells only that one was refused; tools/edits.py --split gives each a file'
+    for part in parts if len(parts) > 1 else ():
+        alone = path.with_name(f'{part.label}.edit')
+        if not alone.exists():
+            yield f'{part.label}: rt tells only that one of several was refused; tools/edits.py --split gives each a file too'
+        elif not same_pairs(part, parts_of(alone)[0]):
+            yield f'{part.label}: {alone.name} is another edit'
     for part in parts:
         for (file, at, _), (_, old, _) in zip(part.places(), part.pairs):
             if at is None:
@@ -132,6 +137,11 @@ def misfits(path):
         yield f'{parts[0].label}: its label is not the name of its file'
 
 
+def same_pairs(part, others):
+    """Whether the file of one edit has that edit, the lines of its proof left out."""
+    return len(others) == 1 and part.pairs == [pair for pair in others[0].pairs if not pair[0].startswith('proofs/')]
+
+
 def tried(log):
     """What rt printed of each edit: crate and name -> words."""
     return {(crate, name): words for crate, name, words in TRIED.findall(log)}
@@ -139,13 +149,13 @@ def tried(log):
 
 def unrefused(path, said):
     """Why an edit was not refused as it must be."""
-    (part, *_), _ = parts_of(path)
+    (part, *more), _ = parts_of(path)
     words = said.get((part.crate, path.stem), 'it was not tried')
     if not words.startswith(AS_IT_MUST_BE):
         yield words
         return
     why, known = words[len(AS_IT_MUST_BE):], functions_of(part.crate)
-    if not part.named:
+    if more or not part.named:
         return
     if why.startswith(' (only by a limit'):
         yield f'refused, but{why[:200]}'
@@ -162,16 +172,17 @@ def is_at(why, function):
 
 
 def split(crates):
-    """Gives each edit of a file with several a file of its own."""
+    """Gives each edit of a file with several a file of its own too."""
     for path in files(crates):
         parts, _ = parts_of(path)
         if len(parts) == 1:
             continue
         places = {part.label: path.with_name(f'{part.label}.edit') for part in parts}
-        if len(places) < len(parts) or any(place.exists() for place in places.values()):
-            sys.exit(f'edits.py: {path.parent.parent.name}/{path.stem}: there is another edit with the name of one of these')
-        path.unlink()
+        if len(places) < len(parts):
+            sys.exit(f'edits.py: {path.parent.parent.name}/{path.stem}: two of its edits have one name')
         for part in parts:
+            if places[part.label].exists():
+                continue
             places[part.label].write_text('\n'.join(part.lines()) + '\n')
         print(f'{path.parent.parent.name}/{path.stem}:', ', '.join(places))
 
@@ -252,7 +263,7 @@ def main(words):
             said = tried(f.read())
     wrong = count = 0
     for path in files(crates):
-        count += len(parts_of(path)[0])
+        count += len(parts_of(path)[0]) == 1
         for why in misfits(path) if said is None else unrefused(path, said):
             print(f'! {path.parent.parent.name}/{path.stem}: {why}')
             wrong += 1
