@@ -5,7 +5,8 @@ something was refused, so each of them stands in a file of its own too.
 usage: tools/edits.py --check                  whether they fit the files
        tools/edits.py --refused LOG [CRATE..]  LOG: what `rt ci` or `rt must-fail` printed: whether each was refused at a goal of its function
        tools/edits.py --split [CRATE..]        gives each of several edits that stand in one file a file of its own too
-       tools/edits.py --names [CRATE..]        has edits that change names bring the proof along, after a change of the edits, the code or its proofs
+       tools/edits.py --names [CRATE..]        names the function of each edit of one; has edits that change names bring the proof along, after a change of
+                                               the edits, the code or its proofs
 
 A file can name the function that its edit falls on, in a line "# LABEL in FUNCTION: what is wrong"; LABEL is the file's name. Such an edit changes code, in
 that function (or a constant that only it names). What a proof of a function needs is said by its own code and by contracts, definitions and laws, which the
@@ -38,7 +39,7 @@ class Part:
         """The functions that it changes: a constant is a part of each that names it. Nothing if some of it stands elsewhere."""
         found = set()
         for file, at, end in self.places():
-            if self.named and file.startswith('proofs/') and at is not None:
+            if found and file.startswith('proofs/') and at is not None:
                 continue
             around = [f.path for f in known.values() if at is not None and f'src/{f.file}' == file and f.start <= at and end <= f.end][:1]
             around = around or [path for name in constants_at(self.crate, file, at, end) for path in naming(self.crate, name, known)]
@@ -220,10 +221,12 @@ def bring_along(crates):
         for crate in sorted({path.parent.parent.name for path in files(crates)}):
             edits, known = [], functions_of(crate)
             for path in files([crate]):
-                parts, named = parts_of(path)
-                if named and len(parts) == 1:
-                    parts[0].pairs = [pair for pair in parts[0].pairs if not pair[0].startswith('proofs/')]
-                    edits.append((path, parts[0]))
+                part, *others = parts_of(path)[0]
+                part.pairs = [pair for pair in part.pairs if not pair[0].startswith('proofs/')] if part.named else part.pairs
+                changed = sorted(part.changed(known))
+                part.named = part.named or (changed if len(changed) == 1 else [])
+                if part.named and not others:
+                    edits.append((path, part))
             before = follow.names(ROOT / 'crates' / crate) if edits else None
             for group in apart(edits, known):
                 for _, part, _ in group:
@@ -237,9 +240,10 @@ def bring_along(crates):
                         print(f'{crate}/{path.stem}: other goals or steps than the code has')
                     lines = list(proof_pairs(crate, places, moved))
                     part.pairs += lines
-                    if part.pairs != parts_of(path)[0][0].pairs:
+                    was = parts_of(path)[0][0]
+                    if (part.named, part.pairs) != (was.named, was.pairs):
                         path.write_text('\n'.join(part.lines()) + '\n')
-                        print(f'{crate}/{path.stem}: {len(lines)} lines of its proof')
+                        print(f'{crate}/{path.stem} in {", ".join(part.named)}: {len(lines)} lines of its proof')
                 restore(crate, copy / 'crates' / crate / 'src')
 
 
