@@ -69,7 +69,7 @@ enum {
 };
 
 /* Limits. Areas of SHEET_LONGEST and SHEET_TEXT_LIMIT bytes are always enough: with them 12 is never given, and 11 only to a class whose text fits no
- * area. It is proved for every input (areas-enough in crates/promises/proofs/Longest.antt) and stands in the contract of sheet_read, clause `enough`. */
+ * area. It is proved for every input (areas_enough in crates/promises/proofs/Longest.antt) and stands in the contract of sheet_read, clause `enough`. */
 enum {
     SHEET_UNIT_LIMIT = 32768,
     SHEET_STRING_LIMIT = 4096,
