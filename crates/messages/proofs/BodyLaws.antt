@@ -3,8 +3,8 @@
 use mathlib.Core.Path.{◌≡◌, refl, ap, sym, ◌∙◌, subst}
 use mathlib.Core.Bool.{Bool, true, false}
 use mathlib.Core.List.{List, [], ◌∷◌}
-use mathlib.Core.Option as math
-use mathlib.Core.Option.{some}
+use mathlib.Core.Option.{Option, some}
+use Rattle.std.specs.declared.option.Option as rust
 use Prim.Native.Nat.{ℕ, ◌+◌, ◌-◌, ◌%◌, ◌/◌, ◌≤◌, ◌<◌}
 use native.Mathlib.Nat.{zero-add}
 use native.Mathlib.Omega.{arith}
@@ -54,7 +54,7 @@ use Rattle.messages.specs.told.Asked.{
   NextIs,
   NextBodyTold,
 }
-use Rattle.std.specs.Prelude.{Option, Some, None, Result, Ok, Err}
+use Rattle.std.specs.Prelude.{Some, None, Result, Ok, Err}
 use Rattle.foundation.specs.declared.Span.{Span}
 use Rattle.wire.specs.declared.WireError.{WireError}
 use Rattle.wire.specs.declared.WireValue.{WireValue}
@@ -173,7 +173,7 @@ module _ (k base : ℕ) (s : List ℕ) (at : ℕ) where
         begins = tt;
       }
 
-      module _ {n : ℕ} {v : WireValue} (next : ℕ) (g : r ≡ step.Field n v next) {x : Option Span} (q : x ≡ piece_if k n v) where
+      module _ {n : ℕ} {v : WireValue} (next : ℕ) (g : r ≡ step.Field n v next) {x : rust.Option Span} (q : x ≡ piece_if k n v) where
         pub bodies-on : x ≡ None → Bodies k base s at next
         bodies-on z =
             leads-next (rest_of base s at) base s i e h (λ m rest. bodies k m ≡ bodies k rest) (λ m rest. bodies k m ≡ bodies k rest) o next g
@@ -196,20 +196,20 @@ module _ (k base : ℕ) (s : List ℕ) (at : ℕ) where
             }
 
 -- of a piece by the places asked from
-next_is : (k base : ℕ) (s : List ℕ) (m rest : Message) → bodies k m ≡ bodies k rest → (r : Option Span) → NextIs base s k rest r → NextIs base s k m r
+next_is : (k base : ℕ) (s : List ℕ) (m rest : Message) → bodies k m ≡ bodies k rest → (r : rust.Option Span) → NextIs base s k rest r → NextIs base s k m r
 next_is k base s m rest e (Some p) n = (n.0, n.1, e ∙ n.2)
 next_is k base s m rest e None n = e ∙ n
 
-after_earlier : (at i : ℕ) → at ≤ i → (r : Option Span) → PieceAfter i r → PieceAfter at r
+after_earlier : (at i : ℕ) → at ≤ i → (r : rust.Option Span) → PieceAfter i r → PieceAfter at r
 after_earlier at i h (Some q) p = omega arith
 after_earlier at i h None p = tt
 
-begins_earlier : (at i : ℕ) → at ≤ i → (r : Option Span) → PieceBegins i r → PieceBegins at r
+begins_earlier : (at i : ℕ) → at ≤ i → (r : rust.Option Span) → PieceBegins i r → PieceBegins at r
 begins_earlier at i h (Some q) p = omega arith
 begins_earlier at i h None p = tt
 
 module _ (k base : ℕ) (s : List ℕ) where
-  pub next-on : (at i : ℕ) → at ≤ i → Bodies k base s at i → {r : Option Span} → NextBodyTold base s k i r → NextBodyTold base s k at r
+  pub next-on : (at i : ℕ) → at ≤ i → Bodies k base s at i → {r : rust.Option Span} → NextBodyTold base s k i r → NextBodyTold base s k at r
   next-on at i h o {r} t = record {
     is = λ m w. next_is k base s m (o m w).0 (o m w).2 r (t.is (o m w).0 (o m w).1);
     inside = t.inside;
@@ -218,7 +218,7 @@ module _ (k base : ℕ) (s : List ℕ) where
   }
 
   -- the piece in what was found at the place
-  pub next_here : (i : ℕ) (f : Option WireValue) → FoundAt s k i f → {x : Option Span} {p : Span} → x ≡ piece_in f → x ≡ Some p → NextBodyTold base s k i (Some p)
+  pub next_here : (i : ℕ) (f : rust.Option WireValue) → FoundAt s k i f → {x : rust.Option Span} {p : Span} → x ≡ piece_in f → x ≡ Some p → NextBodyTold base s k i (Some p)
   next_here i (Some v) (h, next, e) q z =
       bodies-here k base s i i (bodies-start k base s i) {r = step.Field k v next} (e base) h {n = k} {v = v} next refl
       (q ∙ ap (λ (t : Bool). if t then piece_of v else None) (sym (eq-eqb k k refl))) (omega arith) z
@@ -263,8 +263,8 @@ module _ (k base : ℕ) (s : List ℕ) where
     unfolding values bodies_of cut_all
     cutting-end h m w = leads-end _ (◌from◌ base s) base s at o h m w (Ok tt) ([], refl)
 
-    module _ {x : Option Span} (t : NextBodyTold base s k at x) where
-      here : {y : Option Span} → x ≡ y → (m : Message) → cut (rest_of base s at) ≡ ok m → NextIs base s k m y
+    module _ {x : rust.Option Span} (t : NextBodyTold base s k at x) where
+      here : {y : rust.Option Span} → x ≡ y → (m : Message) → cut (rest_of base s at) ≡ ok m → NextIs base s k m y
       here g m w = subst (NextIs base s k m) g (t.is m w)
 
       pub piece-in : {p : Span} → x ≡ Some p → (p.start ≤ p.end) × (p.end ≤ length s) × (0 < p.start) × (at < p.end)
@@ -291,7 +291,7 @@ module _ (k base : ℕ) (s : List ℕ) where
             (n.0, n.1, λ c h. l.2 c (subst (λ (ps : List Part). CheckedTold (cut_all ps) c) (sym n.2) (cut-one (part_between base s p.start p.end) (bodies k n.0) c inner.1 h)))
 
 -- the message in a field
-module _ (k base : ℕ) (s : List ℕ) {x : Option Span} (t : BytesTold base s k x) where
+module _ (k base : ℕ) (s : List ℕ) {x : rust.Option Span} (t : BytesTold base s k x) where
   pub message_none : x ≡ None → EmbeddedTold base s k (Ok None)
   unfolding message
   message_none g = record { is = λ m w. ap cut_option (t.is m w ∙ ap (piece_told base s) g); inside = tt }

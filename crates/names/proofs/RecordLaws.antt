@@ -3,8 +3,8 @@
 use mathlib.Core.Path.{◌≡◌, refl, ap, sym, ◌∙◌, subst}
 use mathlib.Core.Bool.{Bool, true, false}
 use mathlib.Core.List.{List, [], ◌∷◌}
-use mathlib.Core.Option as math
-use mathlib.Core.Option.{none, some}
+use mathlib.Core.Option.{Option, none, some}
+use Rattle.std.specs.declared.option.Option as rust
 use Prim.Native.Nat.{ℕ, zero, suc, ◌≤◌, ◌<◌, ◌%◌, ◌^◌}
 use native.Mathlib.Omega.{arith}
 use borrow.Author.Tests.{eq-eqb, ne_eqb, eqb-true, eqb-false}
@@ -31,14 +31,14 @@ use Rattle.names.specs.Records.{served, two_of, record_of}
 use Rattle.names.specs.told.RecordTold.{first_seen, with_field, FirstsTold, operation_in, both_numbers, RecordTold}
 use Rattle.names.specs.declared.records.Firsts.{Firsts}
 use Rattle.names.specs.declared.records.Record.{Record}
-use Rattle.std.specs.Prelude.{Option, Some, None}
+use Rattle.std.specs.Prelude.{Some, None}
 
 -- What was seen of field k before a place, and the rest from there, say what the whole message does.
 module _ (k base : ℕ) (s : List ℕ) where
-  pub Known : Option WireValue → Message → Message → Type 0
+  pub Known : rust.Option WireValue → Message → Message → Type 0
   Known f m rest = value k m ≡ or_else (found_told base s f) (value k rest)
 
-  known_next : (f : Option WireValue) (n : ℕ) (v : WireValue) (m rest : Message) → Known f m (field n (value_of base s v) ∷ rest) → Known (first_seen k f n v) m rest
+  known_next : (f : rust.Option WireValue) (n : ℕ) (v : WireValue) (m rest : Message) → Known f m (field n (value_of base s v) ∷ rest) → Known (first_seen k f n v) m rest
   unfolding Known
   known_next (Some w) n v m rest e = e
   known_next None n v m rest e = go (eqb n k) refl
@@ -47,7 +47,7 @@ module _ (k base : ℕ) (s : List ℕ) where
       go true q = e ∙ ap first_of (values-found k (value_of base s v) rest (eqb-true n k q))
       go false q = e ∙ ap first_of (values-passed k (value_of base s v) rest (eqb-false n k q))
 
-  inside-next : (f : Option WireValue) (n : ℕ) (v : WireValue) → FoundInside s f → Inside s v → FoundInside s (first_seen k f n v)
+  inside-next : (f : rust.Option WireValue) (n : ℕ) (v : WireValue) → FoundInside s f → Inside s v → FoundInside s (first_seen k f n v)
   inside-next (Some w) n v h i = h
   inside-next None n v h i = go (eqb n k)
     where
@@ -55,7 +55,7 @@ module _ (k base : ℕ) (s : List ℕ) where
       go true = i
       go false = tt
 
-  pub record Seen (at : ℕ) (f : Option WireValue) : Type 0 where
+  pub record Seen (at : ℕ) (f : rust.Option WireValue) : Type 0 where
     pub leads : Leads (Known f) (◌from◌ base s) (rest_of base s at)
     pub inside : FoundInside s f
 
@@ -63,12 +63,12 @@ module _ (k base : ℕ) (s : List ℕ) where
   unfolding Known
   seen_start = record { leads = leads-start (Known None) base s (λ m. refl); inside = tt }
 
-  module _ (at : ℕ) (f : Option WireValue) (i : Seen at f) where
+  module _ (at : ℕ) (f : rust.Option WireValue) (i : Seen at f) where
     seen_end : length s ≤ at → FoundTold base s k f
     unfolding Known values
     seen_end h = record { is = λ m w. leads-end (Known f) (◌from◌ base s) base s at i.leads h m w ∙ go (found_told base s f); inside = i.inside }
       where
-        go : (o : math.Option Value) → or_else o none ≡ o
+        go : (o : Option Value) → or_else o none ≡ o
         go none = refl
         go (some v) = refl
 
@@ -106,7 +106,7 @@ module _ (base : ℕ) (s : List ℕ) where
   }
 
   module _ (at : ℕ) (f : Firsts) (i : AllSeen base s at f) where
-    abbrev told : ((k : ℕ) (x : Option WireValue) → Seen k base s at x → FoundTold base s k x) → FirstsTold base s f
+    abbrev told : ((k : ℕ) (x : rust.Option WireValue) → Seen k base s at x → FoundTold base s k x) → FirstsTold base s f
     told t = record {
       range = t Record-range f.range i.range;
       predefined = t Record-predefined_index f.predefined i.predefined;
@@ -147,7 +147,7 @@ module _ (base : ℕ) (s : List ℕ) (k : ℕ) (m : Message) (w : cut (◌from�
 
 -- the record, from what each field comes to
 pub record_is : (base : ℕ) (s : List ℕ) (f : Firsts) (r : Record) → FirstsTold base s f
-    → (range : Option ℕ) → index_told range ≡ index_in f.range → r.range ≡ served (index_told range)
+    → (range : rust.Option ℕ) → index_told range ≡ index_in f.range → r.range ≡ served (index_told range)
     → r.string ≡ piece_in f.string → index_told r.predefined ≡ index_in f.predefined → r.operation ≡ operation_in f.operation
     → (FoundTold base s Record-substring_index f.substring → (m : Message) → cut (◌from◌ base s) ≡ ok m → two_of (varints Record-substring_index m) ≡ both_numbers r.substring)
     → (FoundTold base s Record-replace_char f.replaced → (m : Message) → cut (◌from◌ base s) ≡ ok m → two_of (varints Record-replace_char m) ≡ both_numbers r.replaced)

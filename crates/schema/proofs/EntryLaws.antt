@@ -21,7 +21,7 @@ use Rattle.schema.specs.told.TypesTold.{EntryInside, EntryBelow, EntryTold}
 use Rattle.std.specs.declared.option.Option as rust
 use Rattle.std.specs.declared.option.Option.TheVariants.{Some, None}
 use Rattle.foundation.specs.declared.Span.{Span}
-use Rattle.schema.specs.told.SchemaTold.{span}
+use Rattle.messages.specs.told.Asked.{span}
 
 module _ (payload notes : List ℕ) (first count i : ℕ) {j : ℕ} (e : j ≡ i) where
   pub entry_past : count ≤ j → EntryTold payload (drop first notes) count i None

@@ -31,7 +31,7 @@ use Rattle.schema.proofs.TypeLaws.{resolve_nothing, resolve_deep, resolve_entry}
 use Rattle.schema.proofs.ListLaws.{First, cut-first}
 use Rattle.schema.proofs.StandsLaws.{stands-cut, stands-entry, body-ends, body-stands, body_entry}
 use Rattle.foundation.specs.declared.Span.{Span}
-use Rattle.schema.specs.told.SchemaTold.{span}
+use Rattle.messages.specs.told.Asked.{span}
 
 -- A reading that was accepted: what it was made of was.
 pub never_given : {A B : Type 0} {c : Results.Cause} {p : ℕ} {a : A} → ◌≡◌ {A = Res A} (refused c p) (ok a) → B

@@ -33,7 +33,7 @@ use Rattle.schema.proofs.CountLaws.{within_none, within_both, within_less, affor
 use Rattle.std.specs.declared.option.Option as rust
 use Rattle.std.specs.declared.result.Result.{Result}
 use Rattle.foundation.specs.declared.Span.{Span}
-use Rattle.schema.specs.told.SchemaTold.{span}
+use Rattle.messages.specs.told.Asked.{span}
 
 -- A list of parts that can be cut: its first, and the others.
 pub record First (p : Part) (ps : List Part) (ms : List Message) : Type 0 where

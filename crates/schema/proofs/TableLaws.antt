@@ -33,7 +33,7 @@ use Rattle.schema.specs.declared.table.TypeIndex.{TypeIndex}
 use Rattle.std.specs.declared.option.Option as rust
 use Rattle.std.specs.declared.option.Option.TheVariants.{Some, None}
 use Rattle.foundation.specs.declared.Span.{Span}
-use Rattle.schema.specs.told.SchemaTold.{span}
+use Rattle.messages.specs.told.Asked.{span}
 
 abbrev pub type_index : ℕ → rust.Option ℕ → TypeIndex
 type_index count first = record { count = count; first = first }

@@ -31,7 +31,7 @@ use Rattle.std.specs.declared.option.Option as rust
 use Rattle.std.specs.declared.option.Option.TheVariants.{Some}
 use Rattle.std.specs.declared.result.Result.{Result}
 use Rattle.foundation.specs.declared.Span.{Span}
-use Rattle.schema.specs.told.SchemaTold.{span}
+use Rattle.messages.specs.told.Asked.{span}
 
 -- Room is kept by what spends no more than is counted.
 pub spends_none : (s : State) → Spends s s

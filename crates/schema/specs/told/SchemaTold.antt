@@ -7,7 +7,6 @@ use Rattle.std.specs.declared.option.Option as rust
 use Rattle.std.specs.declared.option.Option.TheVariants.{Some, None}
 use Rattle.std.specs.declared.result.Result.{Result}
 use Rattle.std.specs.declared.result.Result.TheVariants.{Ok, Err}
-use Rattle.foundation.specs.declared.Span.{Span}
 use Rattle.foundation.specs.Results.{Res, ok, refused, Cause, too_many_types, ◌from◌}
 use Rattle.wire.specs.Wire.{Message, cut}
 use Rattle.messages.specs.told.Asked.{index_told}
@@ -31,10 +30,6 @@ Walked = Result State Stop
 
 abbrev pub Picked : Type 0
 Picked = Result (rust.Option State) Stop
-
--- a part of a slice
-abbrev pub span : ℕ → ℕ → Span
-span start end = record { start = start; end = end }
 
 abbrev pub stop_cause : Stop → Cause
 stop_cause (Wire error) = wire_cause error
