@@ -5,7 +5,6 @@
 ghost use Rattle.std.specs.Prelude.{◌≤◌, ◌<◌, length, IfOk};
 
 use characters::Character;
-use messages::Checked;
 use names::name::{Change, Name, PREDEFINED};
 use names::records::RecordIndex;
 use std::io;
@@ -165,10 +164,9 @@ fn look_up(
     index: u32,
     kind: u8,
 ) -> io::Result<()> {
-    let checked = messages::check(table, 0);
-    let Checked::Whole = checked else {
+    if messages::check(table, 0).is_err() {
         return print!(rt; "refused");
-    };
+    }
     let mut notes = [0u64; 48];
     let indexed = names::records::index_records(table, 0, &mut notes);
     let RecordIndex::Records { count } = indexed else {
