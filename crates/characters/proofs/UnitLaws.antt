@@ -3,6 +3,7 @@
 use mathlib.Core.Path.{◌≡◌, refl, ap, sym, ◌∙◌, subst}
 use mathlib.Core.Bool.{true, false}
 use mathlib.Core.List.{List, [], ◌∷◌}
+use mathlib.Core.Logic.{◌⊎◌, inl, inr}
 use Prim.Native.Nat.{ℕ, suc, ◌+◌, ◌-◌, ◌≤◌, ◌<◌}
 use native.Mathlib.Numerals.{add-one}
 use native.Mathlib.Omega.{arith}
@@ -13,9 +14,9 @@ use Rattle.foundation.proofs.ChoiceLaws.{if_ind, drop-take}
 use Rattle.characters.specs.Characters.{is_scalar, is_high, is_low, lone, pair, replacement, from_utf16}
 use Rattle.characters.specs.told.Places.{part_from}
 use Rattle.characters.specs.WellFormed.{Units}
-use Rattle.characters.specs.told.CharactersTold.{paired_at, utf16_at}
-use Rattle.characters.specs.declared.Character.{Character}
-use Rattle.characters.specs.declared.Character.TheVariants.{Read, End}
+use Rattle.characters.specs.told.CharactersTold.{Character, read, paired_at, utf16_at}
+use Rattle.std.specs.declared.option.Option.TheVariants.{Some, None}
+use Rattle.characters.proofs.TestLaws.{above, under}
 use Rattle.characters.proofs.ScalarLaws.{lone_scalar, pair_scalar, replacement_scalar}
 
 -- The units from a place on: none, or the one there and those after it.
@@ -26,14 +27,19 @@ module _ (s : List ℕ) (at end : ℕ) where
   pub units-past : length s ≤ at → part_from at end s ≡ []
   units-past h = rw (drop_of_length-le s h, take-nil)
 
+  -- by the tests of code
+  pub units-none : (end ≤ at) ⊎ ((at < end) × (length s ≤ at)) → part_from at end s ≡ []
+  units-none (inl h) = units-ended h
+  units-none (inr h) = units-past h.1
+
   pub units-cons : at < end → at < length s → part_from at end s ≡ get_or s at 0 ∷ part_from (at + 1) end s
   units-cons e h = let z : end - at ≡ suc (end - (at + 1)) = omega arith in rw (z, drop-cons s at 0 h, add-one at)
 
-  pub pair-missing : (high : ℕ) → part_from at end s ≡ [] → Read replacement at ≡ paired_at high at (part_from at end s)
+  pub pair-missing : (high : ℕ) → part_from at end s ≡ [] → read replacement at ≡ paired_at high at (part_from at end s)
   unfolding paired_at
   pair-missing high e = rw e
 
-  pub unit-none : part_from at end s ≡ [] → End ≡ utf16_at at (part_from at end s)
+  pub unit-none : part_from at end s ≡ [] → None ≡ utf16_at at (part_from at end s)
   unfolding utf16_at
   unit-none e = rw e
 
@@ -41,19 +47,20 @@ module _ (s : List ℕ) (at end : ℕ) where
     there : part_from at end s ≡ u ∷ part_from (at + 1) end s
     there = units-cons e h ∙ ap (λ (v : ℕ). v ∷ part_from (at + 1) end s) (sym i)
 
-    pub pair-wrong : (high : ℕ) → is_low u ≡ false → Read replacement at ≡ paired_at high at (part_from at end s)
+    pub pair-wrong : (high : ℕ) → is_low u ≡ false → read replacement at ≡ paired_at high at (part_from at end s)
     unfolding paired_at
     pair-wrong high l = rw (there, l)
 
-    pub pair-right : (high : ℕ) → is_low u ≡ true → Read (pair high u) (at + 1) ≡ paired_at high at (part_from at end s)
+    pub pair-right : (high : ℕ) → is_low u ≡ true → read (pair high u) (at + 1) ≡ paired_at high at (part_from at end s)
     unfolding paired_at
     pair-right high l = rw (there, l)
 
-    pub unit-plain : is_high u ≡ false → is_low u ≡ false → Read u (at + 1) ≡ utf16_at at (part_from at end s)
+    pub unit-plain : (u < 0xd800) ⊎ ((0xd800 ≤ u) × (0xdfff < u)) → read u (at + 1) ≡ utf16_at at (part_from at end s)
     unfolding utf16_at
-    unit-plain k l = rw there (rw (k, l))
+    unit-plain (inl k) = rw there (rw (under 0xd800 0xdbff u k, under 0xdc00 0xdfff u (omega arith)))
+    unit-plain (inr k) = rw there (rw (above 0xd800 0xdbff u (omega arith), above 0xdc00 0xdfff u k.1))
 
-    pub unit-low : is_high u ≡ false → is_low u ≡ true → Read replacement (at + 1) ≡ utf16_at at (part_from at end s)
+    pub unit-low : is_high u ≡ false → is_low u ≡ true → read replacement (at + 1) ≡ utf16_at at (part_from at end s)
     unfolding utf16_at
     unit-low k l = rw there (rw (k, l))
 
@@ -69,8 +76,8 @@ pub record Character16 (at : ℕ) (us : List ℕ) (code next : ℕ) : Type 0 whe
   pub scalar : Units us → T (is_scalar code)
 
 abbrev Says : ℕ → List ℕ → Character → Type 0
-Says at us (Read code next) = Character16 at us code next
-Says at us End = us ≡ []
+Says at us (Some r) = Character16 at us r.value r.next
+Says at us None = us ≡ []
 
 -- one unit, or two
 says_one : (at u : ℕ) (us : List ℕ) (c : ℕ) → from_utf16 (u ∷ us) ≡ c ∷ from_utf16 us → (Units (u ∷ us) → T (is_scalar c)) → Character16 at (u ∷ us) c (at + 1)
@@ -98,11 +105,11 @@ says at (u ∷ v ∷ us) =
 
 -- At a place of a string in s that ends at `end`.
 module _ (s : List ℕ) (at end : ℕ) where
-  pub utf16-end : utf16_at at (part_from at end s) ≡ End → from_utf16 (part_from at end s) ≡ []
+  pub utf16-end : utf16_at at (part_from at end s) ≡ None → from_utf16 (part_from at end s) ≡ []
   unfolding from_utf16
   utf16-end e = ap from_utf16 (subst (Says at (part_from at end s)) e (says at (part_from at end s)))
 
-  module _ {code next : ℕ} (e : utf16_at at (part_from at end s) ≡ Read code next) where
+  module _ {code next : ℕ} (e : utf16_at at (part_from at end s) ≡ read code next) where
     told : Character16 at (part_from at end s) code next
     told = subst (Says at (part_from at end s)) e (says at (part_from at end s))
 

@@ -1,6 +1,6 @@
--- What what is written into an area: of a number, what is left to write from here on gives the whole; of bytes, as much as there is room for.
+-- What is written into an area: of a number, what is left to write from here on gives the whole; of bytes, as much as there is room for.
 -- Assumes nothing.
-use mathlib.Core.Path.{◌≡◌, sym, ap, ◌∙◌}
+use mathlib.Core.Path.{◌≡◌, refl, sym, ap, ◌∙◌}
 use mathlib.Core.List.{List, ◌++◌, append_assoc}
 use Prim.Native.Nat.{ℕ, zero, suc, ◌+◌, ◌*◌, ◌/◌, ◌%◌, ◌≤◌, ◌<◌}
 use native.Mathlib.Numerals.{add-one}
@@ -11,7 +11,6 @@ use lib.Seq.{sets, sets-eq, take_all, drop-drop, length-take-le}
 use borrow.Rule.Slice.PartMut.{put_mid}
 use borrow.Author.Tests.{leb-true, leb-false}
 use mathlib.Core.Bool.{Bool, true, false}
-use mathlib.Core.Path.{refl}
 use Rattle.foundation.specs.Digits.{little}
 use Rattle.foundation.proofs.DigitLaws.{digits_append, digits_mod}
 use Rattle.foundation.proofs.OverlayLaws.{sets_out, sets_clipped}
