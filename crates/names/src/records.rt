@@ -6,6 +6,7 @@ ghost use Rattle.wire.specs.Wire.{cut, Message};
 ghost use Rattle.wire.specs.Messages.{varints};
 ghost use Rattle.messages.specs.told.Asked.{FoundTold, index_told};
 ghost use Rattle.wire.specs.told.WireTold.{rest_of};
+ghost use Rattle.names.specs.declared.records.IndexError.TheVariants.{Wire};
 ghost use Rattle.names.specs.Records.{served, two_of};
 ghost use Rattle.names.specs.told.Index.{packed_places, NotedTold, IndexTold};
 ghost use Rattle.names.specs.told.RecordTold.{first_seen, with_field, FirstsTold, operation_in, both_numbers, RecordTold};
@@ -77,7 +78,7 @@ fn firsts_in(s: &[u8], base: u32) -> Firsts
     };
     let mut at = 0;
     while at < s.len() {
-        let step = field_at(&*s, base, at);
+        let step = field_at(s, base, at);
         let FieldStep::Field {
             number,
             value,
@@ -122,7 +123,7 @@ fn two_in(s: &[u8], base: u32, number: u32, found: Found) -> Two
     let Found::Value { value: _ } = found else {
         return Two::Neither;
     };
-    let numbers = first_two(&*s, base, number);
+    let numbers = first_two(s, base, number);
     let FirstTwo::Numbers { two } = numbers else {
         return Two::Neither;
     };
@@ -145,7 +146,7 @@ pub struct Record {
 pub fn record_in(s: &[u8], base: u32) -> Record
     ensures { RecordTold base s.now result }
 {
-    let firsts = firsts_in(&*s, base);
+    let firsts = firsts_in(s, base);
     let range = firsts.range;
     let predefined = firsts.predefined;
     let operation = firsts.operation;
@@ -157,16 +158,24 @@ pub fn record_in(s: &[u8], base: u32) -> Record
         string: string.bytes(),
         predefined: predefined.index(),
         operation: operation_in(operation),
-        substring: two_in(&*s, base, RECORD_SUBSTRING_INDEX, substring),
-        replaced: two_in(&*s, base, RECORD_REPLACE_CHAR, replaced),
+        substring: two_in(s, base, RECORD_SUBSTRING_INDEX, substring),
+        replaced: two_in(s, base, RECORD_REPLACE_CHAR, replaced),
     }
 }
 
+// Why there is no index: the lent notes have no room for it, or the messages are refused.
 #[derive(Clone, Copy)]
-pub enum RecordIndex {
-    Records { count: usize },
+pub enum IndexError {
     NoRoom,
-    Refused { error: WireError },
+    Wire(WireError),
+}
+
+impl From<WireError> for IndexError {
+    ghost from_gives = { λ error made. made ≡ Wire error };
+
+    fn from(error: WireError) -> IndexError {
+        IndexError::Wire(error)
+    }
 }
 
 // Two places in one number.
@@ -190,30 +199,29 @@ fn put_entry(notes: &mut [u64], count: usize, start: u32, end: u32, next: u64)
     notes[at + 2] = next;
 }
 
-// Cuts the records of the name table in `bytes` from `at` on, and notes for each where it stands and the first index that it serves.
-fn note_records(bytes: &[u8], at: usize, notes: &mut [u64]) -> RecordIndex
+// Cuts the records of the name table in `bytes` from `at` on, and notes for each where it stands and the first index that it serves. How
+// many there are.
+fn note_records(bytes: &[u8], at: usize, notes: &mut [u64]) -> Result<usize, IndexError>
     ensures { (m : Message) → cut (rest_of 0 bytes.now at) ≡ ok m → NotedTold bytes.now at m notes.new result }
 {
     if 4294967295 < bytes.len() {
-        return RecordIndex::NoRoom;
+        return Err(IndexError::NoRoom);
     }
     let room = notes.len() / RECORD_WORDS;
     let mut total: u64 = 0;
     let mut count: usize = 0;
     let mut i = at;
     while i < bytes.len() {
-        let piece = next_body(&*bytes, 0, STRING_TABLE_TYPES_RECORD, i);
+        let piece = next_body(bytes, 0, STRING_TABLE_TYPES_RECORD, i);
         let Piece::Body { start, end } = piece else {
-            return RecordIndex::Records { count };
+            return Ok(count);
         };
         let checked = check(&bytes[start..end], start as u32);
         let Checked::Whole = checked else {
-            return RecordIndex::Refused {
-                error: checked.error(),
-            };
+            return Err(IndexError::Wire(checked.error()));
         };
         if room <= count {
-            return RecordIndex::NoRoom;
+            return Err(IndexError::NoRoom);
         }
         let range = served(index(&bytes[start..end], start as u32, RECORD_RANGE));
         total += range as u64;
@@ -221,29 +229,24 @@ fn note_records(bytes: &[u8], at: usize, notes: &mut [u64]) -> RecordIndex
         count += 1;
         i = end;
     }
-    RecordIndex::Records { count }
+    Ok(count)
 }
 
-// The index of a name table: `bytes` are the decoded ones up to its end, and it begins at `at`. An error in the local names refuses after
+// The index of a name table, and how many records it has: `bytes` are the decoded ones up to its end, and it begins at `at`. An error in the local names refuses after
 // all records are cut.
-pub fn index_records(bytes: &[u8], at: usize, notes: &mut [u64]) -> RecordIndex
+pub fn index_records(bytes: &[u8], at: usize, notes: &mut [u64]) -> Result<usize, IndexError>
     ensures { (m : Message) → cut (rest_of 0 bytes.now at) ≡ ok m → IndexTold bytes.now at m notes.new result }
 {
     if bytes.len() < at {
-        return RecordIndex::NoRoom;
+        return Err(IndexError::NoRoom);
     }
     if 4294967295 < at {
-        return RecordIndex::NoRoom;
+        return Err(IndexError::NoRoom);
     }
-    let noted = note_records(&*bytes, at, notes);
-    let RecordIndex::Records { count } = noted else {
-        return noted;
-    };
+    let count = note_records(bytes, at, notes)?;
     let checked = check_varints(&bytes[at..], at as u32, STRING_TABLE_TYPES_LOCAL_NAME);
     let Checked::Whole = checked else {
-        return RecordIndex::Refused {
-            error: checked.error(),
-        };
+        return Err(IndexError::Wire(checked.error()));
     };
-    RecordIndex::Records { count }
+    Ok(count)
 }
