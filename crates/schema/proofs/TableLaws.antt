@@ -10,6 +10,8 @@ use native.Mathlib.Omega.{arith}
 use borrow.Author.Tests.{lt-ltb}
 use lib.ListN.{length, take, drop, set, get_or, get_elem?, length-append, length-set, length-take, length-drop}
 use lib.Seq.{get_or-set_same, get_or-set_other, take_all}
+use Rattle.std.specs.declared.result.Result.{Result}
+use Rattle.std.specs.declared.result.Result.TheVariants.{Ok, Err}
 use Rattle.foundation.specs.Results.{ok, Part, ◌from◌}
 use Rattle.fields.specs.Fields.{TypeTable-type, TypeTable-first_nullable}
 use Rattle.wire.specs.Wire.{Message, cut}
@@ -34,10 +36,12 @@ use Rattle.lookup.proofs.LookupLaws.{part_longer}
 use Rattle.schema.specs.Types.{no_table, type_table_in}
 use Rattle.schema.specs.told.SchemaTold.{EntryAt, EntriesOf}
 use Rattle.schema.specs.told.TableTold.{EntriesTold, TableTold, TypeIndexTold}
-use Rattle.schema.specs.declared.table.Entries.{Entries}
-use Rattle.schema.specs.declared.table.Entries.TheVariants as entries
+use Rattle.schema.specs.declared.table.IndexError.{IndexError}
+use Rattle.schema.specs.declared.table.IndexError.TheVariants.{NoRoom, Wire}
 use Rattle.schema.specs.declared.table.TypeIndex.{TypeIndex}
-use Rattle.schema.specs.declared.table.TypeIndex.TheVariants as types
+
+abbrev pub type_index : ℕ → ℕ → TypeIndex
+type_index count first = record { count = count; first = first }
 
 -- The places of no entry, of one more, and among more bytes.
 pub entries_none : (bytes notes : List ℕ) → EntriesOf bytes notes 0 []
@@ -105,7 +109,7 @@ noting_start bytes at notes m w = record {
 
 module _ (bytes : List ℕ) (start : ℕ) (notes : List ℕ) (count at : ℕ) (i : Noting bytes start notes count at) {r : Piece}
     (t : NextBodyTold 0 bytes TypeTable-type at r) where
-  pub noting-none : r ≡ piece.Nothing → (m : Message) → cut (rest_of 0 bytes start) ≡ ok m → EntriesTold bytes m notes (entries.Noted count)
+  pub noting-none : r ≡ piece.Nothing → (m : Message) → cut (rest_of 0 bytes start) ≡ ok m → EntriesTold bytes m notes (Ok count)
   unfolding cut_all
   noting-none g m w =
       let n = i m w in
@@ -120,7 +124,7 @@ module _ (bytes : List ℕ) (start : ℕ) (notes : List ℕ) (count at : ℕ) (i
     body-in = (next.inside.0, next.inside.1, next.later)
 
     pub noting-refused : (c : Checked) → CheckedTold (cut (◌from◌ a (part_from a b bytes))) c → {error err : WireError} → c ≡ checked.Refused error
-        → err ≡ error → (m : Message) → cut (rest_of 0 bytes start) ≡ ok m → EntriesTold bytes m notes (entries.Refused err)
+        → err ≡ error → (m : Message) → cut (rest_of 0 bytes start) ≡ ok m → EntriesTold bytes m notes (Err (Wire err))
     noting-refused c k {error} {err} q p m w =
         let n = i m w in
         let v = next.is n.rest n.cuts in
@@ -139,7 +143,7 @@ module _ (bytes : List ℕ) (start : ℕ) (notes : List ℕ) (count at : ℕ) (i
         let q : length (bodies TypeTable-type n.rest) ≡ suc (length (bodies TypeTable-type v.0)) = ap length v.2 in
         omega (arith, n.many)
 
-    pub no_place : length notes ≤ count → (m : Message) → cut (rest_of 0 bytes start) ≡ ok m → EntriesTold bytes m notes entries.NoRoom
+    pub no_place : length notes ≤ count → (m : Message) → cut (rest_of 0 bytes start) ≡ ok m → EntriesTold bytes m notes (Err NoRoom)
     no_place h m w room = omega (arith, one_more_lem m w, room.long)
 
     module _ (c : Checked) (k : CheckedTold (cut (◌from◌ a (part_from a b bytes))) c) (q : c ≡ checked.Whole) where
@@ -179,22 +183,21 @@ module _ (o : Option ℕ) {y : Indexed} (e : o ≡ index_told y) where
 
 -- the table from a place to another
 module _ (payload : List ℕ) (start end : ℕ) (h : start ≤ end) (m : Message) (w : cut (◌from◌ start (part_from start end payload)) ≡ ok m) (notes : List ℕ)
-    (r : Entries) (t : (m : Message) → cut (rest_of 0 (take end payload) start) ≡ ok m → EntriesTold (take end payload) m notes r) where
+    (r : Result ℕ IndexError) (t : (m : Message) → cut (rest_of 0 (take end payload) start) ≡ ok m → EntriesTold (take end payload) m notes r) where
   from_start : cut (rest_of 0 (take end payload) start) ≡ ok m
   from_start = ap cut (part-is 0 payload start end h) ∙ ap (λ (n : ℕ). cut (◌from◌ n (part_from start end payload))) (zero-add start) ∙ w
 
-  told : {s : Entries} → r ≡ s → EntriesTold (take end payload) m notes s
+  told : {s : Result ℕ IndexError} → r ≡ s → EntriesTold (take end payload) m notes s
   told g = subst (EntriesTold (take end payload) m notes) g (t m from_start)
 
-  pub table-noted : {count : ℕ} (first : ℕ) → r ≡ entries.Noted count → index TypeTable-first_nullable m ≡ as32 first
-      → TableTold payload m notes (types.Types count first)
+  pub table-noted : {count : ℕ} (first : ℕ) → r ≡ Ok count → index TypeTable-first_nullable m ≡ as32 first
+      → TableTold payload m notes (Ok (type_index count first))
   table-noted {count} first g f = let n = told g in (n.0, n.1, entries_longer payload end notes count n.0 n.2, f)
 
-  pub table-full : r ≡ entries.NoRoom → TableTold payload m notes types.NoRoom
-  table-full g = told g
-
-  pub table-refused : {error : WireError} → r ≡ entries.Refused error → TableTold payload m notes (types.Refused error)
-  table-refused g = told g
+  -- what is refused of the entries is refused of the table
+  pub table-unnoted : {why : IndexError} → r ≡ Err why → TableTold payload m notes (Err why)
+  table-unnoted {why = NoRoom} g = told g
+  table-unnoted {why = Wire error} g = told g
 
 -- the table in a field
 pub table-place : (payload : List ℕ) (at n : ℕ) {x : Embedded} → EmbeddedTold at (take (length payload - at) (drop at payload)) n x
@@ -214,11 +217,11 @@ module _ (payload : List ℕ) (at n : ℕ) (notes : List ℕ) where
     found : {y : Embedded} → x ≡ y → EmbeddedIs at (take (length payload - at) (drop at payload)) n m y
     found g = subst (EmbeddedIs at (take (length payload - at) (drop at payload)) n m) g (t.is m body_is)
 
-    pub index_none : x ≡ embedded.Nothing → TypeIndexTold payload at n m notes (types.Types 0 4294967296)
+    pub index_none : x ≡ embedded.Nothing → TypeIndexTold payload at n m notes (Ok (type_index 0 4294967296))
     unfolding type_table_in
     index_none g = (no_table, (λ l. rw (found g)), entries_none payload notes, refl)
 
-    pub index-refused : {error : WireError} → x ≡ embedded.Refused error → TypeIndexTold payload at n m notes (types.Refused error)
+    pub index-refused : {error : WireError} → x ≡ embedded.Refused error → TypeIndexTold payload at n m notes (Err (Wire error))
     unfolding type_table_in
     index-refused g l = rw (found g)
 
@@ -228,13 +231,13 @@ module _ (payload : List ℕ) (at n : ℕ) (notes : List ℕ) where
           let i = subst (EmbeddedInside (take (length payload - at) (drop at payload))) g t.inside in
           ap (λ (bs : List ℕ). cut (◌from◌ (at + a) bs)) (sym (part-part payload at (length payload) a b i.0 i.1)) ∙ (found g).1
 
-      index-told : (r : TypeIndex) → TableTold payload (found g).0 notes r → TypeIndexTold payload at n m notes r
+      index-told : (r : Result TypeIndex IndexError) → TableTold payload (found g).0 notes r → TypeIndexTold payload at n m notes r
       unfolding type_table_in
-      index-told (types.Types count first) (ms, e, o, f) =
+      index-told (Ok x) (ms, e, o, f) =
           (record { types = ms; first_nullable = index TypeTable-first_nullable (found g).0 }, (λ l. rw ((found g).2, e)), o, f)
-      index-told types.NoRoom h = λ room. h (room.entries (found g).0 (found g).2)
-      index-told (types.Refused error) h = λ l. rw ((found g).2, h)
+      index-told (Err NoRoom) h = λ room. h (room.entries (found g).0 (found g).2)
+      index-told (Err (Wire error)) h = λ l. rw ((found g).2, h)
 
-      pub index-inline : (r : TypeIndex) → ((m : Message) → cut (◌from◌ (at + a) (part_from (at + a) (at + b) payload)) ≡ ok m → TableTold payload m notes r)
+      pub index-inline : (r : Result TypeIndex IndexError) → ((m : Message) → cut (◌from◌ (at + a) (part_from (at + a) (at + b) payload)) ≡ ok m → TableTold payload m notes r)
           → TypeIndexTold payload at n m notes r
       index-inline r h = index-told r (h (found g).0 table-cuts)

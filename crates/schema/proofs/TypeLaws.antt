@@ -10,6 +10,8 @@ use borrow.Author.Tests.{lt-ltb, le-ltb, lt-leb, ltb-false}
 use lib.Dec.{leb, ltb}
 use lib.ListN.{length, take, drop, get_elem?}
 use Rattle.std.specs.Prelude.{if◌then◌else◌}
+use Rattle.std.specs.declared.option.Option.TheVariants.{None}
+use Rattle.std.specs.declared.result.Result.TheVariants.{Ok, Err}
 use Rattle.foundation.specs.Choices.{if_some}
 use Rattle.foundation.specs.Results as Results
 use Rattle.foundation.specs.Results.{Res, ok, ◌from◌}
@@ -28,13 +30,9 @@ use Rattle.sheet.specs.declared.State.{State}
 use Rattle.declaration_rows.specs.Declarations.{invariant, Ty}
 use Rattle.schema.specs.Reading.{Read, pure, Scope, allowance}
 use Rattle.schema.specs.Types.{max_depth, resolve_at, type_in, type_at, declared_type}
-use Rattle.schema.specs.told.SchemaTold.{Lent, entries_in, Scoped, Ready, Spends, WalkedSpends, PickedSpends, WalkedTold, PickedTold}
+use Rattle.schema.specs.told.SchemaTold.{Lent, Walked, Picked, entries_in, Scoped, Ready, Spends, WalkedSpends, PickedSpends, WalkedTold, PickedTold}
 use Rattle.schema.specs.told.TypesTold.{or_nullable, rows_in, picked_of, EntryIs, EntryTold, ParseTold, ResolveTold, TypeInTold, DeclaredTold}
 use Rattle.schema.specs.declared.Stop.TheVariants as stop
-use Rattle.schema.specs.declared.Walked.{Walked}
-use Rattle.schema.specs.declared.Walked.TheVariants as walked
-use Rattle.schema.specs.declared.Picked.{Picked}
-use Rattle.schema.specs.declared.Picked.TheVariants as picked
 
 -- Room is kept by what spends no more than is counted.
 pub spends_none : (s : State) → Spends s s
@@ -60,14 +58,14 @@ ready-after h p = record {
 
 -- What was walked is what may not be there.
 picked_spends : (s : State) (w : Walked) → WalkedSpends s w → PickedSpends s (picked_of w)
-picked_spends s (walked.Done s') h = h
-picked_spends s (walked.Refused stop) h = h
+picked_spends s (Ok s') h = h
+picked_spends s (Err stop) h = h
 
 picked_told : {A : Type 0} (r : Res (A × ℕ)) (r' : Res (Option A × ℕ)) (rows : A → List Row) (f : A → A) (s : State) (w : Walked) (S S' T T' : List ℕ)
     → r' ≡ Results.◌>>=◌ r (λ q. pure (some (f q.0)) q.1) → WalkedTold r (λ a. rows (f a)) s w S S' T T'
     → PickedTold r' rows s (picked_of w) S S' T T'
-picked_told r r' rows f s (walked.Done s') S S' T T' e (a, b, q, p) = (f a, b, e ∙ rw q, p)
-picked_told r r' rows f s (walked.Refused stop) S S' T T' e q = e ∙ rw q
+picked_told r r' rows f s (Ok s') S S' T T' e (a, b, q, p) = (f a, b, e ∙ rw q, p)
+picked_told r r' rows f s (Err stop) S S' T T' e q = e ∙ rw q
 
 -- A type in a message.
 pub inline_in : (base : ℕ) (msg : List ℕ) (n : ℕ) {x : Embedded} → EmbeddedTold base msg n x → {a b : ℕ} → x ≡ embedded.Inline a b
@@ -92,12 +90,12 @@ module _ (e : Lent) (msg : List ℕ) (base inline by_index left role : ℕ) (s :
       subst (λ (y : Picked). TypeInTold e msg base inline by_index left role s y S S' T T') (sym q) told
 
   pub type-refused : {error : WireError} → x ≡ embedded.Refused error → {S S' T T' : List ℕ}
-      → TypeInTold e msg base inline by_index left role s (picked.Refused (stop.Wire error)) S S' T T'
+      → TypeInTold e msg base inline by_index left role s (Err (stop.Wire error)) S S' T T'
   unfolding type_in
   type-refused g = record { spends = tt; is = λ c o m k d l. rw (here g m k) }
 
   module _ (g : x ≡ embedded.Nothing) {y : Indexed} (i : (m : Message) → cut (◌from◌ base msg) ≡ ok m → index by_index m ≡ index_told y) where
-    pub type-nowhere : y ≡ indexed.Nothing → {S T : List ℕ} → TypeInTold e msg base inline by_index left role s picked.Dropped S S T T
+    pub type-nowhere : y ≡ indexed.Nothing → {S T : List ℕ} → TypeInTold e msg base inline by_index left role s (Ok None) S S T T
     unfolding type_in
     type-nowhere h = record { spends = tt; is = λ c o m k d l. (rw (here g m k, i m k, h), refl, refl) }
 
@@ -148,14 +146,14 @@ unfolding resolve_at
 resolve_entry c first f d i n m h k g = rw (lt-ltb d max_depth h, g, f, from_first first i k)
 
 module _ (e : Lent) (i left role projection : ℕ) (s : State) where
-  pub resolve-none-left : left ≡ 0 → {S T : List ℕ} → ResolveTold e i left role projection s picked.Dropped S S T T
+  pub resolve-none-left : left ≡ 0 → {S T : List ℕ} → ResolveTold e i left role projection s (Ok None) S S T T
   resolve-none-left h = record { spends = tt; is = λ c o d l. (resolve_deep c d i s.types (omega arith), refl, refl) }
 
   module _ {x : Piece} (t : EntryTold e.payload (entries_in e.tables e.notes) e.tables.types i x) where
     found : {y : Piece} → x ≡ y → (c : Scope) → Scoped e c → EntryIs e.payload (get_elem? c.table.types i) y
     found g c o = subst (EntryIs e.payload (get_elem? c.table.types i)) g (t.is c.table.types o.entries)
 
-    pub resolve-nowhere : x ≡ piece.Nothing → {S T : List ℕ} → ResolveTold e i left role projection s picked.Dropped S S T T
+    pub resolve-nowhere : x ≡ piece.Nothing → {S T : List ℕ} → ResolveTold e i left role projection s (Ok None) S S T T
     resolve-nowhere g = record { spends = tt; is = λ c o d l. (resolve_nothing c d i s.types (found g c o), refl, refl) }
 
     pub resolve-found : {a b : ℕ} → x ≡ piece.Body a b → (left ≡ 0 → ⊥) → i < 2 ^ 32

@@ -14,6 +14,7 @@ pub const INVARIANT: u8 = 2;
 pub const STAR: u8 = 3;
 
 // A star; or a projection, and the type inline, from a place of the argument's message to another, or by its index; or no type.
+// No type is a fourth kind here, and no `None`: those who read an argument match all four at once.
 #[derive(Clone, Copy)]
 pub enum ArgumentHead {
     Star,

@@ -20,13 +20,11 @@ pub struct TypeHead {
     pub arguments: bool,
 }
 
-// The same of the fields before a place: of the class name and of nullable the first counts, once it was seen.
+// The same of the fields before a place: what its class name and its flag say once they were seen. Of each the first counts.
 #[derive(Clone, Copy)]
 struct Seen {
-    named: bool,
-    name: Indexed,
-    flagged: bool,
-    nullable: bool,
+    name: Option<Indexed>,
+    nullable: Option<bool>,
     arguments: bool,
 }
 
@@ -61,33 +59,24 @@ impl Seen {
     fn with_name(self, value: WireValue) -> Seen
         ensures { (base : ℕ) (s : List ℕ) (m rest : Message) → Known self m (field Type-class_name (value_of base s value) ∷ rest) → Known result m rest }
     {
-        let seen = self.named;
-        if seen {
+        if let Some(_) = self.name {
             return self;
         }
         Seen {
-            named: true,
-            name: index_of(value),
-            flagged: self.flagged,
-            nullable: self.nullable,
-            arguments: self.arguments,
+            name: Some(index_of(value)),
+            ..self
         }
     }
 
     fn with_flag(self, value: WireValue) -> Seen
         ensures { (base : ℕ) (s : List ℕ) (m rest : Message) → Known self m (field Type-nullable (value_of base s value) ∷ rest) → Known result m rest }
     {
-        let seen = self.flagged;
-        if seen {
+        if let Some(_) = self.nullable {
             return self;
         }
-        let name = self.name;
         Seen {
-            named: self.named,
-            name,
-            flagged: true,
-            nullable: is_set(value),
-            arguments: self.arguments,
+            nullable: Some(is_set(value)),
+            ..self
         }
     }
 
@@ -97,13 +86,9 @@ impl Seen {
         if !is_body(value) {
             return self;
         }
-        let name = self.name;
         Seen {
-            named: self.named,
-            name,
-            flagged: self.flagged,
-            nullable: self.nullable,
             arguments: true,
+            ..self
         }
     }
 
@@ -123,10 +108,8 @@ fn seen_in(msg: &[u8], base: u32) -> Seen
     ensures { (m : Message) → cut (◌from◌ base msg.now) ≡ ok m → Known result m [] }
 {
     let mut seen = Seen {
-        named: false,
-        name: Indexed::Nothing,
-        flagged: false,
-        nullable: false,
+        name: None,
+        nullable: None,
         arguments: false,
     };
     let mut at = 0;
@@ -151,10 +134,9 @@ pub fn type_head(msg: &[u8], base: u32) -> TypeHead
     ensures { HeadTold base msg.now result }
 {
     let seen = seen_in(&*msg, base);
-    let name = seen.name;
     TypeHead {
-        name,
-        nullable: seen.nullable,
+        name: seen.name.unwrap_or(Indexed::Nothing),
+        nullable: seen.nullable.unwrap_or(false),
         arguments: seen.arguments,
     }
 }

@@ -3,6 +3,7 @@
 #![tactic(auto)]
 
 ghost use Rattle.std.specs.Prelude.{◌≡◌};
+ghost use Rattle.schema.specs.declared.Stop.TheVariants.{Wire};
 
 use sheet::State;
 use wire::WireError;
@@ -42,65 +43,31 @@ pub struct TypeSlot {
 // Why a reading stops.
 #[derive(Clone, Copy)]
 pub enum Stop {
-    Wire { error: WireError },
+    Wire(WireError),
     TooManyTypes,
 }
 
-// What was read is written, up to a state.
-#[derive(Clone, Copy)]
-pub enum Walked {
-    Done { state: State },
-    Refused { stop: Stop },
-}
+impl From<WireError> for Stop {
+    ghost from_gives = { λ error stop. stop ≡ Wire error };
 
-impl Walked {
-    // The refusal of a refused answer.
-    pub fn stop(self) -> Stop
-        ensures { (s : Stop) → self ≡ Walked.Refused s → result ≡ s }
-    {
-        match self {
-            Walked::Done { state: _ } => Stop::TooManyTypes,
-            Walked::Refused { stop } => stop,
-        }
+    fn from(error: WireError) -> Stop {
+        Stop::Wire(error)
     }
 }
 
-// The answer of a reader of something that may be skipped: written, skipped or refused.
+// After a list: how far both areas are written, and how many of it are kept.
 #[derive(Clone, Copy)]
-pub enum Picked {
-    Kept { state: State },
-    Dropped,
-    Refused { stop: Stop },
-}
-
-// A list, and how many of it are kept.
-#[derive(Clone, Copy)]
-pub enum Listed {
-    Done { state: State, count: usize },
-    Refused { stop: Stop },
-}
-
-impl Listed {
-    // The refusal of a refused answer.
-    pub fn stop(self) -> Stop
-        ensures { (s : Stop) → self ≡ Listed.Refused s → result ≡ s }
-    {
-        match self {
-            Listed::Done { state: _, count: _ } => Stop::TooManyTypes,
-            Listed::Refused { stop } => stop,
-        }
-    }
+pub struct Section {
+    pub state: State,
+    pub count: usize,
 }
 
 // Where the message of a type stands among the decoded bytes, whether it is nullable by its place in the type table, and what is left of
 // the depth there.
 #[derive(Clone, Copy)]
-pub enum FoundType {
-    Type {
-        start: usize,
-        end: usize,
-        nullable: bool,
-        left: usize,
-    },
-    Nothing,
+pub struct FoundType {
+    pub start: usize,
+    pub end: usize,
+    pub nullable: bool,
+    pub left: usize,
 }

@@ -1,42 +1,12 @@
 // Small readers of types: an entry of the type table. Types are walked and written above, in `type_references`. What they tell:
 // specs/told/TypesTold.antt.
-ghost use Rattle.std.specs.Prelude.{◌≡◌, ◌||◌, ◌-◌};
 ghost use Rattle.schema.specs.told.SchemaTold.{entries_in};
-ghost use Rattle.schema.specs.told.TypesTold.{picked_of, EntryTold};
+ghost use Rattle.schema.specs.told.TypesTold.{EntryTold};
 
-use crate::{Picked, Tables, Walked};
+use crate::Tables;
 use foundation::wide;
 use names::records::RECORD_WORDS;
 use wire::Piece;
-
-pub fn less(n: usize) -> usize
-    ensures { result ≡ n - 1 }
-{
-    if n == 0 {
-        return 0;
-    }
-    n - 1
-}
-
-pub fn either(a: bool, b: bool) -> bool
-    ensures { result ≡ (a || b) }
-{
-    if a {
-        return true;
-    }
-    b
-}
-
-pub fn picked(walked: Walked) -> Picked
-    ensures { result ≡ picked_of walked }
-{
-    let Walked::Done { state } = walked else {
-        return Picked::Refused {
-            stop: walked.stop(),
-        };
-    };
-    Picked::Kept { state }
-}
 
 // Where an entry of the type table stands, if there is one at the index.
 pub fn entry_at(payload: &[u8], notes: &[u64], tables: Tables, index: u32) -> Piece

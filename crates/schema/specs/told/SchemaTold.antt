@@ -3,6 +3,10 @@
 use Rattle.std.specs.Prelude.{◌≡◌, true, List, ℕ, ◌+◌, ◌*◌, ◌^◌, ◌≤◌, length, drop, get_or}
 use Rattle.std.proofs.Math.Option.{Option, none, some}
 use Rattle.std.proofs.Math.ListN.{get_elem?}
+use Rattle.std.specs.declared.option.Option as rust
+use Rattle.std.specs.declared.option.Option.TheVariants.{Some, None}
+use Rattle.std.specs.declared.result.Result.{Result}
+use Rattle.std.specs.declared.result.Result.TheVariants.{Ok, Err}
 use Rattle.foundation.specs.Results.{Res, ok, refused, Cause, too_many_types, ◌from◌}
 use Rattle.wire.specs.Wire.{Message, cut}
 use Rattle.wire.specs.Messages.{as32}
@@ -19,10 +23,13 @@ use Rattle.schema.specs.Reading.{Scope, allowance}
 use Rattle.schema.specs.declared.Tables.{Tables}
 use Rattle.schema.specs.declared.Stop.{Stop}
 use Rattle.schema.specs.declared.Stop.TheVariants.{Wire, TooManyTypes}
-use Rattle.schema.specs.declared.Walked.{Walked}
-use Rattle.schema.specs.declared.Walked.TheVariants as walked
-use Rattle.schema.specs.declared.Picked.{Picked}
-use Rattle.schema.specs.declared.Picked.TheVariants as picked
+
+-- The answers of the readers: what was read is written, up to a state; the same of what may not be there.
+abbrev pub Walked : Type 0
+Walked = Result State Stop
+
+abbrev pub Picked : Type 0
+Picked = Result (rust.Option State) Stop
 
 abbrev pub stop_cause : Stop → Cause
 stop_cause (Wire error) = wire_cause error
@@ -113,21 +120,21 @@ pub record Spends (s s' : State) : Type 0 where
   pub types : s'.types ≤ s.types
 
 abbrev pub WalkedSpends : State → Walked → Type 0
-WalkedSpends s (walked.Done s') = Spends s s'
-WalkedSpends s (walked.Refused stop) = Unit {0}
+WalkedSpends s (Ok s') = Spends s s'
+WalkedSpends s (Err stop) = Unit {0}
 
 abbrev pub PickedSpends : State → Picked → Type 0
-PickedSpends s (picked.Kept s') = Spends s s'
-PickedSpends s picked.Dropped = Unit {0}
-PickedSpends s (picked.Refused stop) = Unit {0}
+PickedSpends s (Ok (Some s')) = Spends s s'
+PickedSpends s (Ok None) = Unit {0}
+PickedSpends s (Err stop) = Unit {0}
 
 -- What was read is written, in rows, or refused.
 abbrev pub WalkedTold : {A : Type 0} → Res (A × ℕ) → (A → List Row) → State → Walked → (S S' T T' : List ℕ) → Type 0
-WalkedTold {A} r rows s (walked.Done s') S S' T T' = (a : A) × (b : ℕ) × (r ≡ ok (a, b)) × PutRows (rows a) b s s' S S' T T'
-WalkedTold r rows s (walked.Refused stop) S S' T T' = r ≡ stop_refused stop
+WalkedTold {A} r rows s (Ok s') S S' T T' = (a : A) × (b : ℕ) × (r ≡ ok (a, b)) × PutRows (rows a) b s s' S S' T T'
+WalkedTold r rows s (Err stop) S S' T T' = r ≡ stop_refused stop
 
 -- The same of what may not be there.
 abbrev pub PickedTold : {A : Type 0} → Res (Option A × ℕ) → (A → List Row) → State → Picked → (S S' T T' : List ℕ) → Type 0
-PickedTold {A} r rows s (picked.Kept s') S S' T T' = (a : A) × (b : ℕ) × (r ≡ ok (some a, b)) × PutRows (rows a) b s s' S S' T T'
-PickedTold r rows s picked.Dropped S S' T T' = (r ≡ ok (none, s.types)) × (S' ≡ S) × (T' ≡ T)
-PickedTold r rows s (picked.Refused stop) S S' T T' = r ≡ stop_refused stop
+PickedTold {A} r rows s (Ok (Some s')) S S' T T' = (a : A) × (b : ℕ) × (r ≡ ok (some a, b)) × PutRows (rows a) b s s' S S' T T'
+PickedTold r rows s (Ok None) S S' T T' = (r ≡ ok (none, s.types)) × (S' ≡ S) × (T' ≡ T)
+PickedTold r rows s (Err stop) S S' T T' = r ≡ stop_refused stop

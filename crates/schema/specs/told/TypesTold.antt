@@ -3,6 +3,8 @@
 use Rattle.std.specs.Prelude.{◌≡◌, Bool, ◌||◌, List, ℕ, ◌-◌, ◌≤◌, ◌<◌, length}
 use Rattle.std.proofs.Math.Option.{Option, none, some}
 use Rattle.std.proofs.Math.ListN.{get_elem?}
+use Rattle.std.specs.declared.option.Option.TheVariants.{Some}
+use Rattle.std.specs.declared.result.Result.TheVariants.{Ok, Err}
 use Rattle.foundation.specs.Results.{ok, ◌from◌}
 use Rattle.wire.specs.Wire.{Message, cut}
 use Rattle.characters.specs.told.Places.{part_from}
@@ -14,11 +16,7 @@ use Rattle.declaration_rows.specs.Declarations.{invariant, no_types, Ty, with_ty
 use Rattle.schema.specs.Reading.{Scope, allowance}
 use Rattle.schema.specs.Types.{max_depth, resolve_at, type_in, type_at, declared_type}
 use Rattle.declaration_rows.specs.Rows.{types_rows}
-use Rattle.schema.specs.told.SchemaTold.{Lent, Scoped, WalkedSpends, PickedSpends, WalkedTold, PickedTold, EntriesOf}
-use Rattle.schema.specs.declared.Walked.{Walked}
-use Rattle.schema.specs.declared.Walked.TheVariants as walked
-use Rattle.schema.specs.declared.Picked.{Picked}
-use Rattle.schema.specs.declared.Picked.TheVariants as picked
+use Rattle.schema.specs.told.SchemaTold.{Lent, Scoped, Walked, Picked, WalkedSpends, PickedSpends, WalkedTold, PickedTold, EntriesOf}
 
 -- a type that is nullable also where another says so
 abbrev pub or_nullable : Bool → Ty → Ty
@@ -30,8 +28,8 @@ rows_in role projection t = types_rows role (with_type projection t no_types)
 
 -- what was walked, as something that may not be there
 abbrev pub picked_of : Walked → Picked
-picked_of (walked.Done s) = picked.Kept s
-picked_of (walked.Refused stop) = picked.Refused stop
+picked_of (Ok s) = Ok (Some s)
+picked_of (Err stop) = Err stop
 
 -- an entry of the type table
 abbrev pub EntryIs : List ℕ → Option Message → Piece → Type 0

@@ -35,19 +35,19 @@ pub inline_place-requires : goal.inline_place-requires
 inline_place-requires c = let h = place_in c.args.payload.now c.args.notes.now c.args.tables (take (c.in-Body.end - c.in-Body.start) (drop c.in-Body.start c.args.msg.now)) (c.args.base + c.in-Body.start) Type-Argument-type Type-Argument-type_id c.args.left (argument-stands c.args.payload.now c.args.notes.now c.args.tables c.args.msg.now c.args.base c.args.left c.requires.0 c.loop-start.at c.loop-start.invariant c.next_body-piece.ensures c.in-Body.is) (inline-bytes (c.args.base + c.in-Body.start) (take (c.in-Body.end - c.in-Body.start) (drop c.in-Body.start c.args.msg.now)) c.argument_head-head.ensures c.in-Inline.is) refl in let k = argument-stands c.args.payload.now c.args.notes.now c.args.tables c.args.msg.now c.args.base c.args.left c.requires.0 c.loop-start.at c.loop-start.invariant c.next_body-piece.ensures c.in-Body.is in (h.0, omega (arith, k.inside, c.requires.1))
 
 pub returns-in-Inline : goal.returns-in-Inline
-returns-in-Inline c = seeking-kept c.args.payload.now c.args.notes.now c.args.tables c.args.msg.now c.args.base c.args.left c.requires.0 c.loop-start.at c.loop-start.invariant c.next_body-piece.ensures c.in-Body.is (λ m k. (_, inline-typed (c.args.base + c.in-Body.start) (take (c.in-Body.end - c.in-Body.start) (drop c.in-Body.start c.args.msg.now)) c.argument_head-head.ensures c.in-Inline.is m k)) (place-inline c.args.payload.now c.args.notes.now c.args.tables (take (c.in-Body.end - c.in-Body.start) (drop c.in-Body.start c.args.msg.now)) (c.args.base + c.in-Body.start) Type-Argument-type Type-Argument-type_id c.args.left (argument-stands c.args.payload.now c.args.notes.now c.args.tables c.args.msg.now c.args.base c.args.left c.requires.0 c.loop-start.at c.loop-start.invariant c.next_body-piece.ensures c.in-Body.is) (inline-bytes (c.args.base + c.in-Body.start) (take (c.in-Body.end - c.in-Body.start) (drop c.in-Body.start c.args.msg.now)) c.argument_head-head.ensures c.in-Inline.is) refl c.inline_place.ensures) c.inline_place.ensures
+returns-in-Inline c = seeking-kept c.args.payload.now c.args.notes.now c.args.tables c.args.msg.now c.args.base c.args.left c.requires.0 c.loop-start.at c.loop-start.invariant c.next_body-piece.ensures c.in-Body.is (λ m k. (_, inline-typed (c.args.base + c.in-Body.start) (take (c.in-Body.end - c.in-Body.start) (drop c.in-Body.start c.args.msg.now)) c.argument_head-head.ensures c.in-Inline.is m k)) (place-inline c.args.payload.now c.args.notes.now c.args.tables (take (c.in-Body.end - c.in-Body.start) (drop c.in-Body.start c.args.msg.now)) (c.args.base + c.in-Body.start) Type-Argument-type Type-Argument-type_id c.args.left (argument-stands c.args.payload.now c.args.notes.now c.args.tables c.args.msg.now c.args.base c.args.left c.requires.0 c.loop-start.at c.loop-start.invariant c.next_body-piece.ensures c.in-Body.is) (inline-bytes (c.args.base + c.in-Body.start) (take (c.in-Body.end - c.in-Body.start) (drop c.in-Body.start c.args.msg.now)) c.argument_head-head.ensures c.in-Inline.is) refl c.inline_place.ensures) refl
 
-pub entry_place-found-requires : goal.entry_place-found-requires
-entry_place-found-requires c = c.requires.1
+pub entry_place-requires : goal.entry_place-requires
+entry_place-requires c = c.requires.1
 
-pub returns-in_default-found : goal.returns-in_default-found
-returns-in_default-found c = seeking-kept c.args.payload.now c.args.notes.now c.args.tables c.args.msg.now c.args.base c.args.left c.requires.0 c.loop-start.at c.loop-start.invariant c.next_body-piece.ensures c.in-Body.is (λ m k. (_, indexed-typed (c.args.base + c.in-Body.start) (take (c.in-Body.end - c.in-Body.start) (drop c.in-Body.start c.args.msg.now)) c.argument_head-head.ensures c.in-ByIndex.is m k)) (place-indexed c.args.payload.now c.args.notes.now c.args.tables (take (c.in-Body.end - c.in-Body.start) (drop c.in-Body.start c.args.msg.now)) (c.args.base + c.in-Body.start) Type-Argument-type Type-Argument-type_id c.args.left (argument-stands c.args.payload.now c.args.notes.now c.args.tables c.args.msg.now c.args.base c.args.left c.requires.0 c.loop-start.at c.loop-start.invariant c.next_body-piece.ensures c.in-Body.is) (indexed-bytes (c.args.base + c.in-Body.start) (take (c.in-Body.end - c.in-Body.start) (drop c.in-Body.start c.args.msg.now)) c.argument_head-head.ensures c.in-ByIndex.is) refl (indexed-index (c.args.base + c.in-Body.start) (take (c.in-Body.end - c.in-Body.start) (drop c.in-Body.start c.args.msg.now)) c.argument_head-head.ensures c.in-ByIndex.is) refl c.entry_place-found.ensures) c.in_default-found.is
+pub returns-in-Some : goal.returns-in-Some
+returns-in-Some c = rw (← c.in-Some.is) (seeking-kept c.args.payload.now c.args.notes.now c.args.tables c.args.msg.now c.args.base c.args.left c.requires.0 c.loop-start.at c.loop-start.invariant c.next_body-piece.ensures c.in-Body.is (λ m k. (_, indexed-typed (c.args.base + c.in-Body.start) (take (c.in-Body.end - c.in-Body.start) (drop c.in-Body.start c.args.msg.now)) c.argument_head-head.ensures c.in-ByIndex.is m k)) (place-indexed c.args.payload.now c.args.notes.now c.args.tables (take (c.in-Body.end - c.in-Body.start) (drop c.in-Body.start c.args.msg.now)) (c.args.base + c.in-Body.start) Type-Argument-type Type-Argument-type_id c.args.left (argument-stands c.args.payload.now c.args.notes.now c.args.tables c.args.msg.now c.args.base c.args.left c.requires.0 c.loop-start.at c.loop-start.invariant c.next_body-piece.ensures c.in-Body.is) (indexed-bytes (c.args.base + c.in-Body.start) (take (c.in-Body.end - c.in-Body.start) (drop c.in-Body.start c.args.msg.now)) c.argument_head-head.ensures c.in-ByIndex.is) refl (indexed-index (c.args.base + c.in-Body.start) (take (c.in-Body.end - c.in-Body.start) (drop c.in-Body.start c.args.msg.now)) c.argument_head-head.ensures c.in-ByIndex.is) refl c.entry_place.ensures) c.in-Some.is)
 
-pub loop-start-smaller-in-Nothing-found : goal.loop-start-smaller-in-Nothing-found
-loop-start-smaller-in-Nothing-found c = let h = seeking-in c.args.payload.now c.args.notes.now c.args.tables c.args.msg.now c.args.base c.args.left c.requires.0 c.loop-start.at c.loop-start.invariant c.next_body-piece.ensures c.in-Body.is in omega arith
+pub loop-start-smaller-in_default-entry_place : goal.loop-start-smaller-in_default-entry_place
+loop-start-smaller-in_default-entry_place c = let h = seeking-in c.args.payload.now c.args.notes.now c.args.tables c.args.msg.now c.args.base c.args.left c.requires.0 c.loop-start.at c.loop-start.invariant c.next_body-piece.ensures c.in-Body.is in omega arith
 
-pub loop-start-preserved-in-Nothing-found : goal.loop-start-preserved-in-Nothing-found
-loop-start-preserved-in-Nothing-found c = seeking-on c.args.payload.now c.args.notes.now c.args.tables c.args.msg.now c.args.base c.args.left c.requires.0 c.loop-start.at c.loop-start.invariant c.next_body-piece.ensures c.in-Body.is (λ m k. (_, indexed-typed (c.args.base + c.in-Body.start) (take (c.in-Body.end - c.in-Body.start) (drop c.in-Body.start c.args.msg.now)) c.argument_head-head.ensures c.in-ByIndex.is m k)) (place-indexed c.args.payload.now c.args.notes.now c.args.tables (take (c.in-Body.end - c.in-Body.start) (drop c.in-Body.start c.args.msg.now)) (c.args.base + c.in-Body.start) Type-Argument-type Type-Argument-type_id c.args.left (argument-stands c.args.payload.now c.args.notes.now c.args.tables c.args.msg.now c.args.base c.args.left c.requires.0 c.loop-start.at c.loop-start.invariant c.next_body-piece.ensures c.in-Body.is) (indexed-bytes (c.args.base + c.in-Body.start) (take (c.in-Body.end - c.in-Body.start) (drop c.in-Body.start c.args.msg.now)) c.argument_head-head.ensures c.in-ByIndex.is) refl (indexed-index (c.args.base + c.in-Body.start) (take (c.in-Body.end - c.in-Body.start) (drop c.in-Body.start c.args.msg.now)) c.argument_head-head.ensures c.in-ByIndex.is) refl c.entry_place-found.ensures) c.in-Nothing-found.is
+pub loop-start-preserved-in_default-entry_place : goal.loop-start-preserved-in_default-entry_place
+loop-start-preserved-in_default-entry_place c = seeking-on c.args.payload.now c.args.notes.now c.args.tables c.args.msg.now c.args.base c.args.left c.requires.0 c.loop-start.at c.loop-start.invariant c.next_body-piece.ensures c.in-Body.is (λ m k. (_, indexed-typed (c.args.base + c.in-Body.start) (take (c.in-Body.end - c.in-Body.start) (drop c.in-Body.start c.args.msg.now)) c.argument_head-head.ensures c.in-ByIndex.is m k)) (place-indexed c.args.payload.now c.args.notes.now c.args.tables (take (c.in-Body.end - c.in-Body.start) (drop c.in-Body.start c.args.msg.now)) (c.args.base + c.in-Body.start) Type-Argument-type Type-Argument-type_id c.args.left (argument-stands c.args.payload.now c.args.notes.now c.args.tables c.args.msg.now c.args.base c.args.left c.requires.0 c.loop-start.at c.loop-start.invariant c.next_body-piece.ensures c.in-Body.is) (indexed-bytes (c.args.base + c.in-Body.start) (take (c.in-Body.end - c.in-Body.start) (drop c.in-Body.start c.args.msg.now)) c.argument_head-head.ensures c.in-ByIndex.is) refl (indexed-index (c.args.base + c.in-Body.start) (take (c.in-Body.end - c.in-Body.start) (drop c.in-Body.start c.args.msg.now)) c.argument_head-head.ensures c.in-ByIndex.is) refl c.entry_place.ensures) c.in_default-entry_place.is
 
 pub loop-start-smaller : goal.loop-start-smaller
 loop-start-smaller c = let h = seeking-in c.args.payload.now c.args.notes.now c.args.tables c.args.msg.now c.args.base c.args.left c.requires.0 c.loop-start.at c.loop-start.invariant c.next_body-piece.ensures c.in-Body.is in omega arith
