@@ -128,38 +128,24 @@ pub enum WireValue {
     Body(Span),
 }
 
-#[derive(Clone, Copy)]
-pub enum Number {
-    Value { value: u64 },
-    Nothing,
-}
-
-// The bytes `&s[start..end]`.
-#[derive(Clone, Copy)]
-pub enum Piece {
-    Body { start: usize, end: usize },
-    Nothing,
-}
-
 impl WireValue {
-    pub fn varint(self) -> Number
+    // The value, if it is a varint.
+    pub fn varint(self) -> Option<u64>
         ensures { result ≡ value_number self }
     {
         match self {
-            WireValue::Varint(value) => Number::Value { value },
-            _ => Number::Nothing,
+            WireValue::Varint(value) => Some(value),
+            _ => None,
         }
     }
 
-    pub fn bytes(self) -> Piece
+    // The bytes, if it is length-delimited.
+    pub fn bytes(self) -> Option<Span>
         ensures { result ≡ piece_of self }
     {
         match self {
-            WireValue::Body(span) => Piece::Body {
-                start: span.start,
-                end: span.end,
-            },
-            _ => Piece::Nothing,
+            WireValue::Body(span) => Some(span),
+            _ => None,
         }
     }
 }

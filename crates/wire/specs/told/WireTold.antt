@@ -10,10 +10,6 @@ use Rattle.wire.specs.declared.WireError.{WireError}
 use Rattle.wire.specs.declared.WireError.TheVariants.{VarintCutShort, OversizedVarint, PastItsMessage, FieldTooLarge, ForbiddenField, WireType}
 use Rattle.wire.specs.declared.WireValue.{WireValue}
 use Rattle.wire.specs.declared.WireValue.TheVariants as value
-use Rattle.wire.specs.declared.Number.{Number}
-use Rattle.wire.specs.declared.Number.TheVariants as number
-use Rattle.wire.specs.declared.Piece.{Piece}
-use Rattle.wire.specs.declared.Piece.TheVariants as piece
 use Rattle.wire.specs.declared.Field as code
 
 abbrev pub wire_cause : WireError → Cause
@@ -88,15 +84,15 @@ Inside s (value.Varint n) = Unit {0}
 Inside s (value.Fixed width n) = Unit {0}
 Inside s (value.Body x) = SpanInside s x
 
-abbrev pub value_number : WireValue → Number
-value_number (value.Varint n) = number.Value n
-value_number (value.Fixed width n) = number.Nothing
-value_number (value.Body x) = number.Nothing
+abbrev pub value_number : WireValue → Option ℕ
+value_number (value.Varint n) = Some n
+value_number (value.Fixed width n) = None
+value_number (value.Body x) = None
 
-abbrev pub piece_of : WireValue → Piece
-piece_of (value.Varint n) = piece.Nothing
-piece_of (value.Fixed width n) = piece.Nothing
-piece_of (value.Body x) = piece.Body x.start x.end
+abbrev pub piece_of : WireValue → Option Span
+piece_of (value.Varint n) = None
+piece_of (value.Fixed width n) = None
+piece_of (value.Body x) = Some x
 
 abbrev pub ValueTold : ℕ → List ℕ → Res (Got Value) → Result (Read WireValue) WireError → Type 0
 ValueTold base s = ReadTold (value_of base s) (Inside s) base s
