@@ -17,11 +17,7 @@ use Rattle.fields.specs.Fields.{Type-argument, Type-Argument-type, Type-Argument
 use Rattle.wire.specs.Wire.{Message, cut}
 use Rattle.wire.specs.Messages.{index, cut_option, message, messages, cut_all}
 use Rattle.wire.specs.told.WireTold.{rest_of, part_between}
-use Rattle.messages.specs.told.Asked.{piece_told, PieceInside, BytesTold, index_told, bodies, NextIs, NextBodyTold, PieceAfter}
-use Rattle.wire.specs.declared.Piece.{Piece}
-use Rattle.wire.specs.declared.Piece.TheVariants as piece
-use Rattle.messages.specs.declared.Indexed.{Indexed}
-use Rattle.messages.specs.declared.Indexed.TheVariants as indexed
+use Rattle.messages.specs.told.Asked.{span, piece_told, PieceInside, BytesTold, index_told, bodies, NextIs, NextBodyTold, PieceAfter}
 use Rattle.wire.proofs.WalkLaws.{whole, ok_same}
 use Rattle.declaration_rows.specs.Declarations.{star, Ty, Argument, projected, blank}
 use Rattle.schema.specs.Reading.{Read, pure, enter, keep, kept, Scope, allowance}
@@ -35,6 +31,7 @@ use Rattle.schema.proofs.ArgumentLaws.{Typed, argument-star, argument-typed}
 use Rattle.schema.proofs.TypeLaws.{resolve_nothing, resolve_deep, resolve_entry}
 use Rattle.schema.proofs.ListLaws.{First, cut-first}
 use Rattle.schema.proofs.StandsLaws.{stands-cut, stands-entry, body-ends, body-stands, body_entry}
+use Rattle.foundation.specs.declared.Span.{Span}
 
 -- A reading that was accepted: what it was made of was.
 pub never_given : {A B : Type 0} {c : Results.Cause} {p : ℕ} {a : A} → ◌≡◌ {A = Res A} (refused c p) (ok a) → B
@@ -68,18 +65,18 @@ module _ (payload notes : List ℕ) (tables : Tables) (i left : ℕ) where
     is = λ c t d deep o l b e. sym (first-same (sym (resolve_deep c d i l (omega arith)) ∙ e));
   }
 
-  module _ {x : Piece} (t : EntryTold payload (entries_in tables notes) tables.types i x) where
-    there : {y : Piece} → x ≡ y → (c : Scope) → TableOf payload notes tables c → EntryIs payload (get_elem? c.table.types i) y
+  module _ {x : rust.Option Span} (t : EntryTold payload (entries_in tables notes) tables.types i x) where
+    there : {y : rust.Option Span} → x ≡ y → (c : Scope) → TableOf payload notes tables c → EntryIs payload (get_elem? c.table.types i) y
     there g c o = subst (EntryIs payload (get_elem? c.table.types i)) g (t.is c.table.types o.entries)
 
-    pub entry-nowhere : x ≡ piece.Nothing → EntryFound payload notes tables i left None
+    pub entry-nowhere : x ≡ None → EntryFound payload notes tables i left None
     entry-nowhere g = record {
       inside = tt;
       falls = tt;
       is = λ c s d deep o l b e. sym (first-same (sym (resolve_nothing c d i l (there g c s)) ∙ e));
     }
 
-    pub entry-there : length payload ≤ 32768 → (left ≡ 0 → ⊥) → i < 2 ^ 32 → {a b : ℕ} → x ≡ piece.Body a b
+    pub entry-there : length payload ≤ 32768 → (left ≡ 0 → ⊥) → i < 2 ^ 32 → {a b : ℕ} → x ≡ Some (span a b)
         → EntryFound payload notes tables i left (Some (found_type a b (leb tables.first_nullable i) (left - 1)))
     entry-there short h k {a} {b} g =
         let inside = subst (EntryInside payload) g t.inside in
@@ -110,15 +107,15 @@ given_inline payload c start end inline by_index p at m (refused cause place) q 
 
 -- The type in a message.
 module _ (payload notes : List ℕ) (tables : Tables) (msg : List ℕ) (base inline by_index left : ℕ) (st : Stands payload msg base)
-    {x : Piece} (t : BytesTold base msg inline x) where
-  here : {y : Piece} → x ≡ y → (m : Message) → EntryAt payload base (base + length msg) m → message inline m ≡ cut_option (piece_told base msg y)
+    {x : rust.Option Span} (t : BytesTold base msg inline x) where
+  here : {y : rust.Option Span} → x ≡ y → (m : Message) → EntryAt payload base (base + length msg) m → message inline m ≡ cut_option (piece_told base msg y)
   unfolding message
   here g m at = ap cut_option (t.is m (stands-cut st at) ∙ ap (piece_told base msg) g)
 
-  pub place_in : {a b : ℕ} → x ≡ piece.Body a b → (a ≤ b) × (b ≤ length msg) × (0 < a)
+  pub place_in : {a b : ℕ} → x ≡ Some (span a b) → (a ≤ b) × (b ≤ length msg) × (0 < a)
   place_in g = subst (PieceInside msg) g t.inside
 
-  pub place-inline : {a b : ℕ} → x ≡ piece.Body a b → {x : FoundType} → x ≡ found_type (base + a) (base + b) false left
+  pub place-inline : {a b : ℕ} → x ≡ Some (span a b) → {x : FoundType} → x ≡ found_type (base + a) (base + b) false left
       → PlaceFound payload notes tables base (base + length msg) inline by_index left (Some x)
   place-inline {a} {b} g {x} q =
       let i = place_in g in
@@ -132,8 +129,8 @@ module _ (payload notes : List ℕ) (tables : Tables) (msg : List ℕ) (base inl
       } in
       subst (λ (y : FoundType). PlaceFound payload notes tables base (base + length msg) inline by_index left (Some y)) (sym q) told
 
-  module _ (g : x ≡ piece.Nothing) {y : Indexed} (i : (m : Message) → cut (◌from◌ base msg) ≡ ok m → index by_index m ≡ index_told y) where
-    pub place-nowhere : y ≡ indexed.Nothing → PlaceFound payload notes tables base (base + length msg) inline by_index left None
+  module _ (g : x ≡ None) {y : rust.Option ℕ} (i : (m : Message) → cut (◌from◌ base msg) ≡ ok m → index by_index m ≡ index_told y) where
+    pub place-nowhere : y ≡ None → PlaceFound payload notes tables base (base + length msg) inline by_index left None
     unfolding type_in
     place-nowhere h = record {
       inside = tt;
@@ -141,7 +138,7 @@ module _ (payload notes : List ℕ) (tables : Tables) (msg : List ℕ) (base inl
       is = λ c s m at d deep o l n e. sym (first-same (rw (here g m at, i m (stands-cut st at), h) at e));
     }
 
-    pub place-indexed : {k : ℕ} → y ≡ indexed.At k → {r : rust.Option FoundType} → EntryFound payload notes tables k left r
+    pub place-indexed : {k : ℕ} → y ≡ Some k → {r : rust.Option FoundType} → EntryFound payload notes tables k left r
         → PlaceFound payload notes tables base (base + length msg) inline by_index left r
     unfolding type_in
     place-indexed h {r} f = record {
@@ -191,18 +188,18 @@ pub record Passed (f : Message → Read (Option Argument)) (base : ℕ) (msg : L
   pub after : ℕ
   pub given : kept f others before ≡ ok (ts, after)
 
-module _ (f : Message → Read (Option Argument)) (base : ℕ) (msg : List ℕ) (at : ℕ) (ts : List Argument) (g : Passed f base msg at ts) {x : Piece}
+module _ (f : Message → Read (Option Argument)) (base : ℕ) (msg : List ℕ) (at : ℕ) (ts : List Argument) (g : Passed f base msg at ts) {x : rust.Option Span}
     (t : NextBodyTold base msg Type-argument at x) where
-  pub next_is : {y : Piece} → x ≡ y → NextIs base msg Type-argument g.rest y
+  pub next_is : {y : rust.Option Span} → x ≡ y → NextIs base msg Type-argument g.rest y
   next_is e = subst (NextIs base msg Type-argument g.rest) e (t.is g.rest g.cuts)
 
-  pub passed-all : x ≡ piece.Nothing → ts ≡ []
+  pub passed-all : x ≡ None → ts ≡ []
   unfolding cut_all kept
   passed-all e =
       let none_left : g.others ≡ [] = ok_same (sym g.many ∙ ap cut_all (next_is e)) in
       sym (first-same (ap (λ (ms : List Message). kept f ms g.before) (sym none_left) ∙ g.given))
 
-  module _ {a b : ℕ} (e : x ≡ piece.Body a b) where
+  module _ {a b : ℕ} (e : x ≡ Some (span a b)) where
     pub next : First (part_between base msg a b) (bodies Type-argument (next_is e).0) g.others
     next = cut-first (part_between base msg a b) (bodies Type-argument (next_is e).0) g.others (ap cut_all (sym (next_is e).2) ∙ g.many)
 
@@ -254,8 +251,8 @@ module _ (payload notes : List ℕ) (tables : Tables) (msg : List ℕ) (base lef
     };
   }
 
-  module _ (at : ℕ) (g : Seeking payload notes tables msg base left at) {x : Piece} (t : NextBodyTold base msg Type-argument at x) where
-    pub seeking-end : x ≡ piece.Nothing → ArgumentFound payload notes tables base (base + length msg) left None
+  module _ (at : ℕ) (g : Seeking payload notes tables msg base left at) {x : rust.Option Span} (t : NextBodyTold base msg Type-argument at x) where
+    pub seeking-end : x ≡ None → ArgumentFound payload notes tables base (base + length msg) left None
     seeking-end q = record {
       inside = tt;
       falls = tt;
@@ -264,7 +261,7 @@ module _ (payload notes : List ℕ) (tables : Tables) (msg : List ℕ) (base lef
           (sym (passed-all (argument_in (type_at allowance c) c d) base msg at ts (g.passed c s m a ms h d deep ts l b e) t q)) tt;
     }
 
-    module _ {a b : ℕ} (q : x ≡ piece.Body a b) where
+    module _ {a b : ℕ} (q : x ≡ Some (span a b)) where
       pub seeking-in : (a ≤ b) × (b ≤ length msg) × (at < b)
       seeking-in = let i = subst (PieceInside msg) q t.inside in (i.0, i.1, subst (PieceAfter at) q t.later)
 

@@ -22,19 +22,16 @@ use Rattle.wire.specs.declared.WireError.{WireError}
 use Rattle.wire.specs.declared.WireValue.{WireValue}
 use Rattle.wire.specs.declared.FieldStep.{FieldStep}
 use Rattle.wire.specs.declared.FieldStep.TheVariants as step
-use Rattle.wire.specs.declared.Piece.{Piece}
-use Rattle.wire.specs.declared.Piece.TheVariants as piece
-use Rattle.messages.specs.declared.Indexed.{Indexed}
-use Rattle.messages.specs.declared.Indexed.TheVariants as indexed
 use Rattle.wire.proofs.WalkLaws.{Leads, leads-start, leads-next, leads-never, leads-end, values-found, values-passed}
 use Rattle.messages.proofs.FindLaws.{as_number, as_piece}
 use Rattle.schema.specs.told.HeadTold.{is_body, any_of, NameKnown, FlagKnown, ArgumentsKnown, Known, HeadTold}
 use Rattle.schema.specs.declared.head.Seen.{Seen}
 use Rattle.schema.specs.declared.head.TypeHead.{TypeHead}
+use Rattle.foundation.specs.declared.Span.{Span}
 
-not_body : (p : Piece) → is_body p ≡ false → p ≡ piece.Nothing
-not_body (piece.Body start end) e = let z : ◌≡◌ {A = ℕ} 0 1 = cc in absurd (omega arith)
-not_body piece.Nothing e = refl
+not_body : (p : rust.Option Span) → is_body p ≡ false → p ≡ None
+not_body (Some p) e = let z : ◌≡◌ {A = ℕ} 0 1 = cc in absurd (omega arith)
+not_body None e = refl
 
 -- What a message says of field k, if its first field has another number, and of a field that is its first.
 module _ (k : ℕ) {n : ℕ} (v : Value) (m : Message) (h : n ≡ k → ⊥) where
@@ -55,7 +52,7 @@ module _ (k base : ℕ) (s : List ℕ) (v : WireValue) (m : Message) where
   varint-first = ap (λ (vs : List Value). if_some (first_of vs) none as_varint) (values-found k (value_of base s v) m refl) ∙ as_number base s v
 
   -- the bodies, by the piece that stands first
-  abbrev with-piece : Piece → List Part
+  abbrev with-piece : rust.Option Span → List Part
   with-piece p = if_some (piece_told base s p) (bodies k m) λ b. b ∷ bodies k m
 
   bodies-first : bodies k (field k (value_of base s v) ∷ m) ≡ with-piece (piece_of v)
@@ -70,23 +67,23 @@ module _ (k base : ℕ) (s : List ℕ) (v : WireValue) (m : Message) where
   bodies-some : is_body (piece_of v) ≡ true → any_of (bodies k (field k (value_of base s v) ∷ m)) ≡ true
   bodies-some e = ap any_of bodies-first ∙ there (piece_of v) e
     where
-      there : (p : Piece) → is_body p ≡ true → any_of (with-piece p) ≡ true
-      there (piece.Body start end) h = refl
-      there piece.Nothing h = let z : ◌≡◌ {A = ℕ} 0 1 = cc in absurd (omega arith)
+      there : (p : rust.Option Span) → is_body p ≡ true → any_of (with-piece p) ≡ true
+      there (Some p) h = refl
+      there None h = let z : ◌≡◌ {A = ℕ} 0 1 = cc in absurd (omega arith)
 
 -- One part of what is known: after a field with another number, after one that no longer counts, of one that was not seen, at the end.
 module _ (m : Message) where
-  name-other : {n : ℕ} (v : Value) (rest : Message) (x : rust.Option Indexed) → (n ≡ Type-class_name → ⊥) → NameKnown x m (field n v ∷ rest) → NameKnown x m rest
+  name-other : {n : ℕ} (v : Value) (rest : Message) (x : rust.Option (rust.Option ℕ)) → (n ≡ Type-class_name → ⊥) → NameKnown x m (field n v ∷ rest) → NameKnown x m rest
   name-other v rest (Some x) h e = e
   name-other v rest None h e = e ∙ index-passed Type-class_name v rest h
 
-  name-kept : (a b : Message) {x : rust.Option Indexed} {y : Indexed} → x ≡ Some y → NameKnown x m a → NameKnown x m b
-  name-kept a b {x} h e = subst (λ (z : rust.Option Indexed). NameKnown z m b) (sym h) (subst (λ (z : rust.Option Indexed). NameKnown z m a) h e)
+  name-kept : (a b : Message) {x : rust.Option (rust.Option ℕ)} {y : rust.Option ℕ} → x ≡ Some y → NameKnown x m a → NameKnown x m b
+  name-kept a b {x} h e = subst (λ (z : rust.Option (rust.Option ℕ)). NameKnown z m b) (sym h) (subst (λ (z : rust.Option (rust.Option ℕ)). NameKnown z m a) h e)
 
-  name-left : (a : Message) {x : rust.Option Indexed} → x ≡ None → NameKnown x m a → index Type-class_name m ≡ index Type-class_name a
-  name-left a h e = subst (λ (z : rust.Option Indexed). NameKnown z m a) h e
+  name-left : (a : Message) {x : rust.Option (rust.Option ℕ)} → x ≡ None → NameKnown x m a → index Type-class_name m ≡ index Type-class_name a
+  name-left a h e = subst (λ (z : rust.Option (rust.Option ℕ)). NameKnown z m a) h e
 
-  name-end : (x : rust.Option Indexed) → NameKnown x m [] → index Type-class_name m ≡ index_told (unwrap_or x indexed.Nothing)
+  name-end : (x : rust.Option (rust.Option ℕ)) → NameKnown x m [] → index Type-class_name m ≡ index_told (unwrap_or x None)
   unfolding index varint_of values
   name-end (Some x) e = e
   name-end None e = e
@@ -148,14 +145,14 @@ module _ (x : Seen) (v : WireValue) (base : ℕ) (s : List ℕ) (m rest : Messag
     named-arguments : ArgumentsKnown x.arguments m rest
     named-arguments = arguments-other m (value_of base s v) rest x.arguments (λ e. omega arith) k.arguments
 
-    pub known-named : {y : Indexed} → x.name ≡ Some y → Known x m rest
+    pub known-named : {y : rust.Option ℕ} → x.name ≡ Some y → Known x m rest
     known-named h = record {
       name = name-kept m (field Type-class_name (value_of base s v) ∷ rest) rest h k.name;
       nullable = named-nullable;
       arguments = named-arguments;
     }
 
-    pub known-name : x.name ≡ None → (y : Indexed)
+    pub known-name : x.name ≡ None → (y : rust.Option ℕ)
         → ((k : ℕ) (m : Message) → varint_of k m ≡ number_told (value_number v) → index k m ≡ index_told y)
         → Known (record { name = Some y; nullable = x.nullable; arguments = x.arguments }) m rest
     known-name h y t =
@@ -237,7 +234,7 @@ module _ (base : ℕ) (s : List ℕ) where
       seeing-next next g y t = leads-next (◌from◌ base s) base s at e h (Known x) (Known y) l next g (t base s)
 
   pub head-told : (x : Seen) → ((m : Message) → cut (◌from◌ base s) ≡ ok m → Known x m [])
-      → HeadTold base s (record { name = unwrap_or x.name indexed.Nothing; nullable = unwrap_or x.nullable false; arguments = x.arguments })
+      → HeadTold base s (record { name = unwrap_or x.name None; nullable = unwrap_or x.nullable false; arguments = x.arguments })
   head-told x k = record {
     name = λ m w. name-end m x.name (k m w).name;
     nullable = λ m w. flag-end m x.nullable (k m w).nullable;

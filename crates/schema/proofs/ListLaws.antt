@@ -15,12 +15,8 @@ use Rattle.foundation.specs.Results.{Res, ok, refused, Part, ◌from◌}
 use Rattle.wire.specs.Wire.{Message, cut}
 use Rattle.wire.specs.Messages.{cut_all, messages}
 use Rattle.wire.specs.told.WireTold.{rest_of, part_between}
-use Rattle.messages.specs.told.Asked.{CheckedTold, bodies, NextIs, NextBodyTold, PieceInside, PieceBegins}
+use Rattle.messages.specs.told.Asked.{span, CheckedTold, bodies, NextIs, NextBodyTold, PieceInside, PieceBegins}
 use Rattle.wire.specs.declared.WireError.{WireError}
-use Rattle.messages.specs.declared.Checked.{Checked}
-use Rattle.messages.specs.declared.Checked.TheVariants as checked
-use Rattle.wire.specs.declared.Piece.{Piece}
-use Rattle.wire.specs.declared.Piece.TheVariants as piece
 use Rattle.wire.proofs.WalkLaws.{whole, ok_same}
 use Rattle.sheet.specs.Rows.{Row, sheet_from, texts}
 use Rattle.sheet.specs.told.Put.{PutRows}
@@ -34,6 +30,9 @@ use Rattle.schema.specs.told.ListsTold.{ListAtTold}
 use Rattle.schema.specs.declared.Stop.{Stop}
 use Rattle.schema.specs.declared.Stop.TheVariants as stop
 use Rattle.schema.proofs.CountLaws.{within_none, within_both, within_less, affords-after, picked_within}
+use Rattle.std.specs.declared.option.Option as rust
+use Rattle.std.specs.Prelude.{Result}
+use Rattle.foundation.specs.declared.Span.{Span}
 
 -- A list of parts that can be cut: its first, and the others.
 pub record First (p : Part) (ps : List Part) (ms : List Message) : Type 0 where
@@ -96,18 +95,18 @@ module _ {A : Type 0} (f : Message → Read (Option A)) (rows : A → List Row) 
     done = λ xs b s' S' T' e p. (xs, b, e, zero-add (length xs), p);
   }
 
-  module _ (at count : ℕ) (s : State) (S T : List ℕ) (g : Going f rows number all s₀ S₀ T₀ base msg at count s S T) {x : Piece} (t : NextBodyTold base msg number at x) where
-    next-is : {y : Piece} → x ≡ y → NextIs base msg number g.rest y
+  module _ (at count : ℕ) (s : State) (S T : List ℕ) (g : Going f rows number all s₀ S₀ T₀ base msg at count s S T) {x : rust.Option Span} (t : NextBodyTold base msg number at x) where
+    next-is : {y : rust.Option Span} → x ≡ y → NextIs base msg number g.rest y
     next-is e = subst (NextIs base msg number g.rest) e (t.is g.rest g.cuts)
 
-    pub going_end : x ≡ piece.Nothing → ListedTold (kept f all s₀.types) rows s₀ (Ok (section s count)) S₀ S T₀ T
+    pub going_end : x ≡ None → ListedTold (kept f all s₀.types) rows s₀ (Ok (section s count)) S₀ S T₀ T
     unfolding cut_all kept sheet_from texts
     going_end e =
         let none_left : g.left ≡ [] = ok_same (sym g.many ∙ ap cut_all (next-is e)) in
         counted s S T (add-zero count)
         (g.done [] s.types s S T (ap (λ (l : List Message). kept f l s.types) none_left) (put_none s S T))
 
-    module _ {a b : ℕ} (e : x ≡ piece.Body a b) where
+    module _ {a b : ℕ} (e : x ≡ Some (span a b)) where
       the_rest : Message
       the_rest = (next-is e).0
 
@@ -192,15 +191,15 @@ module _ {A : Type 0} {read : Scope → Message → Read (Option A)} {rows : A �
     going = λ c o m k ms h. going_start (read c) rows number ms s₀ S₀ T₀ base msg m k h;
   }
 
-  module _ {at count : ℕ} {s : State} {S T : List ℕ} (g : Looping read rows unit e msg base number s₀ S₀ T₀ at count s S T) {x : Piece}
+  module _ {at count : ℕ} {s : State} {S T : List ℕ} (g : Looping read rows unit e msg base number s₀ S₀ T₀ at count s S T) {x : rust.Option Span}
       (t : NextBodyTold base msg number at x) where
-    pub loop-end : x ≡ piece.Nothing → ListAtTold read rows (unit * length msg) e msg base number s₀ (Ok (section s count)) S₀ S T₀ T
+    pub loop-end : x ≡ None → ListAtTold read rows (unit * length msg) e msg base number s₀ (Ok (section s count)) S₀ S T₀ T
     loop-end q = record {
       spends = within_less (unit * length msg) (mul-le-mul_left unit g.inside) g.spends;
       is = λ c o m k ms h. going_end (read c) rows number ms s₀ S₀ T₀ base msg at count s S T (g.going c o m k ms h) t q;
     }
 
-    module _ {a b : ℕ} (q : x ≡ piece.Body a b) where
+    module _ {a b : ℕ} (q : x ≡ Some (span a b)) where
       pub member-in : (at < a) × (a ≤ b) × (b ≤ length msg)
       member-in =
           let i = subst (PieceInside msg) q t.inside in
@@ -262,8 +261,8 @@ unfolding list_in
 list_is f number m l e = rw e
 
 module _ {A : Type 0} {read : Scope → Message → Read (Option A)} {rows : A → List Row} {cost : ℕ} {e : Lent} {msg : List ℕ} {base number : ℕ} {s : State}
-    (x : Checked) (t : (m : Message) → cut (◌from◌ base msg) ≡ ok m → CheckedTold (messages number m) x) where
-  pub list-uncut : {error err : WireError} → x ≡ checked.Refused error → err ≡ error → {S S' T T' : List ℕ}
+    (x : Result Unit WireError) (t : (m : Message) → cut (◌from◌ base msg) ≡ ok m → CheckedTold (messages number m) x) where
+  pub list-uncut : {error err : WireError} → x ≡ Err error → err ≡ error → {S S' T T' : List ℕ}
       → ListTold read rows cost e msg base number s (Err (stop.Wire err)) S S' T T'
   unfolding list_in
   list-uncut {error} {err} g q = record {
@@ -273,7 +272,7 @@ module _ {A : Type 0} {read : Scope → Message → Read (Option A)} {rows : A �
         rw (q, cuts);
   }
 
-  pub list-cut : x ≡ checked.Whole → {r : Listed} {S S' T T' : List ℕ} → ListAtTold read rows cost e msg base number s r S S' T T'
+  pub list-cut : x ≡ Ok tt → {r : Listed} {S S' T T' : List ℕ} → ListAtTold read rows cost e msg base number s r S S' T T'
       → ListTold read rows cost e msg base number s r S S' T T'
   list-cut g {r} {S} {S'} {T} {T'} u = record {
     spends = u.spends;

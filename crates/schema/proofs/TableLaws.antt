@@ -17,16 +17,8 @@ use Rattle.fields.specs.Fields.{TypeTable-type, TypeTable-first_nullable}
 use Rattle.wire.specs.Wire.{Message, cut}
 use Rattle.wire.specs.Messages.{index, as32, cut_all, messages}
 use Rattle.wire.specs.told.WireTold.{wire_refused, rest_of, part_between}
-use Rattle.messages.specs.told.Asked.{CheckedTold, index_told, bodies, NextBodyTold, EmbeddedIs, EmbeddedInside, EmbeddedTold}
+use Rattle.messages.specs.told.Asked.{span, CheckedTold, index_told, bodies, NextBodyTold, EmbeddedIs, EmbeddedInside, EmbeddedTold}
 use Rattle.wire.specs.declared.WireError.{WireError}
-use Rattle.messages.specs.declared.Checked.{Checked}
-use Rattle.messages.specs.declared.Checked.TheVariants as checked
-use Rattle.messages.specs.declared.Indexed.{Indexed}
-use Rattle.messages.specs.declared.Indexed.TheVariants as indexed
-use Rattle.wire.specs.declared.Piece.{Piece}
-use Rattle.wire.specs.declared.Piece.TheVariants as piece
-use Rattle.messages.specs.declared.Embedded.{Embedded}
-use Rattle.messages.specs.declared.Embedded.TheVariants as embedded
 use Rattle.messages.proofs.BodyLaws.{checked_at, part-is}
 use Rattle.characters.specs.told.Places.{part_from}
 use Rattle.characters.proofs.PartLaws.{part-part}
@@ -39,6 +31,9 @@ use Rattle.schema.specs.told.TableTold.{EntriesTold, TableTold, TypeIndexTold}
 use Rattle.schema.specs.declared.table.IndexError.{IndexError}
 use Rattle.schema.specs.declared.table.IndexError.TheVariants.{NoRoom, Wire}
 use Rattle.schema.specs.declared.table.TypeIndex.{TypeIndex}
+use Rattle.std.specs.declared.option.Option as rust
+use Rattle.std.specs.Prelude.{Some, None}
+use Rattle.foundation.specs.declared.Span.{Span}
 
 abbrev pub type_index : ℕ → ℕ → TypeIndex
 type_index count first = record { count = count; first = first }
@@ -107,25 +102,25 @@ noting_start bytes at notes m w = record {
   noted = entries_none bytes notes;
 }
 
-module _ (bytes : List ℕ) (start : ℕ) (notes : List ℕ) (count at : ℕ) (i : Noting bytes start notes count at) {r : Piece}
+module _ (bytes : List ℕ) (start : ℕ) (notes : List ℕ) (count at : ℕ) (i : Noting bytes start notes count at) {r : rust.Option Span}
     (t : NextBodyTold 0 bytes TypeTable-type at r) where
-  pub noting-none : r ≡ piece.Nothing → (m : Message) → cut (rest_of 0 bytes start) ≡ ok m → EntriesTold bytes m notes (Ok count)
+  pub noting-none : r ≡ None → (m : Message) → cut (rest_of 0 bytes start) ≡ ok m → EntriesTold bytes m notes (Ok count)
   unfolding cut_all
   noting-none g m w =
       let n = i m w in
       let e : bodies TypeTable-type n.rest ≡ [] = (subst (NextBodyTold 0 bytes TypeTable-type at) g t).is n.rest n.cuts in
       (n.before, n.whole ∙ rw e (ap ok (append-nil n.before)), n.noted)
 
-  module _ {a b : ℕ} (g : r ≡ piece.Body a b) where
-    next : NextBodyTold 0 bytes TypeTable-type at (piece.Body a b)
+  module _ {a b : ℕ} (g : r ≡ Some (span a b)) where
+    next : NextBodyTold 0 bytes TypeTable-type at (Some (span a b))
     next = subst (NextBodyTold 0 bytes TypeTable-type at) g t
 
     pub body-in : (a ≤ b) × (b ≤ length bytes) × (at < b)
     body-in = (next.inside.0, next.inside.1, next.later)
 
-    pub noting-refused : (c : Checked) → CheckedTold (cut (◌from◌ a (part_from a b bytes))) c → {error err : WireError} → c ≡ checked.Refused error
-        → err ≡ error → (m : Message) → cut (rest_of 0 bytes start) ≡ ok m → EntriesTold bytes m notes (Err (Wire err))
-    noting-refused c k {error} {err} q p m w =
+    pub noting-refused : (c : Result Unit WireError) → CheckedTold (cut (◌from◌ a (part_from a b bytes))) c → {error : WireError} → c ≡ Err error
+        → (m : Message) → cut (rest_of 0 bytes start) ≡ ok m → EntriesTold bytes m notes (Err (Wire error))
+    noting-refused c k {error} q m w =
         let n = i m w in
         let v = next.is n.rest n.cuts in
         let f : cut (part_between 0 bytes a b) ≡ wire_refused error =
@@ -133,7 +128,6 @@ module _ (bytes : List ℕ) (start : ℕ) (notes : List ℕ) (count at : ℕ) (i
         n.whole
         ∙ ap (λ (ps : List Part). after n.before (cut_all ps)) v.2
         ∙ after-refused n.before (part_between 0 bytes a b) (bodies TypeTable-type v.0) error f
-        ∙ ap (wire_refused {A = List Message}) (sym p)
 
     -- there is one entry more than were noted
     one_more_lem : (m : Message) (w : cut (rest_of 0 bytes start) ≡ ok m) → count < length (bodies TypeTable-type m)
@@ -146,7 +140,7 @@ module _ (bytes : List ℕ) (start : ℕ) (notes : List ℕ) (count at : ℕ) (i
     pub no_place : length notes ≤ count → (m : Message) → cut (rest_of 0 bytes start) ≡ ok m → EntriesTold bytes m notes (Err NoRoom)
     no_place h m w room = omega (arith, one_more_lem m w, room.long)
 
-    module _ (c : Checked) (k : CheckedTold (cut (◌from◌ a (part_from a b bytes))) c) (q : c ≡ checked.Whole) where
+    module _ (c : Result Unit WireError) (k : CheckedTold (cut (◌from◌ a (part_from a b bytes))) c) (q : c ≡ Ok tt) where
       inner : (x : Message) × (cut (part_between 0 bytes a b) ≡ ok x)
       inner = subst (CheckedTold (cut (part_between 0 bytes a b))) q (checked_at bytes a b c k)
 
@@ -174,11 +168,11 @@ module _ (bytes : List ℕ) (start : ℕ) (notes : List ℕ) (count at : ℕ) (i
           }
 
 -- from which entry on all are nullable
-module _ (o : Option ℕ) {y : Indexed} (e : o ≡ index_told y) where
-  pub first_none : y ≡ indexed.Nothing → o ≡ as32 4294967296
+module _ (o : Option ℕ) {y : rust.Option ℕ} (e : o ≡ index_told y) where
+  pub first_none : y ≡ None → o ≡ as32 4294967296
   first_none g = rw (e, g)
 
-  pub first_some : {i : ℕ} → y ≡ indexed.At i → i < 2 ^ 32 → o ≡ as32 i
+  pub first_some : {i : ℕ} → y ≡ Some i → i < 2 ^ 32 → o ≡ as32 i
   first_some {i} g h = rw (e, g, lt-ltb i (2 ^ 32) h)
 
 -- the table from a place to another
@@ -200,32 +194,32 @@ module _ (payload : List ℕ) (start end : ℕ) (h : start ≤ end) (m : Message
   table-unnoted {why = Wire error} g = told g
 
 -- the table in a field
-pub table-place : (payload : List ℕ) (at n : ℕ) {x : Embedded} → EmbeddedTold at (take (length payload - at) (drop at payload)) n x
-    → {a b : ℕ} → x ≡ embedded.Inline a b → (a ≤ b) × (b ≤ length payload - at)
+pub table-place : (payload : List ℕ) (at n : ℕ) {x : Result (rust.Option Span) WireError} → EmbeddedTold at (take (length payload - at) (drop at payload)) n x
+    → {a b : ℕ} → x ≡ Ok (Some (span a b)) → (a ≤ b) × (b ≤ length payload - at)
 table-place payload at n t g =
     let i = subst (EmbeddedInside (take (length payload - at) (drop at payload))) g t.inside in
     (i.0, omega (arith, length-take (length payload - at) (drop at payload)))
 
 module _ (payload : List ℕ) (at n : ℕ) (notes : List ℕ) where
-  module _ (m : Message) (w : cut (◌from◌ at (drop at payload)) ≡ ok m) {x : Embedded}
+  module _ (m : Message) (w : cut (◌from◌ at (drop at payload)) ≡ ok m) {x : Result (rust.Option Span) WireError}
       (t : EmbeddedTold at (take (length payload - at) (drop at payload)) n x) where
     body_is : cut (◌from◌ at (take (length payload - at) (drop at payload))) ≡ ok m
     body_is =
         let all : length (drop at payload) ≤ length payload - at = rw length-drop (omega arith) in
         ap (λ (bs : List ℕ). cut (◌from◌ at bs)) (take_all (length payload - at) (drop at payload) all) ∙ w
 
-    found : {y : Embedded} → x ≡ y → EmbeddedIs at (take (length payload - at) (drop at payload)) n m y
+    found : {y : Result (rust.Option Span) WireError} → x ≡ y → EmbeddedIs at (take (length payload - at) (drop at payload)) n m y
     found g = subst (EmbeddedIs at (take (length payload - at) (drop at payload)) n m) g (t.is m body_is)
 
-    pub index_none : x ≡ embedded.Nothing → TypeIndexTold payload at n m notes (Ok (type_index 0 4294967296))
+    pub index_none : x ≡ (Ok None) → TypeIndexTold payload at n m notes (Ok (type_index 0 4294967296))
     unfolding type_table_in
     index_none g = (no_table, (λ l. rw (found g)), entries_none payload notes, refl)
 
-    pub index-refused : {error : WireError} → x ≡ embedded.Refused error → TypeIndexTold payload at n m notes (Err (Wire error))
+    pub index-refused : {error : WireError} → x ≡ Err error → TypeIndexTold payload at n m notes (Err (Wire error))
     unfolding type_table_in
     index-refused g l = rw (found g)
 
-    module _ {a b : ℕ} (g : x ≡ embedded.Inline a b) where
+    module _ {a b : ℕ} (g : x ≡ Ok (Some (span a b))) where
       table-cuts : cut (◌from◌ (at + a) (part_from (at + a) (at + b) payload)) ≡ ok (found g).0
       table-cuts =
           let i = subst (EmbeddedInside (take (length payload - at) (drop at payload))) g t.inside in

@@ -17,14 +17,8 @@ use Rattle.foundation.specs.Results as Results
 use Rattle.foundation.specs.Results.{Res, ok, ◌from◌}
 use Rattle.wire.specs.Wire.{Message, cut}
 use Rattle.wire.specs.Messages.{index, as32}
-use Rattle.messages.specs.told.Asked.{EmbeddedIs, EmbeddedInside, EmbeddedTold, index_told}
+use Rattle.messages.specs.told.Asked.{span, EmbeddedIs, EmbeddedInside, EmbeddedTold, index_told}
 use Rattle.wire.specs.declared.WireError.{WireError}
-use Rattle.wire.specs.declared.Piece.{Piece}
-use Rattle.wire.specs.declared.Piece.TheVariants as piece
-use Rattle.messages.specs.declared.Indexed.{Indexed}
-use Rattle.messages.specs.declared.Indexed.TheVariants as indexed
-use Rattle.messages.specs.declared.Embedded.{Embedded}
-use Rattle.messages.specs.declared.Embedded.TheVariants as embedded
 use Rattle.sheet.specs.Rows.{Row}
 use Rattle.sheet.specs.declared.State.{State}
 use Rattle.declaration_rows.specs.Declarations.{invariant, Ty}
@@ -33,6 +27,9 @@ use Rattle.schema.specs.Types.{max_depth, resolve_at, type_in, type_at, declared
 use Rattle.schema.specs.told.SchemaTold.{Lent, Walked, Picked, entries_in, Scoped, Ready, Spends, WalkedSpends, PickedSpends, WalkedTold, PickedTold}
 use Rattle.schema.specs.told.TypesTold.{or_nullable, rows_in, picked_of, EntryIs, EntryTold, ParseTold, ResolveTold, TypeInTold, DeclaredTold}
 use Rattle.schema.specs.declared.Stop.TheVariants as stop
+use Rattle.std.specs.declared.option.Option as rust
+use Rattle.std.specs.Prelude.{Some, Result}
+use Rattle.foundation.specs.declared.Span.{Span}
 
 -- Room is kept by what spends no more than is counted.
 pub spends_none : (s : State) → Spends s s
@@ -68,15 +65,15 @@ picked_told r r' rows f s (Ok s') S S' T T' e (a, b, q, p) = (f a, b, e ∙ rw q
 picked_told r r' rows f s (Err stop) S S' T T' e q = e ∙ rw q
 
 -- A type in a message.
-pub inline_in : (base : ℕ) (msg : List ℕ) (n : ℕ) {x : Embedded} → EmbeddedTold base msg n x → {a b : ℕ} → x ≡ embedded.Inline a b
+pub inline_in : (base : ℕ) (msg : List ℕ) (n : ℕ) {x : Result (rust.Option Span) WireError} → EmbeddedTold base msg n x → {a b : ℕ} → x ≡ Ok (Some (span a b))
     → (a ≤ b) × (b ≤ length msg)
 inline_in base msg n t g = let i = subst (EmbeddedInside msg) g t.inside in (i.0, i.1)
 
-module _ (e : Lent) (msg : List ℕ) (base inline by_index left role : ℕ) (s : State) {x : Embedded} (t : EmbeddedTold base msg inline x) where
-  here : {y : Embedded} → x ≡ y → (m : Message) → cut (◌from◌ base msg) ≡ ok m → EmbeddedIs base msg inline m y
+module _ (e : Lent) (msg : List ℕ) (base inline by_index left role : ℕ) (s : State) {x : Result (rust.Option Span) WireError} (t : EmbeddedTold base msg inline x) where
+  here : {y : Result (rust.Option Span) WireError} → x ≡ y → (m : Message) → cut (◌from◌ base msg) ≡ ok m → EmbeddedIs base msg inline m y
   here g m k = subst (EmbeddedIs base msg inline m) g (t.is m k)
 
-  pub type-inline : {a b : ℕ} → x ≡ embedded.Inline a b → {w : Walked} {r : Picked} {S S' T T' : List ℕ}
+  pub type-inline : {a b : ℕ} → x ≡ Ok (Some (span a b)) → {w : Walked} {r : Picked} {S S' T T' : List ℕ}
       → ParseTold e (take (b - a) (drop a msg)) (base + a) left role invariant false s w S S' T T' → r ≡ picked_of w
       → TypeInTold e msg base inline by_index left role s r S S' T T'
   unfolding type_in
@@ -89,17 +86,17 @@ module _ (e : Lent) (msg : List ℕ) (base inline by_index left role : ℕ) (s :
       } in
       subst (λ (y : Picked). TypeInTold e msg base inline by_index left role s y S S' T T') (sym q) told
 
-  pub type-refused : {error : WireError} → x ≡ embedded.Refused error → {S S' T T' : List ℕ}
+  pub type-refused : {error : WireError} → x ≡ Err error → {S S' T T' : List ℕ}
       → TypeInTold e msg base inline by_index left role s (Err (stop.Wire error)) S S' T T'
   unfolding type_in
   type-refused g = record { spends = tt; is = λ c o m k d l. rw (here g m k) }
 
-  module _ (g : x ≡ embedded.Nothing) {y : Indexed} (i : (m : Message) → cut (◌from◌ base msg) ≡ ok m → index by_index m ≡ index_told y) where
-    pub type-nowhere : y ≡ indexed.Nothing → {S T : List ℕ} → TypeInTold e msg base inline by_index left role s (Ok None) S S T T
+  module _ (g : x ≡ (Ok None)) {y : rust.Option ℕ} (i : (m : Message) → cut (◌from◌ base msg) ≡ ok m → index by_index m ≡ index_told y) where
+    pub type-nowhere : y ≡ None → {S T : List ℕ} → TypeInTold e msg base inline by_index left role s (Ok None) S S T T
     unfolding type_in
     type-nowhere h = record { spends = tt; is = λ c o m k d l. (rw (here g m k, i m k, h), refl, refl) }
 
-    pub type-indexed : {n : ℕ} → y ≡ indexed.At n → {r : Picked} {S S' T T' : List ℕ} → ResolveTold e n left role invariant s r S S' T T'
+    pub type-indexed : {n : ℕ} → y ≡ Some n → {r : Picked} {S S' T T' : List ℕ} → ResolveTold e n left role invariant s r S S' T T'
         → TypeInTold e msg base inline by_index left role s r S S' T T'
     unfolding type_in
     type-indexed {n} h {r} {S} {S'} {T} {T'} p = record {
@@ -149,14 +146,14 @@ module _ (e : Lent) (i left role projection : ℕ) (s : State) where
   pub resolve-none-left : left ≡ 0 → {S T : List ℕ} → ResolveTold e i left role projection s (Ok None) S S T T
   resolve-none-left h = record { spends = tt; is = λ c o d l. (resolve_deep c d i s.types (omega arith), refl, refl) }
 
-  module _ {x : Piece} (t : EntryTold e.payload (entries_in e.tables e.notes) e.tables.types i x) where
-    found : {y : Piece} → x ≡ y → (c : Scope) → Scoped e c → EntryIs e.payload (get_elem? c.table.types i) y
+  module _ {x : rust.Option Span} (t : EntryTold e.payload (entries_in e.tables e.notes) e.tables.types i x) where
+    found : {y : rust.Option Span} → x ≡ y → (c : Scope) → Scoped e c → EntryIs e.payload (get_elem? c.table.types i) y
     found g c o = subst (EntryIs e.payload (get_elem? c.table.types i)) g (t.is c.table.types o.entries)
 
-    pub resolve-nowhere : x ≡ piece.Nothing → {S T : List ℕ} → ResolveTold e i left role projection s (Ok None) S S T T
+    pub resolve-nowhere : x ≡ None → {S T : List ℕ} → ResolveTold e i left role projection s (Ok None) S S T T
     resolve-nowhere g = record { spends = tt; is = λ c o d l. (resolve_nothing c d i s.types (found g c o), refl, refl) }
 
-    pub resolve-found : {a b : ℕ} → x ≡ piece.Body a b → (left ≡ 0 → ⊥) → i < 2 ^ 32
+    pub resolve-found : {a b : ℕ} → x ≡ Some (span a b) → (left ≡ 0 → ⊥) → i < 2 ^ 32
         → {n : Bool} → n ≡ leb e.tables.first_nullable i → {w : Walked} {r : Picked} {S S' T T' : List ℕ}
         → ParseTold e (take (b - a) (drop a e.payload)) a (left - 1) role projection n s w S S' T T' → r ≡ picked_of w
         → ResolveTold e i left role projection s r S S' T T'

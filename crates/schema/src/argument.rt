@@ -5,8 +5,8 @@ ghost use Rattle.schema.specs.Types.{projection_of};
 ghost use Rattle.schema.specs.told.ArgumentTold.{ArgumentHeadTold};
 
 use fields::{TYPE_ARGUMENT_PROJECTION, TYPE_ARGUMENT_TYPE, TYPE_ARGUMENT_TYPE_ID};
-use messages::{Found, Indexed, find_three};
-use wire::{Number, Piece};
+use messages::{find_three, index_in, number_in, piece_in};
+use wire::WireValue;
 
 // Projections, by the numbers of metadata.proto: 0 in, 1 out, 2 invariant, 3 star. A type that is no argument is invariant.
 pub const INVARIANT: u8 = 2;
@@ -31,17 +31,13 @@ pub enum ArgumentHead {
 }
 
 // What is none of the four numbers is invariant.
-fn projection_of(found: Found) -> u8
+fn projection_of(found: Option<WireValue>) -> u8
     ensures { result ≡ projection_of (number_told (number_in found)) }
 {
-    let number = found.varint();
-    let Number::Value { value } = number else {
-        return INVARIANT;
-    };
-    if value < 4 {
-        return value as u8;
+    match number_in(found) {
+        Some(value) if value < 4 => value as u8,
+        _ => INVARIANT,
     }
-    INVARIANT
 }
 
 // The argument in a message that is cut. The type of a star is not asked for.
@@ -49,30 +45,25 @@ pub fn argument_head(msg: &[u8], base: u32) -> ArgumentHead
     ensures { ArgumentHeadTold base msg.now result }
 {
     let found = find_three(
-        &*msg,
+        msg,
         base,
         TYPE_ARGUMENT_PROJECTION,
         TYPE_ARGUMENT_TYPE,
         TYPE_ARGUMENT_TYPE_ID,
     );
-    let first = found.first;
-    let projection = projection_of(first);
+    let projection = projection_of(found.first);
     if projection == STAR {
         return ArgumentHead::Star;
     }
-    let second = found.second;
-    let piece = second.bytes();
-    let Piece::Body { start, end } = piece else {
-        let third = found.third;
-        let at = third.index();
-        let Indexed::At { index } = at else {
-            return ArgumentHead::Nothing;
+    if let Some(part) = piece_in(found.second) {
+        return ArgumentHead::Inline {
+            projection,
+            start: part.start,
+            end: part.end,
         };
-        return ArgumentHead::ByIndex { projection, index };
-    };
-    ArgumentHead::Inline {
-        projection,
-        start,
-        end,
+    }
+    match index_in(found.third) {
+        Some(index) => ArgumentHead::ByIndex { projection, index },
+        None => ArgumentHead::Nothing,
     }
 }

@@ -9,13 +9,13 @@ ghost use Rattle.messages.specs.told.Asked.{number_told, index_told};
 ghost use Rattle.schema.specs.told.HeadTold.{is_body, Known, HeadTold};
 
 use fields::{TYPE_ARGUMENT, TYPE_CLASS_NAME, TYPE_NULLABLE};
-use messages::{Found, Indexed};
-use wire::{FieldStep, Number, Piece, WireValue, field_at};
+use messages::index_in;
+use wire::{FieldStep, WireValue, field_at};
 
 // The index of its class name, whether it says that it is nullable, and whether it has an argument.
 #[derive(Clone, Copy)]
 pub struct TypeHead {
-    pub name: Indexed,
+    pub name: Option<u32>,
     pub nullable: bool,
     pub arguments: bool,
 }
@@ -23,36 +23,30 @@ pub struct TypeHead {
 // The same of the fields before a place: what its class name and its flag say once they were seen. Of each the first counts.
 #[derive(Clone, Copy)]
 struct Seen {
-    name: Option<Indexed>,
+    name: Option<Option<u32>>,
     nullable: Option<bool>,
     arguments: bool,
 }
 
-fn index_of(value: WireValue) -> Indexed
+fn index_of(value: WireValue) -> Option<u32>
     ensures { (k : ℕ) (m : Message) → varint_of k m ≡ number_told (value_number value) → index k m ≡ index_told result }
 {
-    let found = Found::Value { value };
-    found.index()
+    index_in(Some(value))
 }
 
 fn is_set(value: WireValue) -> bool
     ensures { (k : ℕ) (m : Message) → varint_of k m ≡ number_told (value_number value) → flag k m ≡ result }
 {
-    let found = value.varint();
-    let Number::Value { value: n } = found else {
-        return false;
-    };
-    n != 0
+    match value.varint() {
+        Some(n) => n != 0,
+        None => false,
+    }
 }
 
 fn is_body(value: WireValue) -> bool
     ensures { result ≡ is_body (piece_of value) }
 {
-    let found = value.bytes();
-    let Piece::Nothing = found else {
-        return true;
-    };
-    false
+    value.bytes().is_some()
 }
 
 impl Seen {
@@ -135,7 +129,7 @@ pub fn type_head(msg: &[u8], base: u32) -> TypeHead
 {
     let seen = seen_in(&*msg, base);
     TypeHead {
-        name: seen.name.unwrap_or(Indexed::Nothing),
+        name: seen.name.unwrap_or(None),
         nullable: seen.nullable.unwrap_or(false),
         arguments: seen.arguments,
     }

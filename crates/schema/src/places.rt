@@ -8,8 +8,7 @@ use crate::argument::{ArgumentHead, argument_head};
 use crate::types::entry_at;
 use crate::{FoundType, MAX_DEPTH, Tables, TypeSlot};
 use fields::TYPE_ARGUMENT;
-use messages::{Indexed, bytes, index, next_body};
-use wire::Piece;
+use messages::{bytes, index, next_body};
 
 // The type at an index of the type table.
 fn entry_place(
@@ -25,13 +24,10 @@ fn entry_place(
     if left == 0 {
         return None;
     }
-    let entry = entry_at(&*payload, &*notes, tables, index);
-    let Piece::Body { start, end } = entry else {
-        return None;
-    };
+    let entry = entry_at(payload, notes, tables, index)?;
     Some(FoundType {
-        start,
-        end,
+        start: entry.start,
+        end: entry.end,
         nullable: tables.first_nullable <= index as u64,
         left: left - 1,
     })
@@ -63,15 +59,11 @@ fn type_place(
     requires { Stands payload.now msg.now base × (length payload.now ≤ 32768) }
     ensures { PlaceFound payload.now notes.now tables base (base + length msg.now) slot.inline slot.indexed left result }
 {
-    let inner = bytes(msg, base, slot.inline);
-    match inner {
-        Piece::Body { start, end } => Some(inline_place(base, start, end, left)),
-        Piece::Nothing => {
-            let found = index(msg, base, slot.indexed);
-            let Indexed::At { index: i } = found else {
-                return None;
-            };
-            entry_place(i, left, payload, notes, tables)
+    match bytes(msg, base, slot.inline) {
+        Some(part) => Some(inline_place(base, part.start, part.end, left)),
+        None => {
+            let found = index(msg, base, slot.indexed)?;
+            entry_place(found, left, payload, notes, tables)
         }
     }
 }
@@ -107,12 +99,9 @@ pub fn first_argument(
 {
     let mut at = 0;
     loop {
-        let piece = next_body(msg, base, TYPE_ARGUMENT, at);
-        let Piece::Body { start, end } = piece else {
-            return None;
-        };
-        let first = base + start as u32;
-        let head = argument_head(&msg[start..end], first);
+        let part = next_body(msg, base, TYPE_ARGUMENT, at)?;
+        let first = base + part.start as u32;
+        let head = argument_head(&msg[part.start..part.end], first);
         match head {
             ArgumentHead::Star => return None,
             ArgumentHead::Inline {
@@ -132,6 +121,6 @@ pub fn first_argument(
             }
             ArgumentHead::Nothing => {}
         }
-        at = end;
+        at = part.end;
     }
 }

@@ -12,9 +12,9 @@ ghost use Rattle.schema.specs.declared.table.IndexError.TheVariants.{Wire};
 ghost use Rattle.schema.specs.told.TableTold.{EntriesTold, TableTold, TypeIndexTold};
 
 use fields::{TYPE_TABLE_FIRST_NULLABLE, TYPE_TABLE_TYPE};
-use messages::{Checked, Embedded, Indexed, check, index, message, next_body};
+use messages::{check, index, message, next_body};
 use names::records::packed;
-use wire::{Piece, WireError};
+use wire::WireError;
 
 // No entry is nullable by its place.
 const NONE: u64 = 4294967296;
@@ -56,20 +56,17 @@ fn note_entries(bytes: &[u8], at: usize, notes: &mut [u64]) -> Result<usize, Ind
     let mut count: usize = 0;
     let mut i = at;
     loop {
-        let piece = next_body(&*bytes, 0, TYPE_TABLE_TYPE, i);
-        let Piece::Body { start, end } = piece else {
+        let Some(entry) = next_body(bytes, 0, TYPE_TABLE_TYPE, i) else {
             return Ok(count);
         };
-        let checked = check(&bytes[start..end], start as u32);
-        let Checked::Whole = checked else {
-            return Err(IndexError::Wire(checked.error()));
-        };
+        let base = entry.start as u32;
+        check(&bytes[entry.start..entry.end], base)?;
         if notes.len() <= count {
             return Err(IndexError::NoRoom);
         }
-        put_entry(notes, count, start as u32, end as u32);
+        put_entry(notes, count, base, entry.end as u32);
         count += 1;
-        i = end;
+        i = entry.end;
     }
 }
 
@@ -77,11 +74,10 @@ fn note_entries(bytes: &[u8], at: usize, notes: &mut [u64]) -> Result<usize, Ind
 fn first_nullable(table: &[u8], base: u32) -> u64
     ensures { (m : Message) → cut (◌from◌ base table.now) ≡ ok m → index TypeTable-first_nullable m ≡ as32 result }
 {
-    let found = index(&*table, base, TYPE_TABLE_FIRST_NULLABLE);
-    let Indexed::At { index: first } = found else {
-        return NONE;
-    };
-    first as u64
+    match index(table, base, TYPE_TABLE_FIRST_NULLABLE) {
+        Some(first) => u64::from(first),
+        None => NONE,
+    }
 }
 
 // The type table from a place to another of the decoded bytes.
@@ -114,11 +110,9 @@ pub fn index_types(
     if 4294967295 < payload.len() {
         return Err(IndexError::NoRoom);
     }
-    let table = message(&payload[at..], at as u32, number);
-    match table {
-        Embedded::Inline { start, end } => note_table(&*payload, at + start, at + end, notes),
-        Embedded::Refused { error } => Err(IndexError::Wire(error)),
-        Embedded::Nothing => Ok(TypeIndex {
+    match message(&payload[at..], at as u32, number)? {
+        Some(table) => note_table(payload, at + table.start, at + table.end, notes),
+        None => Ok(TypeIndex {
             count: 0,
             first: NONE,
         }),

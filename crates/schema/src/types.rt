@@ -4,33 +4,32 @@ ghost use Rattle.schema.specs.told.SchemaTold.{entries_in};
 ghost use Rattle.schema.specs.told.TypesTold.{EntryTold};
 
 use crate::Tables;
-use foundation::wide;
+use foundation::{Span, wide};
 use names::records::RECORD_WORDS;
-use wire::Piece;
 
 // Where an entry of the type table stands, if there is one at the index.
-pub fn entry_at(payload: &[u8], notes: &[u64], tables: Tables, index: u32) -> Piece
+pub fn entry_at(payload: &[u8], notes: &[u64], tables: Tables, index: u32) -> Option<Span>
     ensures { EntryTold payload.now (entries_in tables notes.now) tables.types index result }
 {
     let i = wide(index);
     if tables.types <= i {
-        return Piece::Nothing;
+        return None;
     }
     let records = tables.records;
     if notes.len() / RECORD_WORDS < records {
-        return Piece::Nothing;
+        return None;
     }
     if notes.len() - RECORD_WORDS * records <= i {
-        return Piece::Nothing;
+        return None;
     }
     let place = notes[RECORD_WORDS * records + i];
     let start = (place % 4294967296) as usize;
     let end = (place / 4294967296) as usize;
     if payload.len() < end {
-        return Piece::Nothing;
+        return None;
     }
     if end < start {
-        return Piece::Nothing;
+        return None;
     }
-    Piece::Body { start, end }
+    Some(Span { start, end })
 }

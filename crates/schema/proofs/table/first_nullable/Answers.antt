@@ -4,8 +4,8 @@ use Rattle.wire.specs.Messages.{index}
 use Rattle.schema.proofs.TableLaws.{first_none, first_some}
 use Rattle.schema.proofs.table.first_nullable.Goals as goal
 
-pub returns-in_default : goal.returns-in_default
-returns-in_default c = λ m k. first_none (index TypeTable-first_nullable m) (c.index-found.ensures m k) c.in_default.is
+pub returns-in-None : goal.returns-in-None
+returns-in-None c = λ m k. first_none (index TypeTable-first_nullable m) (c.index.ensures m k) c.in-None.is
 
-pub returns : goal.returns
-returns c = λ m k. first_some (index TypeTable-first_nullable m) (c.index-found.ensures m k) c.in-At.is (omega arith)
+pub returns-in-Some : goal.returns-in-Some
+returns-in-Some c = rw c.from.ensures λ m k. first_some (index TypeTable-first_nullable m) (c.index.ensures m k) c.in-Some.is (omega arith)
