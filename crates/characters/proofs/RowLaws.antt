@@ -16,7 +16,7 @@ use Rattle.std.specs.Prelude.{if◌then◌else◌}
 use Rattle.foundation.specs.Choices.{All, IfSome, map_option, if_some}
 use Rattle.characters.specs.Characters.{between, Range, ◌to◌, in_range, trail, Lead, ◌then◌, leads, lead_of, run, leading, step, step_by, replacement}
 use Rattle.characters.specs.told.CharactersTold.{read, LeadByte, lead_byte, lead_byte_of, ranges, go_on, utf8_at}
-use Rattle.std.specs.declared.option.Option.TheVariants.{Some, None}
+use Rattle.std.specs.declared.option.Option.TheVariants.{None}
 use Rattle.characters.proofs.TestLaws.{in_between, bounds, above, under}
 use Rattle.foundation.proofs.EveryLaws.{every, every_all, some_map}
 use Rattle.characters.proofs.Utf8Laws.{lead_of_lem}

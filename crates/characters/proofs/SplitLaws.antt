@@ -18,8 +18,8 @@ use Rattle.foundation.proofs.ChoiceLaws.{if_ind, drop-take}
 use Rattle.characters.specs.Characters.{width, utf8, Range, in_range, Lead, leads, lead_of, run, step, step_by, from_utf8_after, from_utf8}
 use Rattle.characters.specs.told.Places.{place_after, place_of}
 use Rattle.characters.specs.Splits.{Halves, halves, split_at, substring_of}
-use Rattle.characters.specs.told.CharactersTold.{Character, read, utf8_at}
-use Rattle.std.specs.declared.option.Option.TheVariants.{Some, None}
+use Rattle.characters.specs.told.CharactersTold.{read, utf8_at}
+use Rattle.std.specs.declared.option.Option.TheVariants.{None}
 use Rattle.characters.proofs.TestLaws.{below}
 use Rattle.foundation.proofs.EveryLaws.{map_same, map_twice, some_map}
 use Rattle.characters.proofs.StepLaws.{alone, Joins, split_joins}

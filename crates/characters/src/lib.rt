@@ -6,7 +6,7 @@ ghost use Rattle.std.specs.Prelude.{◌≡◌, [], ◌∷◌, ◌+◌, ◌*◌, 
 ghost use Rattle.std.proofs.lemmas.List.Edits.{sets};
 ghost use Rattle.std.proofs.Math.Option.{some};
 ghost use Rattle.characters.specs.Characters.{width};
-ghost use Rattle.characters.specs.told.Places.{place_of, part_from};
+ghost use Rattle.characters.specs.told.Places.{place_of};
 ghost use Rattle.characters.specs.told.CharactersTold.{read, lead_byte, lead_byte_of, first_byte_told, ranges, go_on, utf8_at, paired_at, utf16_at, place_told, PutCharacter};
 
 use foundation::Read;
@@ -116,11 +116,11 @@ pub fn utf8_at(s: &[u8], at: usize) -> Option<Read<u32>>
 }
 
 // The character that a high surrogate begins: the next unit, at `at`, is its other half, or it is alone.
-fn paired_at(units: &[u16], at: usize, end: usize, high: u32) -> Option<Read<u32>>
+fn paired_at(units: &[u16], at: usize, high: u32) -> Option<Read<u32>>
     requires { (0xd800 ≤ high) × (high ≤ 0xdbff) }
-    ensures { result ≡ paired_at high at (part_from at end units.now) }
+    ensures { result ≡ paired_at high at (drop at units.now) }
 {
-    if end <= at || units.len() <= at {
+    if units.len() <= at {
         return replaced(at);
     }
     let low = u32::from(units[at]);
@@ -133,11 +133,11 @@ fn paired_at(units: &[u16], at: usize, end: usize, high: u32) -> Option<Read<u32
     })
 }
 
-// The character at a place of a string of 16-bit units that ends at `end`.
-pub fn utf16_at(units: &[u16], at: usize, end: usize) -> Option<Read<u32>>
-    ensures { result ≡ utf16_at at (part_from at end units.now) }
+// The character at a place of a string of 16-bit units.
+pub fn utf16_at(units: &[u16], at: usize) -> Option<Read<u32>>
+    ensures { result ≡ utf16_at at (drop at units.now) }
 {
-    if end <= at || units.len() <= at {
+    if units.len() <= at {
         return None;
     }
     let unit = u32::from(units[at]);
@@ -148,7 +148,7 @@ pub fn utf16_at(units: &[u16], at: usize, end: usize) -> Option<Read<u32>>
     if 0xdbff < unit {
         return replaced(next);
     }
-    paired_at(units, next, end, unit)
+    paired_at(units, next, unit)
 }
 
 // How many bytes UTF-8 gives a character.
