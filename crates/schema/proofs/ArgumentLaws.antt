@@ -3,19 +3,19 @@
 use mathlib.Core.Path.{◌≡◌, refl, ap, sym, subst, ◌∙◌}
 use mathlib.Core.List.{List, [], ◌∷◌, ◌++◌, append-nil}
 use mathlib.Core.Option.{none, some}
-use Prim.Native.Nat.{ℕ, suc, ◌<◌}
+use Prim.Native.Nat.{ℕ, suc, ◌≤◌, ◌<◌}
 use native.Mathlib.Omega.{arith}
-use borrow.Author.Tests.{ne_eqb, le-leb}
+use borrow.Author.Tests.{ne_eqb, le-leb, lt-leb}
 use lib.ListN.{length}
 use Rattle.foundation.specs.Choices.{map_option}
 use Rattle.foundation.specs.Results.{ok, ◌from◌}
 use Rattle.fields.specs.Fields.{Type-Argument-projection, Type-Argument-type, Type-Argument-type_id}
 use Rattle.wire.specs.Wire.{Message, cut}
 use Rattle.wire.specs.Messages.{index, bytes_of}
-use Rattle.messages.specs.told.Asked.{span, FoundTold, number_told, number_in, piece_in, piece_told, PieceInside, BytesTold, index_told, index_in}
+use Rattle.messages.specs.told.Asked.{FoundTold, number_told, number_in, piece_in, piece_told, PieceInside, BytesTold, index_told, index_in}
 use Rattle.messages.proofs.FindLaws.{number_is, index_is, piece_is}
 use Rattle.sheet.specs.Rows.{Row, row}
-use Rattle.declaration_rows.specs.Declarations.{star, Argument, projected, blank, types_of, count_of}
+use Rattle.declaration_rows.specs.Declarations.{invariant, star, Argument, projected, blank, types_of, count_of}
 use Rattle.declaration_rows.specs.Rows.{argument_role, type_cells, types_rows}
 use Rattle.schema.specs.Reading.{pure, ◌>>=◌, enter, Scope}
 use Rattle.schema.specs.Types.{Walk, type_in, projection_of, projection_in, argument_in}
@@ -23,7 +23,8 @@ use Rattle.schema.specs.told.ArgumentTold.{NoStar, ArgumentHeadIs, ArgumentHeadI
 use Rattle.schema.specs.told.TypesTold.{rows_in}
 use Rattle.schema.specs.declared.argument.ArgumentHead.{ArgumentHead}
 use Rattle.schema.specs.declared.argument.ArgumentHead.TheVariants as argument
-use Rattle.std.specs.Prelude.{Option, Some, None}
+use Rattle.std.specs.declared.option.Option.{Option}
+use Rattle.std.specs.declared.option.Option.TheVariants.{Some, None}
 use Rattle.foundation.specs.declared.Span.{Span}
 use Rattle.wire.specs.declared.WireValue.{WireValue}
 
@@ -62,11 +63,11 @@ module _ (base : ℕ) (msg : List ℕ) {r : ArgumentHead} (t : ArgumentHeadTold 
   pub star-is : r ≡ argument.Star → (m : Message) → cut (◌from◌ base msg) ≡ ok m → projection_in m ≡ star
   star-is g m k = head-is g m k
 
-  module _ {p x y : ℕ} (g : r ≡ argument.Inline p x y) where
+  module _ {p : ℕ} {b : Span} (g : r ≡ argument.Inline p b) where
     pub inline-typed : (m : Message) → cut (◌from◌ base msg) ≡ ok m → NoStar p m
     inline-typed m k = (head-is g m k).0
 
-    pub inline-bytes : BytesTold base msg Type-Argument-type (Some (span x y))
+    pub inline-bytes : BytesTold base msg Type-Argument-type (Some b)
     inline-bytes = record { is = λ m k. (head-is g m k).1; inside = subst (ArgumentHeadInside msg) g t.inside }
 
   module _ {p i : ℕ} (g : r ≡ argument.ByIndex p i) where
@@ -89,10 +90,13 @@ module _ (base : ℕ) (msg : List ℕ) {r : ArgumentHead} (t : ArgumentHeadTold 
     pub nothing-index : (m : Message) → cut (◌from◌ base msg) ≡ ok m → index Type-Argument-type_id m ≡ index_told None
     nothing-index m k = (head-is g m k).2
 
--- A number that is one of the four.
+-- A number that is one of the four, and another.
 module _ (f : Option WireValue) {x : Option ℕ} (e : x ≡ number_in f) {n : ℕ} (g : x ≡ Some n) where
   pub projection-small : n < 4 → n ≡ projection_of (number_told (number_in f))
   projection-small h = rw (← e, g, le-leb n star (omega arith))
+
+  pub projection-large : 4 ≤ n → invariant ≡ projection_of (number_told (number_in f))
+  projection-large h = rw (← e, g, lt-leb n star (omega arith))
 
 -- The same from what was found of its three fields.
 module _ (base : ℕ) (msg : List ℕ) {one two three : Option WireValue} (a : FoundTold base msg Type-Argument-projection one)
@@ -112,7 +116,7 @@ module _ (base : ℕ) (msg : List ℕ) {one two three : Option WireValue} (a : F
     typed-is : (m : Message) → cut (◌from◌ base msg) ≡ ok m → NoStar p m
     typed-is m k = record { is = projection-is m k; no-star = other }
 
-    pub head-inline : {u v : ℕ} → x ≡ Some (span u v) → ArgumentHeadTold base msg (argument.Inline p u v)
+    pub head-inline : {u : Span} → x ≡ Some u → ArgumentHeadTold base msg (argument.Inline p u)
     head-inline g = record {
       is = λ m k. (typed-is m k, bytes-are.is m k ∙ ap (piece_told base msg) g);
       inside = subst (PieceInside msg) g bytes-are.inside;

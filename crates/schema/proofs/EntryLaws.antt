@@ -12,15 +12,16 @@ use Rattle.foundation.specs.Results.{Res, ok}
 use Rattle.foundation.specs.Texts.{Text}
 use Rattle.foundation.proofs.PresenceLaws.{elem_none, elem_there}
 use Rattle.wire.specs.Wire.{Message}
-use Rattle.messages.specs.told.Asked.{span, index_told}
+use Rattle.messages.specs.told.Asked.{index_told}
 use Rattle.names.specs.told.Index.{start_of, end_of}
 use Rattle.names.specs.Names.{Names, strings_from, d2_string}
 use Rattle.schema.specs.Reading.{pure, lift}
 use Rattle.schema.specs.told.SchemaTold.{EntryAt, EntriesOf, NamesOf}
 use Rattle.schema.specs.told.TypesTold.{EntryInside, EntryBelow, EntryTold}
 use Rattle.std.specs.declared.option.Option as rust
-use Rattle.std.specs.Prelude.{Some, None}
+use Rattle.std.specs.declared.option.Option.TheVariants.{Some, None}
 use Rattle.foundation.specs.declared.Span.{Span}
+use Rattle.messages.specs.told.Asked.{span}
 
 module _ (payload notes : List ℕ) (first count i : ℕ) {j : ℕ} (e : j ≡ i) where
   pub entry_past : count ≤ j → EntryTold payload (drop first notes) count i None

@@ -4,9 +4,8 @@ use mathlib.Core.Path.{◌≡◌, refl, ap, sym, subst, ◌∙◌}
 use mathlib.Core.Bool.{Bool, false}
 use mathlib.Core.List.{List, [], ◌∷◌}
 use mathlib.Core.Option.{Option, none, some}
-use Prim.Native.Nat.{ℕ, zero, suc, ◌+◌, ◌-◌, ◌^◌, ◌≤◌, ◌<◌}
+use Prim.Native.Nat.{ℕ, zero, suc, ◌+◌, ◌-◌, ◌≤◌, ◌<◌}
 use native.Mathlib.Omega.{arith}
-use lib.Dec.{leb}
 use lib.ListN.{length, take, drop, get_elem?}
 use Rattle.std.specs.declared.option.Option as rust
 use Rattle.std.specs.declared.option.Option.TheVariants.{Some, None}
@@ -17,12 +16,12 @@ use Rattle.fields.specs.Fields.{Type-argument, Type-Argument-type, Type-Argument
 use Rattle.wire.specs.Wire.{Message, cut}
 use Rattle.wire.specs.Messages.{index, cut_option, message, messages, cut_all}
 use Rattle.wire.specs.told.WireTold.{rest_of, part_between}
-use Rattle.messages.specs.told.Asked.{span, piece_told, PieceInside, BytesTold, index_told, bodies, NextIs, NextBodyTold, PieceAfter}
+use Rattle.messages.specs.told.Asked.{piece_told, PieceInside, BytesTold, index_told, bodies, NextIs, NextBodyTold, PieceAfter}
 use Rattle.wire.proofs.WalkLaws.{whole, ok_same}
 use Rattle.declaration_rows.specs.Declarations.{star, Ty, Argument, projected, blank}
 use Rattle.schema.specs.Reading.{Read, pure, enter, keep, kept, Scope, allowance}
 use Rattle.schema.specs.Types.{max_depth, type_in, projection_in, argument_in, type_at, declared_type}
-use Rattle.schema.specs.told.SchemaTold.{EntryAt, Stands, entries_in}
+use Rattle.schema.specs.told.SchemaTold.{entry_nullable, EntryAt, Stands, entries_in}
 use Rattle.schema.specs.told.TypesTold.{or_nullable, EntryIs, EntryInside, EntryTold}
 use Rattle.schema.specs.told.PlacesTold.{found_type, TableOf, FoundTypeTold, FoundTypeFalls, EntryFound, PlaceFound, head_type, Unnamed, ElementTold, DeclaredFound, ArgumentFound}
 use Rattle.schema.specs.declared.Tables.{Tables}
@@ -32,6 +31,7 @@ use Rattle.schema.proofs.TypeLaws.{resolve_nothing, resolve_deep, resolve_entry}
 use Rattle.schema.proofs.ListLaws.{First, cut-first}
 use Rattle.schema.proofs.StandsLaws.{stands-cut, stands-entry, body-ends, body-stands, body_entry}
 use Rattle.foundation.specs.declared.Span.{Span}
+use Rattle.messages.specs.told.Asked.{span}
 
 -- A reading that was accepted: what it was made of was.
 pub never_given : {A B : Type 0} {c : Results.Cause} {p : ℕ} {a : A} → ◌≡◌ {A = Res A} (refused c p) (ok a) → B
@@ -76,9 +76,9 @@ module _ (payload notes : List ℕ) (tables : Tables) (i left : ℕ) where
       is = λ c s d deep o l b e. sym (first-same (sym (resolve_nothing c d i l (there g c s)) ∙ e));
     }
 
-    pub entry-there : length payload ≤ 32768 → (left ≡ 0 → ⊥) → i < 2 ^ 32 → {a b : ℕ} → x ≡ Some (span a b)
-        → EntryFound payload notes tables i left (Some (found_type a b (leb tables.first_nullable i) (left - 1)))
-    entry-there short h k {a} {b} g =
+    pub entry-there : length payload ≤ 32768 → (left ≡ 0 → ⊥) → {n : Bool} → n ≡ entry_nullable tables.first_nullable i → {a b : ℕ} → x ≡ Some (span a b)
+        → EntryFound payload notes tables i left (Some (found_type a b n (left - 1)))
+    entry-there short h {n = nullable} k {a} {b} g =
         let inside = subst (EntryInside payload) g t.inside in
         record {
           inside = inside;
@@ -87,8 +87,8 @@ module _ (payload notes : List ℕ) (tables : Tables) (i left : ℕ) where
               let m = there g c s in
               let at : EntryAt payload a b m.0 = record { ordered = inside.0; inside = inside.1; cuts = m.2 } in
               let shallow : d < max_depth = omega arith in
-              given-found payload c a b m.0 at (d + 1) (omega arith) (leb tables.first_nullable i) o l n
-              (sym (resolve_entry c tables.first_nullable s.nullable d i l m.0 shallow k m.1) ∙ e);
+              given-found payload c a b m.0 at (d + 1) (omega arith) nullable o l n
+              (rw k (sym (resolve_entry c tables.first_nullable s.nullable d i l m.0 shallow m.1)) ∙ e);
         }
 
 -- The walk from a message goes as far as from the start at least.
@@ -115,9 +115,9 @@ module _ (payload notes : List ℕ) (tables : Tables) (msg : List ℕ) (base inl
   pub place_in : {a b : ℕ} → x ≡ Some (span a b) → (a ≤ b) × (b ≤ length msg) × (0 < a)
   place_in g = subst (PieceInside msg) g t.inside
 
-  pub place-inline : {a b : ℕ} → x ≡ Some (span a b) → {x : FoundType} → x ≡ found_type (base + a) (base + b) false left
-      → PlaceFound payload notes tables base (base + length msg) inline by_index left (Some x)
-  place-inline {a} {b} g {x} q =
+  pub place-inline : {a b : ℕ} → x ≡ Some (span a b) → {y : FoundType} → y ≡ found_type (base + a) (base + b) false left
+      → PlaceFound payload notes tables base (base + length msg) inline by_index left (Some y)
+  place-inline {a} {b} g {y} q =
       let i = place_in g in
       let body = part_between base msg a b in
       let told : PlaceFound payload notes tables base (base + length msg) inline by_index left (Some (found_type (base + a) (base + b) false left)) = record {

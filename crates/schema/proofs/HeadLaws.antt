@@ -9,6 +9,7 @@ use native.Mathlib.Omega.{arith}
 use lib.Dec.{eqb}
 use lib.ListN.{length}
 use Rattle.std.specs.declared.option.Option as rust
+use Rattle.std.specs.Option.{option_flatten}
 use Rattle.std.specs.Prelude.{unwrap_or}
 use Rattle.std.specs.declared.option.Option.TheVariants.{Some, None}
 use Rattle.foundation.specs.Choices.{if_some}
@@ -83,7 +84,7 @@ module _ (m : Message) where
   name-left : (a : Message) {x : rust.Option (rust.Option ℕ)} → x ≡ None → NameKnown x m a → index Type-class_name m ≡ index Type-class_name a
   name-left a h e = subst (λ (z : rust.Option (rust.Option ℕ)). NameKnown z m a) h e
 
-  name-end : (x : rust.Option (rust.Option ℕ)) → NameKnown x m [] → index Type-class_name m ≡ index_told (unwrap_or x None)
+  name-end : (x : rust.Option (rust.Option ℕ)) → NameKnown x m [] → index Type-class_name m ≡ index_told (option_flatten x)
   unfolding index varint_of values
   name-end (Some x) e = e
   name-end None e = e
@@ -234,7 +235,7 @@ module _ (base : ℕ) (s : List ℕ) where
       seeing-next next g y t = leads-next (◌from◌ base s) base s at e h (Known x) (Known y) l next g (t base s)
 
   pub head-told : (x : Seen) → ((m : Message) → cut (◌from◌ base s) ≡ ok m → Known x m [])
-      → HeadTold base s (record { name = unwrap_or x.name None; nullable = unwrap_or x.nullable false; arguments = x.arguments })
+      → HeadTold base s (record { name = option_flatten x.name; nullable = unwrap_or x.nullable false; arguments = x.arguments })
   head-told x k = record {
     name = λ m w. name-end m x.name (k m w).name;
     nullable = λ m w. flag-end m x.nullable (k m w).nullable;

@@ -15,7 +15,7 @@ use Rattle.foundation.specs.Results.{Res, ok, refused, Part, ◌from◌}
 use Rattle.wire.specs.Wire.{Message, cut}
 use Rattle.wire.specs.Messages.{cut_all, messages}
 use Rattle.wire.specs.told.WireTold.{rest_of, part_between}
-use Rattle.messages.specs.told.Asked.{span, CheckedTold, bodies, NextIs, NextBodyTold, PieceInside, PieceBegins}
+use Rattle.messages.specs.told.Asked.{CheckedTold, bodies, NextIs, NextBodyTold, PieceInside, PieceBegins}
 use Rattle.wire.specs.declared.WireError.{WireError}
 use Rattle.wire.proofs.WalkLaws.{whole, ok_same}
 use Rattle.sheet.specs.Rows.{Row, sheet_from, texts}
@@ -31,8 +31,9 @@ use Rattle.schema.specs.declared.Stop.{Stop}
 use Rattle.schema.specs.declared.Stop.TheVariants as stop
 use Rattle.schema.proofs.CountLaws.{within_none, within_both, within_less, affords-after, picked_within}
 use Rattle.std.specs.declared.option.Option as rust
-use Rattle.std.specs.Prelude.{Result}
+use Rattle.std.specs.declared.result.Result.{Result}
 use Rattle.foundation.specs.declared.Span.{Span}
+use Rattle.messages.specs.told.Asked.{span}
 
 -- A list of parts that can be cut: its first, and the others.
 pub record First (p : Part) (ps : List Part) (ms : List Message) : Type 0 where
@@ -262,14 +263,14 @@ list_is f number m l e = rw e
 
 module _ {A : Type 0} {read : Scope → Message → Read (Option A)} {rows : A → List Row} {cost : ℕ} {e : Lent} {msg : List ℕ} {base number : ℕ} {s : State}
     (x : Result Unit WireError) (t : (m : Message) → cut (◌from◌ base msg) ≡ ok m → CheckedTold (messages number m) x) where
-  pub list-uncut : {error err : WireError} → x ≡ Err error → err ≡ error → {S S' T T' : List ℕ}
-      → ListTold read rows cost e msg base number s (Err (stop.Wire err)) S S' T T'
+  pub list-uncut : {error : WireError} → x ≡ Err error → {S S' T T' : List ℕ}
+      → ListTold read rows cost e msg base number s (Err (stop.Wire error)) S S' T T'
   unfolding list_in
-  list-uncut {error} {err} g q = record {
+  list-uncut {error} g = record {
     spends = tt;
     is = λ c o m k.
         let cuts : messages number m ≡ stop_refused (stop.Wire error) = subst (CheckedTold (messages number m)) g (t m k) in
-        rw (q, cuts);
+        rw cuts;
   }
 
   pub list-cut : x ≡ Ok tt → {r : Listed} {S S' T T' : List ℕ} → ListAtTold read rows cost e msg base number s r S S' T T'

@@ -3,11 +3,10 @@
 use mathlib.Core.Path.{◌≡◌, refl, ap, sym, ◌∙◌, subst}
 use mathlib.Core.Logic.{◌⊎◌, inl, inr}
 use mathlib.Core.List.{List, [], ◌∷◌, ◌++◌, append-nil}
-use mathlib.Core.Option.{Option, some}
+use mathlib.Core.Option.{some}
 use Prim.Native.Nat.{ℕ, suc, ◌+◌, ◌-◌, ◌^◌, ◌≤◌, ◌<◌}
 use native.Mathlib.Nat.{zero-add}
 use native.Mathlib.Omega.{arith}
-use borrow.Author.Tests.{lt-ltb}
 use lib.ListN.{length, take, drop, set, get_or, get_elem?, length-append, length-set, length-take, length-drop}
 use lib.Seq.{get_or-set_same, get_or-set_other, take_all}
 use Rattle.std.specs.declared.result.Result.{Result}
@@ -15,9 +14,9 @@ use Rattle.std.specs.declared.result.Result.TheVariants.{Ok, Err}
 use Rattle.foundation.specs.Results.{ok, Part, ◌from◌}
 use Rattle.fields.specs.Fields.{TypeTable-type, TypeTable-first_nullable}
 use Rattle.wire.specs.Wire.{Message, cut}
-use Rattle.wire.specs.Messages.{index, as32, cut_all, messages}
+use Rattle.wire.specs.Messages.{index, cut_all, messages}
 use Rattle.wire.specs.told.WireTold.{wire_refused, rest_of, part_between}
-use Rattle.messages.specs.told.Asked.{span, CheckedTold, index_told, bodies, NextBodyTold, EmbeddedIs, EmbeddedInside, EmbeddedTold}
+use Rattle.messages.specs.told.Asked.{CheckedTold, index_told, bodies, NextBodyTold, EmbeddedIs, EmbeddedInside, EmbeddedTold}
 use Rattle.wire.specs.declared.WireError.{WireError}
 use Rattle.messages.proofs.BodyLaws.{checked_at, part-is}
 use Rattle.characters.specs.told.Places.{part_from}
@@ -32,10 +31,11 @@ use Rattle.schema.specs.declared.table.IndexError.{IndexError}
 use Rattle.schema.specs.declared.table.IndexError.TheVariants.{NoRoom, Wire}
 use Rattle.schema.specs.declared.table.TypeIndex.{TypeIndex}
 use Rattle.std.specs.declared.option.Option as rust
-use Rattle.std.specs.Prelude.{Some, None}
+use Rattle.std.specs.declared.option.Option.TheVariants.{Some, None}
 use Rattle.foundation.specs.declared.Span.{Span}
+use Rattle.messages.specs.told.Asked.{span}
 
-abbrev pub type_index : ℕ → ℕ → TypeIndex
+abbrev pub type_index : ℕ → rust.Option ℕ → TypeIndex
 type_index count first = record { count = count; first = first }
 
 -- The places of no entry, of one more, and among more bytes.
@@ -167,14 +167,6 @@ module _ (bytes : List ℕ) (start : ℕ) (notes : List ℕ) (count at : ℕ) (i
             noted = rw ps (entries-more bytes notes count n.before n.noted hs y short here);
           }
 
--- from which entry on all are nullable
-module _ (o : Option ℕ) {y : rust.Option ℕ} (e : o ≡ index_told y) where
-  pub first_none : y ≡ None → o ≡ as32 4294967296
-  first_none g = rw (e, g)
-
-  pub first_some : {i : ℕ} → y ≡ Some i → i < 2 ^ 32 → o ≡ as32 i
-  first_some {i} g h = rw (e, g, lt-ltb i (2 ^ 32) h)
-
 -- the table from a place to another
 module _ (payload : List ℕ) (start end : ℕ) (h : start ≤ end) (m : Message) (w : cut (◌from◌ start (part_from start end payload)) ≡ ok m) (notes : List ℕ)
     (r : Result ℕ IndexError) (t : (m : Message) → cut (rest_of 0 (take end payload) start) ≡ ok m → EntriesTold (take end payload) m notes r) where
@@ -184,7 +176,7 @@ module _ (payload : List ℕ) (start end : ℕ) (h : start ≤ end) (m : Message
   told : {s : Result ℕ IndexError} → r ≡ s → EntriesTold (take end payload) m notes s
   told g = subst (EntriesTold (take end payload) m notes) g (t m from_start)
 
-  pub table-noted : {count : ℕ} (first : ℕ) → r ≡ Ok count → index TypeTable-first_nullable m ≡ as32 first
+  pub table-noted : {count : ℕ} (first : rust.Option ℕ) → r ≡ Ok count → index TypeTable-first_nullable m ≡ index_told first
       → TableTold payload m notes (Ok (type_index count first))
   table-noted {count} first g f = let n = told g in (n.0, n.1, entries_longer payload end notes count n.0 n.2, f)
 
@@ -211,7 +203,7 @@ module _ (payload : List ℕ) (at n : ℕ) (notes : List ℕ) where
     found : {y : Result (rust.Option Span) WireError} → x ≡ y → EmbeddedIs at (take (length payload - at) (drop at payload)) n m y
     found g = subst (EmbeddedIs at (take (length payload - at) (drop at payload)) n m) g (t.is m body_is)
 
-    pub index_none : x ≡ (Ok None) → TypeIndexTold payload at n m notes (Ok (type_index 0 4294967296))
+    pub index_none : x ≡ Ok None → TypeIndexTold payload at n m notes (Ok (type_index 0 None))
     unfolding type_table_in
     index_none g = (no_table, (λ l. rw (found g)), entries_none payload notes, refl)
 

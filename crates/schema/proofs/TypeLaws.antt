@@ -4,9 +4,9 @@ use mathlib.Core.Path.{◌≡◌, refl, ap, sym, subst, ◌∙◌}
 use mathlib.Core.Bool.{Bool, true, false}
 use mathlib.Core.List.{List}
 use mathlib.Core.Option.{Option, none, some}
-use Prim.Native.Nat.{ℕ, ◌+◌, ◌-◌, ◌^◌, ◌≤◌, ◌<◌}
+use Prim.Native.Nat.{ℕ, ◌+◌, ◌-◌, ◌≤◌, ◌<◌}
 use native.Mathlib.Omega.{arith}
-use borrow.Author.Tests.{lt-ltb, le-ltb, lt-leb, ltb-false}
+use borrow.Author.Tests.{lt-ltb, le-ltb}
 use lib.Dec.{leb, ltb}
 use lib.ListN.{length, take, drop, get_elem?}
 use Rattle.std.specs.Prelude.{if◌then◌else◌}
@@ -16,20 +16,22 @@ use Rattle.foundation.specs.Choices.{if_some}
 use Rattle.foundation.specs.Results as Results
 use Rattle.foundation.specs.Results.{Res, ok, ◌from◌}
 use Rattle.wire.specs.Wire.{Message, cut}
-use Rattle.wire.specs.Messages.{index, as32}
-use Rattle.messages.specs.told.Asked.{span, EmbeddedIs, EmbeddedInside, EmbeddedTold, index_told}
+use Rattle.wire.specs.Messages.{index}
+use Rattle.messages.specs.told.Asked.{EmbeddedIs, EmbeddedInside, EmbeddedTold, index_told}
 use Rattle.wire.specs.declared.WireError.{WireError}
 use Rattle.sheet.specs.Rows.{Row}
 use Rattle.sheet.specs.declared.State.{State}
 use Rattle.declaration_rows.specs.Declarations.{invariant, Ty}
 use Rattle.schema.specs.Reading.{Read, pure, Scope, allowance}
 use Rattle.schema.specs.Types.{max_depth, resolve_at, type_in, type_at, declared_type}
-use Rattle.schema.specs.told.SchemaTold.{Lent, Walked, Picked, entries_in, Scoped, Ready, Spends, WalkedSpends, PickedSpends, WalkedTold, PickedTold}
+use Rattle.schema.specs.told.SchemaTold.{entry_nullable, Lent, Walked, Picked, entries_in, Scoped, Ready, Spends, WalkedSpends, PickedSpends, WalkedTold, PickedTold}
 use Rattle.schema.specs.told.TypesTold.{or_nullable, rows_in, picked_of, EntryIs, EntryTold, ParseTold, ResolveTold, TypeInTold, DeclaredTold}
 use Rattle.schema.specs.declared.Stop.TheVariants as stop
 use Rattle.std.specs.declared.option.Option as rust
-use Rattle.std.specs.Prelude.{Some, Result}
+use Rattle.std.specs.declared.option.Option.TheVariants.{Some}
+use Rattle.std.specs.declared.result.Result.{Result}
 use Rattle.foundation.specs.declared.Span.{Span}
+use Rattle.messages.specs.told.Asked.{span}
 
 -- Room is kept by what spends no more than is counted.
 pub spends_none : (s : State) → Spends s s
@@ -91,7 +93,7 @@ module _ (e : Lent) (msg : List ℕ) (base inline by_index left role : ℕ) (s :
   unfolding type_in
   type-refused g = record { spends = tt; is = λ c o m k d l. rw (here g m k) }
 
-  module _ (g : x ≡ (Ok None)) {y : rust.Option ℕ} (i : (m : Message) → cut (◌from◌ base msg) ≡ ok m → index by_index m ≡ index_told y) where
+  module _ (g : x ≡ Ok None) {y : rust.Option ℕ} (i : (m : Message) → cut (◌from◌ base msg) ≡ ok m → index by_index m ≡ index_told y) where
     pub type-nowhere : y ≡ None → {S T : List ℕ} → TypeInTold e msg base inline by_index left role s (Ok None) S S T T
     unfolding type_in
     type-nowhere h = record { spends = tt; is = λ c o m k d l. (rw (here g m k, i m k, h), refl, refl) }
@@ -128,19 +130,16 @@ pub resolve_deep : (c : Scope) (d i n : ℕ) → max_depth ≤ d → resolve_at 
 unfolding resolve_at
 resolve_deep c d i n h = rw (le-ltb d max_depth h)
 
--- the entries from the first nullable one on; there are none from 2^32 on, and an index is smaller
-from_first : (f i : ℕ) → i < 2 ^ 32 → if_some (as32 f) false (λ k. leb k i) ≡ leb f i
-from_first f i h = go (ltb f (2 ^ 32)) refl
-  where
-    go : (t : Bool) → ltb f (2 ^ 32) ≡ t → if_some (if t then some f else none) false (λ k. leb k i) ≡ leb f i
-    go true q = refl
-    go false q = let g : 2 ^ 32 ≤ f = ltb-false f (2 ^ 32) q in sym (lt-leb f i (omega arith))
+-- the entries from the first nullable one on
+from_first : (f : rust.Option ℕ) (i : ℕ) → if_some (index_told f) false (λ k. leb k i) ≡ entry_nullable f i
+from_first (Some first) i = refl
+from_first None i = refl
 
-pub resolve_entry : (c : Scope) (first : ℕ) → c.table.first_nullable ≡ as32 first → (d i n : ℕ) (m : Message) → d < max_depth → i < 2 ^ 32
+pub resolve_entry : (c : Scope) (first : rust.Option ℕ) → c.table.first_nullable ≡ index_told first → (d i n : ℕ) (m : Message) → d < max_depth
     → get_elem? c.table.types i ≡ some m → resolve_at (type_at allowance c) c d i n
-    ≡ Results.◌>>=◌ (type_at allowance c (d + 1) m n) (λ q. pure (some (or_nullable (leb first i) q.0)) q.1)
+    ≡ Results.◌>>=◌ (type_at allowance c (d + 1) m n) (λ q. pure (some (or_nullable (entry_nullable first i) q.0)) q.1)
 unfolding resolve_at
-resolve_entry c first f d i n m h k g = rw (lt-ltb d max_depth h, g, f, from_first first i k)
+resolve_entry c first f d i n m h g = rw (lt-ltb d max_depth h, g, f, from_first first i)
 
 module _ (e : Lent) (i left role projection : ℕ) (s : State) where
   pub resolve-none-left : left ≡ 0 → {S T : List ℕ} → ResolveTold e i left role projection s (Ok None) S S T T
@@ -153,11 +152,11 @@ module _ (e : Lent) (i left role projection : ℕ) (s : State) where
     pub resolve-nowhere : x ≡ None → {S T : List ℕ} → ResolveTold e i left role projection s (Ok None) S S T T
     resolve-nowhere g = record { spends = tt; is = λ c o d l. (resolve_nothing c d i s.types (found g c o), refl, refl) }
 
-    pub resolve-found : {a b : ℕ} → x ≡ Some (span a b) → (left ≡ 0 → ⊥) → i < 2 ^ 32
-        → {n : Bool} → n ≡ leb e.tables.first_nullable i → {w : Walked} {r : Picked} {S S' T T' : List ℕ}
+    pub resolve-found : {a b : ℕ} → x ≡ Some (span a b) → (left ≡ 0 → ⊥)
+        → {n : Bool} → n ≡ entry_nullable e.tables.first_nullable i → {w : Walked} {r : Picked} {S S' T T' : List ℕ}
         → ParseTold e (take (b - a) (drop a e.payload)) a (left - 1) role projection n s w S S' T T' → r ≡ picked_of w
         → ResolveTold e i left role projection s r S S' T T'
-    resolve-found g h k {n} f {w} {r} {S} {S'} {T} {T'} p q =
+    resolve-found g h {n} f {w} {r} {S} {S'} {T} {T'} p q =
         let told : ResolveTold e i left role projection s (picked_of w) S S' T T' = record {
           spends = picked_spends s w p.spends;
           is = λ c o d l.
@@ -165,7 +164,7 @@ module _ (e : Lent) (i left role projection : ℕ) (s : State) where
               let deep : d < max_depth = omega arith in
               let at : resolve_at (type_at allowance c) c d i s.types
               ≡ Results.◌>>=◌ (type_at allowance c (d + 1) j.0 s.types) (λ q. pure (some (or_nullable n q.0)) q.1) =
-              rw f (resolve_entry c e.tables.first_nullable o.nullable d i s.types j.0 deep k j.1) in
+              rw f (resolve_entry c e.tables.first_nullable o.nullable d i s.types j.0 deep j.1) in
               picked_told _ _ (rows_in role projection) (or_nullable n) s w S S' T T' at (p.is c o j.0 j.2 (d + 1) (omega arith));
         } in
         subst (λ (y : Picked). ResolveTold e i left role projection s y S S' T T') (sym q) told

@@ -5,6 +5,7 @@ ghost use Rattle.schema.specs.Types.{projection_of};
 ghost use Rattle.schema.specs.told.ArgumentTold.{ArgumentHeadTold};
 
 use fields::{TYPE_ARGUMENT_PROJECTION, TYPE_ARGUMENT_TYPE, TYPE_ARGUMENT_TYPE_ID};
+use foundation::Span;
 use messages::{find_three, index_in, number_in, piece_in};
 use wire::WireValue;
 
@@ -13,20 +14,13 @@ pub const INVARIANT: u8 = 2;
 
 pub const STAR: u8 = 3;
 
-// A star; or a projection, and the type inline, from a place of the argument's message to another, or by its index; or no type.
+// A star; or a projection, and the type inline, in a part of the argument's message, or by its index; or no type.
 // No type is a fourth kind here, and no `None`: those who read an argument match all four at once.
 #[derive(Clone, Copy)]
 pub enum ArgumentHead {
     Star,
-    Inline {
-        projection: u8,
-        start: usize,
-        end: usize,
-    },
-    ByIndex {
-        projection: u8,
-        index: u32,
-    },
+    Inline { projection: u8, body: Span },
+    ByIndex { projection: u8, index: u32 },
     Nothing,
 }
 
@@ -34,10 +28,13 @@ pub enum ArgumentHead {
 fn projection_of(found: Option<WireValue>) -> u8
     ensures { result ≡ projection_of (number_told (number_in found)) }
 {
-    match number_in(found) {
-        Some(value) if value < 4 => value as u8,
-        _ => INVARIANT,
+    let Some(value) = number_in(found) else {
+        return INVARIANT;
+    };
+    if value < 4 {
+        return value as u8;
     }
+    INVARIANT
 }
 
 // The argument in a message that is cut. The type of a star is not asked for.
@@ -55,12 +52,8 @@ pub fn argument_head(msg: &[u8], base: u32) -> ArgumentHead
     if projection == STAR {
         return ArgumentHead::Star;
     }
-    if let Some(part) = piece_in(found.second) {
-        return ArgumentHead::Inline {
-            projection,
-            start: part.start,
-            end: part.end,
-        };
+    if let Some(body) = piece_in(found.second) {
+        return ArgumentHead::Inline { projection, body };
     }
     match index_in(found.third) {
         Some(index) => ArgumentHead::ByIndex { projection, index },

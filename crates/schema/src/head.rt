@@ -4,9 +4,9 @@ ghost use Rattle.foundation.specs.Results.{ok, ◌from◌};
 ghost use Rattle.fields.specs.Fields.{Type-argument, Type-nullable, Type-class_name};
 ghost use Rattle.wire.specs.Wire.{field, Message, cut};
 ghost use Rattle.wire.specs.Messages.{varint_of, index, flag};
-ghost use Rattle.wire.specs.told.WireTold.{value_of, value_number, piece_of};
+ghost use Rattle.wire.specs.told.WireTold.{value_of, value_number};
 ghost use Rattle.messages.specs.told.Asked.{number_told, index_told};
-ghost use Rattle.schema.specs.told.HeadTold.{is_body, Known, HeadTold};
+ghost use Rattle.schema.specs.told.HeadTold.{Known, HeadTold};
 
 use fields::{TYPE_ARGUMENT, TYPE_CLASS_NAME, TYPE_NULLABLE};
 use messages::index_in;
@@ -43,12 +43,6 @@ fn is_set(value: WireValue) -> bool
     }
 }
 
-fn is_body(value: WireValue) -> bool
-    ensures { result ≡ is_body (piece_of value) }
-{
-    value.bytes().is_some()
-}
-
 impl Seen {
     fn with_name(self, value: WireValue) -> Seen
         ensures { (base : ℕ) (s : List ℕ) (m rest : Message) → Known self m (field Type-class_name (value_of base s value) ∷ rest) → Known result m rest }
@@ -77,9 +71,9 @@ impl Seen {
     fn with_argument(self, value: WireValue) -> Seen
         ensures { (base : ℕ) (s : List ℕ) (m rest : Message) → Known self m (field Type-argument (value_of base s value) ∷ rest) → Known result m rest }
     {
-        if !is_body(value) {
+        let Some(_) = value.bytes() else {
             return self;
-        }
+        };
         Seen {
             arguments: true,
             ..self
@@ -108,7 +102,7 @@ fn seen_in(msg: &[u8], base: u32) -> Seen
     };
     let mut at = 0;
     while at < msg.len() {
-        let step = field_at(&*msg, base, at);
+        let step = field_at(msg, base, at);
         let FieldStep::Field {
             number,
             value,
@@ -127,9 +121,9 @@ fn seen_in(msg: &[u8], base: u32) -> Seen
 pub fn type_head(msg: &[u8], base: u32) -> TypeHead
     ensures { HeadTold base msg.now result }
 {
-    let seen = seen_in(&*msg, base);
+    let seen = seen_in(msg, base);
     TypeHead {
-        name: seen.name.unwrap_or(None),
+        name: seen.name.flatten(),
         nullable: seen.nullable.unwrap_or(false),
         arguments: seen.arguments,
     }

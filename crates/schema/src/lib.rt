@@ -4,6 +4,7 @@
 
 ghost use Rattle.std.specs.Prelude.{◌≡◌};
 ghost use Rattle.schema.specs.declared.Stop.TheVariants.{Wire};
+ghost use Rattle.schema.specs.told.SchemaTold.{entry_nullable};
 
 use sheet::State;
 use wire::WireError;
@@ -24,12 +25,24 @@ pub const MAX_DEPTH: usize = 64;
 pub const ALLOWANCE: usize = 2048;
 
 // The sizes of what is lent beside the slices: how many records the name table has, how many entries the type table, and from which of
-// these on all are nullable; 2^32 or more: none.
+// these on all are nullable, if any is.
 #[derive(Clone, Copy)]
 pub struct Tables {
     pub records: usize,
     pub types: usize,
-    pub first_nullable: u64,
+    pub first_nullable: Option<u32>,
+}
+
+impl Tables {
+    // Is an entry of the type table nullable by its place?
+    pub fn is_nullable(self, index: u32) -> bool
+        ensures { result ≡ entry_nullable self.first_nullable index }
+    {
+        match self.first_nullable {
+            Some(first) => first <= index,
+            None => false,
+        }
+    }
 }
 
 // The two fields of a message in which a type may stand, inline or by its index in the type table, and the type's role on the sheet.

@@ -25,10 +25,10 @@ pub fn name_in(
 ) -> Name
     ensures { (units : List ℕ) (s : Scope) → NamesOf payload.now units ends.now notes.now records s.names → (m : Message) → cut (◌from◌ base msg.now) ≡ ok m → (l : ℕ) → name_in s number m l ≡ ok (name_text payload.now units result, l) }
 {
-    match index(msg, base, number) {
-        Some(index) => string(payload, notes, records, ends, index),
-        None => absent(),
-    }
+    let Some(index) = index(msg, base, number) else {
+        return absent();
+    };
+    string(payload, notes, records, ends, index)
 }
 
 // The class name at an index that was found in a field.
@@ -42,10 +42,10 @@ pub fn class_name_at(
 ) -> Name
     ensures { (s : Scope) → NamesOf payload.now d2.now ends.now notes.now records s.names → (k : ℕ) (m : Message) → index k m ≡ index_told found → (l : ℕ) → class_name_in s k m l ≡ ok (name_text payload.now d2.now result, l) }
 {
-    match found {
-        Some(index) => qualified_name(payload, notes, records, d2, ends, index),
-        None => absent(),
-    }
+    let Some(index) = found else {
+        return absent();
+    };
+    qualified_name(payload, notes, records, d2, ends, index)
 }
 
 // The class name at the index in a field.
@@ -61,6 +61,5 @@ pub fn class_name_in(
 ) -> Name
     ensures { (s : Scope) → NamesOf payload.now d2.now ends.now notes.now records s.names → (m : Message) → cut (◌from◌ base msg.now) ≡ ok m → (l : ℕ) → class_name_in s number m l ≡ ok (name_text payload.now d2.now result, l) }
 {
-    let found = index(msg, base, number);
-    class_name_at(found, payload, d2, ends, notes, records)
+    class_name_at(index(msg, base, number), payload, d2, ends, notes, records)
 }

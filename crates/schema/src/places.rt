@@ -8,6 +8,7 @@ use crate::argument::{ArgumentHead, argument_head};
 use crate::types::entry_at;
 use crate::{FoundType, MAX_DEPTH, Tables, TypeSlot};
 use fields::TYPE_ARGUMENT;
+use foundation::Span;
 use messages::{bytes, index, next_body};
 
 // The type at an index of the type table.
@@ -28,19 +29,19 @@ fn entry_place(
     Some(FoundType {
         start: entry.start,
         end: entry.end,
-        nullable: tables.first_nullable <= index as u64,
+        nullable: tables.is_nullable(index),
         left: left - 1,
     })
 }
 
-// The type from a place to another of a message, which stands at `base`.
-fn inline_place(base: u32, start: usize, end: usize, left: usize) -> FoundType
-    requires { (start ≤ end) × (base + end ≤ 32768) }
-    ensures { result ≡ record { start = base + start; end = base + end; nullable = false; left = left } }
+// The type in a part of a message, which stands at `base`.
+fn inline_place(base: u32, body: Span, left: usize) -> FoundType
+    requires { (body.start ≤ body.end) × (base + body.end ≤ 32768) }
+    ensures { result ≡ record { start = base + body.start; end = base + body.end; nullable = false; left = left } }
 {
     FoundType {
-        start: base as usize + start,
-        end: base as usize + end,
+        start: base as usize + body.start,
+        end: base as usize + body.end,
         nullable: false,
         left,
     }
@@ -59,13 +60,11 @@ fn type_place(
     requires { Stands payload.now msg.now base × (length payload.now ≤ 32768) }
     ensures { PlaceFound payload.now notes.now tables base (base + length msg.now) slot.inline slot.indexed left result }
 {
-    match bytes(msg, base, slot.inline) {
-        Some(part) => Some(inline_place(base, part.start, part.end, left)),
-        None => {
-            let found = index(msg, base, slot.indexed)?;
-            entry_place(found, left, payload, notes, tables)
-        }
+    if let Some(body) = bytes(msg, base, slot.inline) {
+        return Some(inline_place(base, body, left));
     }
+    let at = index(msg, base, slot.indexed)?;
+    entry_place(at, left, payload, notes, tables)
 }
 
 // A declaration's own type, in the message that holds it.
@@ -99,18 +98,14 @@ pub fn first_argument(
 {
     let mut at = 0;
     loop {
-        let part = next_body(msg, base, TYPE_ARGUMENT, at)?;
-        let first = base + part.start as u32;
-        let head = argument_head(&msg[part.start..part.end], first);
-        match head {
+        let argument = next_body(msg, base, TYPE_ARGUMENT, at)?;
+        let first = base + argument.start as u32;
+        match argument_head(&msg[argument.start..argument.end], first) {
             ArgumentHead::Star => return None,
             ArgumentHead::Inline {
                 projection: _,
-                start: from,
-                end: to,
-            } => {
-                return Some(inline_place(first, from, to, left));
-            }
+                body,
+            } => return Some(inline_place(first, body, left)),
             ArgumentHead::ByIndex {
                 projection: _,
                 index: i,
@@ -121,6 +116,6 @@ pub fn first_argument(
             }
             ArgumentHead::Nothing => {}
         }
-        at = part.end;
+        at = argument.end;
     }
 }

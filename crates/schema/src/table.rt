@@ -16,14 +16,11 @@ use messages::{check, index, message, next_body};
 use names::records::packed;
 use wire::WireError;
 
-// No entry is nullable by its place.
-const NONE: u64 = 4294967296;
-
-// How many entries the type table has, and from which of them on all are nullable; 2^32: none.
+// How many entries the type table has, and from which of them on all are nullable, if any is.
 #[derive(Clone, Copy)]
 pub struct TypeIndex {
     pub count: usize,
-    pub first: u64,
+    pub first: Option<u32>,
 }
 
 // Why a table is not noted: the notes have no room for its entries, or one of them isn't cut.
@@ -59,24 +56,13 @@ fn note_entries(bytes: &[u8], at: usize, notes: &mut [u64]) -> Result<usize, Ind
         let Some(entry) = next_body(bytes, 0, TYPE_TABLE_TYPE, i) else {
             return Ok(count);
         };
-        let base = entry.start as u32;
-        check(&bytes[entry.start..entry.end], base)?;
+        check(&bytes[entry.start..entry.end], entry.start as u32)?;
         if notes.len() <= count {
             return Err(IndexError::NoRoom);
         }
-        put_entry(notes, count, base, entry.end as u32);
+        put_entry(notes, count, entry.start as u32, entry.end as u32);
         count += 1;
         i = entry.end;
-    }
-}
-
-// From which entry on all are nullable; 2^32: none.
-fn first_nullable(table: &[u8], base: u32) -> u64
-    ensures { (m : Message) → cut (◌from◌ base table.now) ≡ ok m → index TypeTable-first_nullable m ≡ as32 result }
-{
-    match index(table, base, TYPE_TABLE_FIRST_NULLABLE) {
-        Some(first) => u64::from(first),
-        None => NONE,
     }
 }
 
@@ -91,7 +77,11 @@ fn note_table(
     ensures { (m : Message) → cut (◌from◌ start (part_from start end payload.now)) ≡ ok m → TableTold payload.now m notes.new result }
 {
     let count = note_entries(&payload[..end], start, notes)?;
-    let first = first_nullable(&payload[start..end], start as u32);
+    let first = index(
+        &payload[start..end],
+        start as u32,
+        TYPE_TABLE_FIRST_NULLABLE,
+    );
     Ok(TypeIndex { count, first })
 }
 
@@ -110,11 +100,11 @@ pub fn index_types(
     if 4294967295 < payload.len() {
         return Err(IndexError::NoRoom);
     }
-    match message(&payload[at..], at as u32, number)? {
-        Some(table) => note_table(payload, at + table.start, at + table.end, notes),
-        None => Ok(TypeIndex {
+    let Some(table) = message(&payload[at..], at as u32, number)? else {
+        return Ok(TypeIndex {
             count: 0,
-            first: NONE,
-        }),
-    }
+            first: None,
+        });
+    };
+    note_table(payload, at + table.start, at + table.end, notes)
 }

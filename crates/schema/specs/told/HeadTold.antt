@@ -10,10 +10,9 @@ use Rattle.wire.specs.Messages.{index, flag}
 use Rattle.messages.specs.told.Asked.{index_told, bodies}
 use Rattle.schema.specs.declared.head.Seen.{Seen}
 use Rattle.schema.specs.declared.head.TypeHead.{TypeHead}
-use Rattle.std.specs.declared.option.Option as rust
 use Rattle.foundation.specs.declared.Span.{Span}
 
-abbrev pub is_body : rust.Option Span → Bool
+abbrev pub is_body : Option Span → Bool
 is_body (Some p) = true
 is_body None = false
 
@@ -23,7 +22,7 @@ any_of [] = false
 any_of (p ∷ ps) = true
 
 -- Of a message m all was seen but its rest. A field that was seen is known; else what the rest says of it counts.
-abbrev pub NameKnown : Option (rust.Option ℕ) → Message → Message → Type 0
+abbrev pub NameKnown : Option (Option ℕ) → Message → Message → Type 0
 NameKnown (Some x) m rest = index Type-class_name m ≡ index_told x
 NameKnown None m rest = index Type-class_name m ≡ index Type-class_name rest
 

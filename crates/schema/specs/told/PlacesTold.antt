@@ -7,7 +7,8 @@ use Rattle.std.specs.declared.option.Option.TheVariants.{Some, None}
 use Rattle.foundation.specs.Results.{ok}
 use Rattle.fields.specs.Fields.{Type-argument}
 use Rattle.wire.specs.Wire.{Message}
-use Rattle.wire.specs.Messages.{as32, messages}
+use Rattle.wire.specs.Messages.{messages}
+use Rattle.messages.specs.told.Asked.{index_told}
 use Rattle.declaration_rows.specs.Declarations.{Ty, Argument}
 use Rattle.schema.specs.Reading.{Scope, kept, allowance}
 use Rattle.schema.specs.Types.{max_depth, resolve_at, type_in, argument_in, type_at, declared_type}
@@ -22,7 +23,7 @@ found_type start end nullable left = record { start = start; end = end; nullable
 -- The type table of a scope, by the places of its entries.
 pub record TableOf (payload notes : List ℕ) (tables : Tables) (c : Scope) : Type 0 where
   pub entries : EntriesOf payload (entries_in tables notes) tables.types c.table.types
-  pub nullable : c.table.first_nullable ≡ as32 tables.first_nullable
+  pub nullable : c.table.first_nullable ≡ index_told tables.first_nullable
 
 -- A type that a reading has given: the message that stands from start to end is its own, at the depth where `left` is left.
 pub record TypeFound (payload : List ℕ) (c : Scope) (start end left : ℕ) (t : Ty) : Type 0 where

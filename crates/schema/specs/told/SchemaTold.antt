@@ -1,6 +1,6 @@
 -- What the code's answers tell, in the definitions' words: what is lent, what was written, what is left.
 -- Assumes nothing.
-use Rattle.std.specs.Prelude.{◌≡◌, true, List, ℕ, ◌+◌, ◌*◌, ◌^◌, ◌≤◌, length, drop, get_or}
+use Rattle.std.specs.Prelude.{◌≡◌, Bool, true, false, List, ℕ, leb, ◌+◌, ◌*◌, ◌^◌, ◌≤◌, length, drop, get_or}
 use Rattle.std.proofs.Math.Option.{Option, none, some}
 use Rattle.std.proofs.Math.ListN.{get_elem?}
 use Rattle.std.specs.declared.option.Option as rust
@@ -9,7 +9,7 @@ use Rattle.std.specs.declared.result.Result.{Result}
 use Rattle.std.specs.declared.result.Result.TheVariants.{Ok, Err}
 use Rattle.foundation.specs.Results.{Res, ok, refused, Cause, too_many_types, ◌from◌}
 use Rattle.wire.specs.Wire.{Message, cut}
-use Rattle.wire.specs.Messages.{as32}
+use Rattle.messages.specs.told.Asked.{index_told}
 use Rattle.wire.specs.told.WireTold.{wire_cause, wire_place}
 use Rattle.characters.specs.told.Places.{part_from}
 use Rattle.names.specs.Names.{Names, strings_from, d2_string, ends_fit}
@@ -77,6 +77,11 @@ pub record EntriesOf (payload entries : List ℕ) (count : ℕ) (types : List Me
   pub long : count ≤ length entries
   pub each : (i : ℕ) (m : Message) → get_elem? types i ≡ some m → EntryAt payload (start_of (get_or entries i 0)) (end_of (get_or entries i 0)) m
 
+-- the entries from the first nullable one on
+abbrev pub entry_nullable : rust.Option ℕ → ℕ → Bool
+entry_nullable (Some first) i = leb first i
+entry_nullable None i = false
+
 -- they are noted after the records
 abbrev pub entries_in : Tables → List ℕ → List ℕ
 entries_in tables notes = drop (3 * tables.records) notes
@@ -92,7 +97,7 @@ pub record NamesOf (payload d2 ends notes : List ℕ) (count : ℕ) (n : Names) 
 pub record Scoped (e : Lent) (s : Scope) : Type 0 where
   pub names : NamesOf e.payload e.d2 e.ends e.notes e.tables.records s.names
   pub entries : EntriesOf e.payload (entries_in e.tables e.notes) e.tables.types s.table.types
-  pub nullable : s.table.first_nullable ≡ as32 e.tables.first_nullable
+  pub nullable : s.table.first_nullable ≡ index_told e.tables.first_nullable
 
 -- How many bytes a name takes at most, and a type's record.
 abbrev pub name_limit : ℕ

@@ -7,9 +7,9 @@ use Rattle.std.specs.declared.result.Result.TheVariants.{Ok, Err}
 use Rattle.foundation.specs.Results.{ok}
 use Rattle.fields.specs.Fields.{TypeTable-type, TypeTable-first_nullable}
 use Rattle.wire.specs.Wire.{Message}
-use Rattle.wire.specs.Messages.{index, messages, message, as32}
+use Rattle.wire.specs.Messages.{index, messages, message}
 use Rattle.wire.specs.told.WireTold.{wire_refused}
-use Rattle.messages.specs.told.Asked.{bodies}
+use Rattle.messages.specs.told.Asked.{index_told, bodies}
 use Rattle.schema.specs.Reading.{TypeTable}
 use Rattle.schema.specs.Types.{type_table_in}
 use Rattle.schema.specs.told.SchemaTold.{EntriesOf}
@@ -31,7 +31,7 @@ EntriesTold bytes m notes (Err (Wire error)) = messages TypeTable-type m ≡ wir
 -- and from which of them on all are nullable
 abbrev pub TableTold : List ℕ → Message → List ℕ → Result TypeIndex IndexError → Type 0
 TableTold payload m notes (Ok x) =
-    (ms : List Message) × (messages TypeTable-type m ≡ ok ms) × EntriesOf payload notes x.count ms × (index TypeTable-first_nullable m ≡ as32 x.first)
+    (ms : List Message) × (messages TypeTable-type m ≡ ok ms) × EntriesOf payload notes x.count ms × (index TypeTable-first_nullable m ≡ index_told x.first)
 TableTold payload m notes (Err NoRoom) = EntryRoom notes (length (bodies TypeTable-type m)) → ⊥
 TableTold payload m notes (Err (Wire error)) = messages TypeTable-type m ≡ wire_refused error
 
@@ -46,6 +46,6 @@ pub record TableRoom (payload : List ℕ) (at n : ℕ) (m : Message) (notes : Li
 abbrev pub TypeIndexTold : List ℕ → ℕ → ℕ → Message → List ℕ → Result TypeIndex IndexError → Type 0
 TypeIndexTold payload at n m notes (Ok x) =
     (table : TypeTable) × ((l : ℕ) → type_table_in n m l ≡ ok (table, l)) × EntriesOf payload notes x.count table.types
-    × (table.first_nullable ≡ as32 x.first)
+    × (table.first_nullable ≡ index_told x.first)
 TypeIndexTold payload at n m notes (Err NoRoom) = TableRoom payload at n m notes → ⊥
 TypeIndexTold payload at n m notes (Err (Wire error)) = (l : ℕ) → type_table_in n m l ≡ wire_refused error

@@ -16,7 +16,7 @@ use Rattle.schema.specs.Types.{max_depth, resolve_at, type_in, type_at, declared
 use Rattle.declaration_rows.specs.Rows.{types_rows}
 use Rattle.schema.specs.told.SchemaTold.{Lent, Scoped, Walked, Picked, WalkedSpends, PickedSpends, WalkedTold, PickedTold, EntriesOf}
 use Rattle.std.specs.declared.option.Option as rust
-use Rattle.std.specs.Prelude.{None}
+use Rattle.std.specs.declared.option.Option.TheVariants.{None}
 use Rattle.foundation.specs.declared.Span.{Span}
 
 -- a type that is nullable also where another says so

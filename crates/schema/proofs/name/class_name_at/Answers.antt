@@ -6,10 +6,10 @@ use Rattle.schema.proofs.NamedLaws.{absent-name}
 use Rattle.schema.proofs.EntryLaws.{names-are, looked-none, looked-up}
 use Rattle.schema.proofs.name.class_name_at.Goals as goal
 
-pub returns-in-None : goal.returns-in-None
+pub returns-in_default : goal.returns-in_default
 unfolding class_name_in
-returns-in-None c = λ s o k m e l. looked-none (qualified_name s.names) e l c.in-None.is (absent-name c.args.payload.now c.args.d2.now c.absent.result (ap (λ (n : Name). n.source) c.absent.ensures))
+returns-in_default c = λ s o k m e l. looked-none (qualified_name s.names) e l c.in_default.is (absent-name c.args.payload.now c.args.d2.now c.absent.result (ap (λ (n : Name). n.source) c.absent.ensures))
 
-pub returns-in-Some : goal.returns-in-Some
+pub returns : goal.returns
 unfolding class_name_in
-returns-in-Some c = λ s o k m e l. looked-up (qualified_name s.names) e l c.in-Some.is (ap (λ (n : Names). qualified_name n c.in-Some.index) (names-are o) ∙ c.qualified_name.ensures s.names.records o.fit o.sizes o.records)
+returns c = λ s o k m e l. looked-up (qualified_name s.names) e l c.in-Some.is (ap (λ (n : Names). qualified_name n c.in-Some.index) (names-are o) ∙ c.qualified_name.ensures s.names.records o.fit o.sizes o.records)

@@ -1,6 +1,6 @@
 use mathlib.Core.Path.{◌∙◌, refl}
 use native.Mathlib.Omega.{arith}
-use Rattle.std.proofs.lemmas.Result.{err_from_is_err_and}
+use Rattle.schema.proofs.AnswerLaws.{handed_on}
 use Rattle.schema.proofs.TableLaws.{noting_start, noting-none, body-in, noting-refused, no_place, noting-next}
 use Rattle.schema.proofs.table.note_entries.Goals as goal
 
@@ -19,19 +19,20 @@ slice_bounds-check-start c = let h = body-in c.args.bytes.now c.args.at c.loop-e
 pub slice_bounds-check-end : goal.slice_bounds-check-end
 slice_bounds-check-end c = let h = body-in c.args.bytes.now c.args.at c.loop-entry.notes c.loop-entry.count c.loop-entry.i c.loop-entry.invariant.2 c.next_body.ensures c.in-Some.is in omega arith
 
-pub overflow_cast-base : goal.overflow_cast-base
-overflow_cast-base c = let h = body-in c.args.bytes.now c.args.at c.loop-entry.notes c.loop-entry.count c.loop-entry.i c.loop-entry.invariant.2 c.next_body.ensures c.in-Some.is in omega arith
+pub overflow_cast-entry : goal.overflow_cast-entry
+overflow_cast-entry c = let h = body-in c.args.bytes.now c.args.at c.loop-entry.notes c.loop-entry.count c.loop-entry.i c.loop-entry.invariant.2 c.next_body.ensures c.in-Some.is in omega arith
 
 pub returns-in_err-check : goal.returns-in_err-check
-returns-in_err-check c =
-    let p = err_from_is_err_and c.from_residual.result c.from_residual.ensures.1 in
-    rw (p.1, p.2) (noting-refused c.args.bytes.now c.args.at c.loop-entry.notes c.loop-entry.count c.loop-entry.i c.loop-entry.invariant.2 c.next_body.ensures c.in-Some.is c.check.result c.check.ensures c.in_err-check.was)
+returns-in_err-check c = rw (handed_on _ c.from_residual.ensures.1) (noting-refused c.args.bytes.now c.args.at c.loop-entry.notes c.loop-entry.count c.loop-entry.i c.loop-entry.invariant.2 c.next_body.ensures c.in-Some.is c.check.result c.check.ensures c.in_err-check.was)
 
 pub returns-then-notes-count : goal.returns-then-notes-count
 returns-then-notes-count c = no_place c.args.bytes.now c.args.at c.loop-entry.notes c.loop-entry.count c.loop-entry.i c.loop-entry.invariant.2 c.next_body.ensures c.in-Some.is c.if-notes-count.true
 
-pub overflow_cast-entry : goal.overflow_cast-entry
-overflow_cast-entry c = let h = body-in c.args.bytes.now c.args.at c.loop-entry.notes c.loop-entry.count c.loop-entry.i c.loop-entry.invariant.2 c.next_body.ensures c.in-Some.is in omega arith
+pub overflow_cast-entry-in-loop-entry : goal.overflow_cast-entry-in-loop-entry
+overflow_cast-entry-in-loop-entry c = let h = body-in c.args.bytes.now c.args.at c.loop-entry.notes c.loop-entry.count c.loop-entry.i c.loop-entry.invariant.2 c.next_body.ensures c.in-Some.is in omega arith
+
+pub overflow_cast-entry-in-loop-entry-2 : goal.overflow_cast-entry-in-loop-entry-2
+overflow_cast-entry-in-loop-entry-2 c = let h = body-in c.args.bytes.now c.args.at c.loop-entry.notes c.loop-entry.count c.loop-entry.i c.loop-entry.invariant.2 c.next_body.ensures c.in-Some.is in omega arith
 
 pub overflow_add-count : goal.overflow_add-count
 overflow_add-count c = let h = body-in c.args.bytes.now c.args.at c.loop-entry.notes c.loop-entry.count c.loop-entry.i c.loop-entry.invariant.2 c.next_body.ensures c.in-Some.is in omega arith

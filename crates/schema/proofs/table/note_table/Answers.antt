@@ -11,7 +11,7 @@ pub note_entries-requires : goal.note_entries-requires
 note_entries-requires c = omega (arith, length-take c.args.end c.args.payload.now, c.requires.2)
 
 pub returns : goal.returns
-returns c = λ m k. table-noted c.args.payload.now c.args.start c.args.end c.requires.0 m k c.note_entries.new.notes c.note_entries.result c.note_entries.ensures c.first_nullable-first.result c.in_ok-count.was (c.first_nullable-first.ensures m k)
+returns c = λ m k. table-noted c.args.payload.now c.args.start c.args.end c.requires.0 m k c.note_entries.new.notes c.note_entries.result c.note_entries.ensures c.index-first.result c.in_ok-count.was (c.index-first.ensures m k)
 
 pub returns-in_err-count : goal.returns-in_err-count
 returns-in_err-count c = rw (handed_on _ c.from_residual.ensures.1) λ m k. table-unnoted c.args.payload.now c.args.start c.args.end c.requires.0 m k c.note_entries.new.notes c.note_entries.result c.note_entries.ensures c.in_err-count.was
