@@ -57,6 +57,11 @@ unfolding served_from
 first-at notes zero h = absurd (omega arith)
 first-at notes (suc k) h = let e : 3 * k + 2 ≡ 3 * suc k - 1 = omega arith in ap (λ (n : ℕ). get_or notes n 0) e
 
+pub records-there : (notes : List ℕ) (count index : ℕ) → index < served_from notes count → 0 < count
+unfolding served_from
+records-there notes zero index h = absurd (omega arith)
+records-there notes (suc k) index h = omega arith
+
 pub first-least : (notes : List ℕ) (n : ℕ) → served_from notes 0 ≤ n
 unfolding served_from
 first-least notes n = omega arith

@@ -17,14 +17,15 @@ use Rattle.lookup.specs.told.Lookups.{PlaceTold, NotesOf}
 use Rattle.record_names.specs.told.Named.{NoteTold, RecordWords}
 use Rattle.lookup.specs.told.Resolved.{OneTold}
 use Rattle.record_names.specs.declared.note.Words.{Words}
-use Rattle.record_names.specs.declared.Extent.TheVariants as extent
+use Rattle.foundation.specs.declared.Span.{Span}
+use Rattle.std.specs.Prelude.{Some, None}
 
 -- One record.
 module _ (bytes before : List ℕ) (k : ℕ) where
-  pub one-lost : PlaceTold bytes before k extent.Nothing → OneTold bytes before before k
+  pub one-lost : PlaceTold bytes before k None → OneTold bytes before before k
   one-lost p = record { others = λ j f g. refl; told = λ l r a. absurd (p l a.ordered a.inside) }
 
-  module _ {start end : ℕ} (p : PlaceTold bytes before k (extent.Part start end)) (w : Words) (f : RecordWords bytes start end w) where
+  module _ {s : Span} (p : PlaceTold bytes before k (Some s)) (w : Words) (f : RecordWords bytes s.start s.end w) where
     abbrev after : List ℕ
     after = set (set before (3 * k) w.place) (3 * k + 1) w.steps
 
@@ -43,7 +44,7 @@ module _ (bytes before : List ℕ) (k : ℕ) where
           get_or-set_other (set before (3 * k) w.place) (3 * k + 1) j w.steps 0 h
           ∙ get_or-set_other before (3 * k) j w.place 0 g;
       told = λ l r a.
-          let b : RecordAt bytes start end r = rw (p.0, p.1) a in
+          let b : RecordAt bytes s.start s.end r = rw (p.0, p.1) a in
           rw (place-new, steps-new) (f r b);
     }
 

@@ -18,8 +18,9 @@ use Rattle.characters.proofs.LengthLaws.{bytes_most, from_utf16-length}
 use Rattle.names.specs.Names.{strings_from, ends_fit}
 use Rattle.record_names.specs.told.Steps.{extent_of}
 use Rattle.lookup.specs.told.Strings.{codes_in, codes_from, sizes_from, Keeps, SizeOf, SizesOf, StringNoted}
-use Rattle.record_names.specs.declared.Extent.{Extent}
-use Rattle.record_names.specs.declared.Extent.TheVariants as extent
+use Rattle.foundation.specs.declared.Span.{Span}
+use Rattle.std.specs.Prelude.{Some}
+use Rattle.std.specs.declared.option.Option as rust
 use Rattle.lookup.proofs.ResolveLaws.{still_lower}
 
 -- What stands before a place stays.
@@ -104,9 +105,9 @@ module _ (units ends notes : List ℕ) (at : ℕ) (p : length notes ≤ at + 32)
   pub string-none : StringNoted units ends notes notes at
   string-none = record { keeps = keeps_same (sizes_from (length notes)) notes; place = p; sizes = λ f s. s }
 
-  module _ (index : ℕ) (x : Extent) (e : (us : List ℕ) → ends_fit 0 ends (length us) ≡ true → get_elem? (strings_from 0 ends us) index ≡ extent_of us x)
-      {start end : ℕ} (g : x ≡ extent.Part start end) (l : at < length notes) (i : index ≤ 65535)
-      {size : ℕ} (m : size ≡ length (utf8 (from_utf16 (part_from start end units)))) where
+  module _ (index : ℕ) (x : rust.Option Span) (e : (us : List ℕ) → ends_fit 0 ends (length us) ≡ true → get_elem? (strings_from 0 ends us) index ≡ extent_of us x)
+      {part : Span} (g : x ≡ Some part) (l : at < length notes) (i : index ≤ 65535)
+      {size : ℕ} (m : size ≡ length (utf8 (from_utf16 (part_from part.start part.end units)))) where
     word-index : (n s : ℕ) → n ≤ 65535 → (n + 65536 * s) % 65536 ≡ n
     word-index n s h = omega arith
 
@@ -115,7 +116,7 @@ module _ (units ends notes : List ℕ) (at : ℕ) (p : length notes ≤ at + 32)
 
     one : ends_fit 0 ends (length units) ≡ true → SizeOf units ends index size
     one f n s h =
-        let q : some (part_from start end units) ≡ some s = sym (e units f ∙ ap (extent_of units) g) ∙ h in
+        let q : some (part_from part.start part.end units) ≡ some s = sym (e units f ∙ ap (extent_of units) g) ∙ h in
         m ∙ ap (λ (o : Option (List ℕ)). length (utf8 (from_utf16 (if_some o [] λ t. t)))) q
 
     pub string-noted : StringNoted units ends notes (set notes at (index + 65536 * size)) (at + 1)

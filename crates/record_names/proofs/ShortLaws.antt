@@ -9,7 +9,7 @@ use native.Mathlib.Omega.{arith}
 use borrow.Author.Tests.{lt-ltb, ne_eqb}
 use lib.Dec.{eqb}
 use lib.ListN.{length, get_or}
-use Rattle.std.specs.Prelude.{if◌then◌else◌}
+use Rattle.std.specs.Prelude.{if◌then◌else◌, Some, None}
 use Rattle.foundation.specs.Choices.{if_some, is_some}
 use Rattle.foundation.specs.Results.{ok, ◌from◌, got, map_got}
 use Rattle.foundation.specs.Texts.{Text}
@@ -30,7 +30,6 @@ use Rattle.names.specs.declared.name.Name.{Name}
 use Rattle.names.specs.declared.name.PredefinedPart.{PredefinedPart}
 use Rattle.names.specs.declared.name.PredefinedPart.TheVariants as listed
 use Rattle.names.specs.declared.records.Record.{Record}
-use Rattle.record_names.specs.declared.Decided.TheVariants as decided
 use Rattle.record_names.proofs.PartLaws.{same-substituted}
 
 -- Any record, as it was read.
@@ -39,13 +38,13 @@ module _ (bytes : List ℕ) (start end : ℕ) (read : Record) (r : RecordTold st
   by-it : (m : Message) → cut (◌from◌ start (part_from start end bytes)) ≡ ok m → decides (record_of m) ≡ b
   by-it m w = ap decides (r.is m w) ∙ sym (d start (part_from start end bytes))
 
-  pub named-decided : b ≡ true → {name : Name} → BuiltTold bytes start read name → NamedTold bytes start end (decided.Yes name)
+  pub named-decided : b ≡ true → {name : Name} → BuiltTold bytes start read name → NamedTold bytes start end (Some name)
   named-decided c n = record {
     made = n.bytes;
     is = λ m w units. (by-it m w ∙ c, ap text_of (r.is m w) ∙ sym (n.is units end r.inside));
   }
 
-  pub named-undecided : b ≡ false → NamedTold bytes start end decided.No
+  pub named-undecided : b ≡ false → NamedTold bytes start end None
   named-undecided c = record { made = tt; is = λ m w units. by-it m w ∙ c }
 
 -- A predefined string as a name.
@@ -54,9 +53,9 @@ module _ {index : ℕ} {l : PredefinedPart} (e : listed_text l ≡ predefined_te
   unfolding name_text source_text
   listed-absent g q = subst (PredefinedTold index) (sym q) record { bytes = (omega arith, refl, omega arith, omega arith, omega arith, refl); is = λ payload units. ap listed_text (sym g) ∙ e }
 
-  pub listed-named : {a b : ℕ} → l ≡ listed.Part a b → PredefinedTold index (plain 2 a b)
+  pub listed-named : {a b : ℕ} → l ≡ listed.Part a b → {n : Name} → n ≡ plain 2 a b → PredefinedTold index n
   unfolding name_text source_text turned
-  listed-named {a} {b} g = record {
+  listed-named {a} {b} g q = subst (PredefinedTold index) (sym q) record {
     bytes = (omega arith, refl, omega arith, omega arith, omega arith, refl);
     is = λ payload units. ap some (same-substituted _) ∙ ap listed_text (sym g) ∙ e;
   }
@@ -113,7 +112,7 @@ module _ (v : ℕ) (h : v < 128) where
 
 -- So of a message from start to end.
 module _ (bytes : List ℕ) (start end : ℕ) where
-  pub short_none : end ≤ start → NamedTold bytes start end decided.No
+  pub short_none : end ≤ start → NamedTold bytes start end None
   short_none h = record {
     made = tt;
     is = λ m w units.
@@ -135,13 +134,13 @@ module _ (bytes : List ℕ) (start end : ℕ) where
           let e = ap (λ (x : ℕ). cut (◌from◌ start (x ∷ v ∷ []))) f ∙ cut-one start n v o h k in
           ok_same (sym w ∙ ap (λ (s : List ℕ). cut (◌from◌ start s)) are ∙ e)
 
-    pub short-without : (n : ℕ) → t ≡ n * 8 → 0 < n → n < 16 → (n ≡ 2 → ⊥) → NamedTold bytes start end decided.No
+    pub short-without : (n : ℕ) → t ≡ n * 8 → 0 < n → n < 16 → (n ≡ 2 → ⊥) → NamedTold bytes start end None
     short-without n f o h g = record {
       made = tt;
       is = λ m w units. ap (λ (x : Message). decides (record_of x)) (message-is n f o h m w) ∙ without_one n v g;
     }
 
-    pub short-predefined : t ≡ 16 → {name : Name} → PredefinedTold v name → NamedTold bytes start end (decided.Yes name)
+    pub short-predefined : t ≡ 16 → {name : Name} → PredefinedTold v name → NamedTold bytes start end (Some name)
     short-predefined f l = record {
       made = l.bytes;
       is = λ m w units.

@@ -6,11 +6,11 @@ use mathlib.Core.List.{List, []}
 use mathlib.Core.Option.{some}
 use Prim.Native.Nat.{ℕ, zero, suc, ◌+◌, ◌-◌, ◌≤◌, ◌<◌}
 use native.Mathlib.Omega.{arith}
-use native.Mathlib.Nat.{le_refl}
-use borrow.Author.Tests.{ltb-true, ltb-false, lt-ltb, le-ltb, eq-eqb, ne_eqb}
-use lib.Dec.{eqb, ltb}
+use native.Mathlib.Nat.{le_refl, min-eq_left, min-eq_right}
+use borrow.Author.Tests.{eq-eqb, ne_eqb}
+use lib.Dec.{eqb}
 use lib.ListN.{length}
-use Rattle.std.specs.Prelude.{if◌then◌else◌}
+use Rattle.std.specs.Prelude.{if◌then◌else◌, min, Option, Some, None}
 use Rattle.foundation.specs.Choices.{map_option}
 use Rattle.foundation.specs.Texts.{Text}
 use Rattle.characters.specs.Characters.{utf8, from_utf8}
@@ -27,46 +27,23 @@ use Rattle.record_names.specs.told.Steps.{BytesName}
 use Rattle.record_names.specs.told.Note.{class_size, class_of, NameFits, WordsTold}
 use Rattle.record_names.specs.told.ClassNames.{qualified_part, class_text, part_size, ClassTold}
 use Rattle.record_names.specs.told.Named.{NamedIs, ClassIs, NamedTold, WordsFor, RecordWords}
-use Rattle.record_names.specs.told.Sized.{least, limit_of, clipped_name, SizeTold, with_size}
+use Rattle.record_names.specs.told.Sized.{limit_of, clipped_name, SizeTold, with_size}
 use Rattle.record_names.proofs.WordLaws.{noted-no, class-no}
 use Rattle.record_names.specs.declared.note.Words.{Words}
-use Rattle.record_names.specs.declared.Decided.{Decided}
-use Rattle.record_names.specs.declared.Decided.TheVariants as decided
-
-least-below : (a b : ℕ) → least a b ≤ b
-least-below a b = go (ltb a b) refl
-  where
-    go : (t : Bool) → ltb a b ≡ t → (if t then a else b) ≤ b
-    go true e = omega (arith, ltb-true a b e)
-    go false e = le_refl b
 
 -- a part, as far as its bytes go
-part-least : (l : List ℕ) (start end : ℕ) → part_from (least start end) end l ≡ part_from start end l
-part-least l start end = go (ltb start end) refl
-  where
-    go : (t : Bool) → ltb start end ≡ t → part_from (if t then start else end) end l ≡ part_from start end l
-    go true e = refl
-    go false e = units-ended l end end (le_refl end) ∙ sym (units-ended l start end (ltb-false start end e))
+part-min : (l : List ℕ) (start end : ℕ) → part_from (min start end) end l ≡ part_from start end l
+part-min l start end = below end start (λ h. rw (min-eq_left {n = start} {m = end} (omega arith)) refl) λ h. rw (min-eq_right h) (units-ended l end end (le_refl end) ∙ sym (units-ended l start end h))
 
-part_clipped : (l : List ℕ) (start end : ℕ) → part_from start (least end (length l)) l ≡ part_from start end l
-part_clipped l start end = go (ltb end (length l)) refl
-  where
-    go : (t : Bool) → ltb end (length l) ≡ t → part_from start (if t then end else length l) l ≡ part_from start end l
-    go true e = refl
-    go false e = part-rest l start end (ltb-false end (length l) e)
+part_clipped : (l : List ℕ) (start end : ℕ) → part_from start (min end (length l)) l ≡ part_from start end l
+part_clipped l start end = below (length l) end (λ h. rw (min-eq_left {n = end} {m = length l} (omega arith)) refl) λ h. rw (min-eq_right h) (part-rest l start end h)
 
-part_same : (l : List ℕ) (start end : ℕ) → part_from (least start (least end (length l))) (least end (length l)) l ≡ part_from start end l
-part_same l start end = part-least l start (least end (length l)) ∙ part_clipped l start end
+part_same : (l : List ℕ) (start end : ℕ) → part_from (min start (min end (length l))) (min end (length l)) l ≡ part_from start end l
+part_same l start end = part-min l start (min end (length l)) ∙ part_clipped l start end
 
 list_length : length predefined_list ≡ 878
 unfolding predefined_list
 list_length = refl
-
-pub least_first : (a b : ℕ) → a < b → a ≡ least a b
-least_first a b h = rw (lt-ltb a b h)
-
-pub least-second : (a b : ℕ) → b ≤ a → b ≡ least a b
-least-second a b h = rw (le-ltb a b h)
 
 pub limit_listed : (source size : ℕ) → source ≡ 2 → 878 ≡ limit_of source size
 limit_listed source size h = rw (eq-eqb source 2 h)
@@ -74,7 +51,7 @@ limit_listed source size h = rw (eq-eqb source 2 h)
 pub limit_size : (source size : ℕ) → (source ≡ 2 → ⊥) → size ≡ limit_of source size
 limit_size source size h = rw (ne_eqb source 2 h)
 
-pub clipped_is : (size : ℕ) (n : Name) {limit end start : ℕ} → limit ≡ limit_of n.source size → end ≡ least n.end limit → start ≡ least n.start end
+pub clipped_is : (size : ℕ) (n : Name) {limit end start : ℕ} → limit ≡ limit_of n.source size → end ≡ min n.end limit → start ≡ min n.start end
     → ◌≡◌ {A = Name} (record { source = n.source; start = start; end = end; from = n.from; to = n.to; operation = n.operation; qualified = n.qualified; size = 0 }) (clipped_name size n)
 clipped_is size n p q r = rw (r, q, p)
 
@@ -135,7 +112,7 @@ module _ (bytes : List ℕ) where
   source-same d2 zero start end from to operation qualified h = refl
   source-same d2 (suc zero) start end from to operation qualified h = ap (λ (x : List ℕ). some (from_utf8 x)) (part_same bytes start end)
   source-same d2 (suc (suc zero)) start end from to operation qualified h =
-      ap (λ (k : ℕ). some (from_utf8 (part_from (least start (least end k)) (least end k) predefined_list))) (sym list_length)
+      ap (λ (k : ℕ). some (from_utf8 (part_from (min start (min end k)) (min end k) predefined_list))) (sym list_length)
       ∙ ap (λ (x : List ℕ). some (from_utf8 x)) (part_same predefined_list start end)
   source-same d2 (suc (suc (suc k))) start end from to operation qualified h = absurd (omega arith)
 
@@ -162,26 +139,22 @@ module _ (bytes : List ℕ) where
     clipped = clipped_name (length bytes) n
 
     pub clipped-ordered : clipped.start ≤ clipped.end
-    clipped-ordered = least-below n.start (least n.end (limit_of n.source (length bytes)))
+    clipped-ordered = omega arith
 
     pub clipped-short : clipped.end < 65536
     clipped-short =
         let l = limit-short n.source h in
-        let e = least-below n.end (limit_of n.source (length bytes)) in
-        below e l
-      where
-        below : {a b c : ℕ} → a ≤ b → b < c → a < c
-        below p q = omega arith
+        omega arith
 
   -- What is noted of a record: nothing of one that doesn't decide.
-  pub words-none : {d : Decided} → d ≡ decided.No → WordsFor bytes d (record { place = 0; steps = 0 })
+  pub words-none : {d : Option Name} → d ≡ None → WordsFor bytes d (record { place = 0; steps = 0 })
   words-none e r f = record {
     is = λ units. subst (NamedIs bytes units r) noted-no (subst (NamedIs bytes units r) e (f units));
     class = λ units. subst (ClassIs bytes units r) class-no (subst (NamedIs bytes units r) e (f units));
   }
 
   -- else its name, clipped, with its size, and the part that is left of it as a class name
-  module _ (h : length bytes < 65536) {d : Decided} {n c q : Name} (e : d ≡ decided.Yes n) (b : BytesName n) (f : c ≡ clipped_name (length bytes) n)
+  module _ (h : length bytes < 65536) {d : Option Name} {n c q : Name} (e : d ≡ Some n) (b : BytesName n) (f : c ≡ clipped_name (length bytes) n)
       (k : ClassTold bytes c q) {size : ℕ} (s : SizeTold bytes c size) where
     made : BytesName c
     made = rw f (clip-bytes n b)
@@ -226,7 +199,7 @@ module _ (bytes : List ℕ) where
 
     pub words-some : {z : Name} → z ≡ with_size c size → {w : Words} → WordsTold z q.start q.end w → WordsFor bytes d w
     words-some {z} g {w} t r x =
-        let y : (units : List ℕ) → NamedIs bytes units r (decided.Yes n) = λ units. subst (NamedIs bytes units r) e (x units) in
+        let y : (units : List ℕ) → NamedIs bytes units r (Some n) = λ units. subst (NamedIs bytes units r) e (x units) in
         let same : (units : List ℕ) → name_text bytes units n ≡ name_text bytes units c = λ units. sym (ap (name_text bytes units) f ∙ clip-same units n b) in
         record {
           is = λ units.
@@ -238,5 +211,5 @@ module _ (bytes : List ℕ) where
         }
 
 -- What is noted of a record, by its message.
-pub record_words : (bytes : List ℕ) {start end : ℕ} (d : Decided) → NamedTold bytes start end d → {w : Words} → WordsFor bytes d w → RecordWords bytes start end w
+pub record_words : (bytes : List ℕ) {start end : ℕ} (d : Option Name) → NamedTold bytes start end d → {w : Words} → WordsFor bytes d w → RecordWords bytes start end w
 record_words bytes d t f r b = f r λ units. rw b.is (t.is b.message b.cuts units)
