@@ -14,11 +14,11 @@ ghost use Rattle.record_names.specs.told.Steps.{known, OfBytes, SubstringTold, P
 
 use crate::ends::without_ends;
 use crate::{plain, within};
-use characters::{Place, find_place};
+use characters::find_place;
 use foundation::{Span, wide};
 use messages::Indexed;
 use messages::repeated::Two;
-use names::name::{Name, PREDEFINED, PredefinedPart, absent, base_part, predefined};
+use names::name::{Name, PREDEFINED, absent, base_part, predefined};
 use names::records::Record;
 use wire::Piece;
 
@@ -29,12 +29,8 @@ fn substring(s: &[u8], first: usize, last: usize) -> Option<Span>
     if last < first {
         return None;
     }
-    let Place::At { source: start } = find_place(s, first) else {
-        return None;
-    };
-    let Place::At { source: size } = find_place(&s[start..], last - first) else {
-        return None;
-    };
+    let start = find_place(s, first)?;
+    let size = find_place(&s[start..], last - first)?;
     Some(Span {
         start,
         end: start + size,
@@ -62,12 +58,9 @@ fn base_of(string: Piece, index: Indexed, from: usize) -> Option<Base>
     let Indexed::At { index: i } = index else {
         return None;
     };
-    let PredefinedPart::Part { start, end } = predefined(i) else {
-        return None;
-    };
     Some(Base {
         source: 2,
-        part: Span { start, end },
+        part: predefined(i)?,
     })
 }
 
