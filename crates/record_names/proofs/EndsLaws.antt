@@ -13,8 +13,7 @@ use Rattle.foundation.specs.Choices.{map_option}
 use Rattle.foundation.specs.Texts.{Text}
 use Rattle.characters.specs.Characters.{is_scalar, from_utf8_after, from_utf8}
 use Rattle.characters.specs.told.Places.{part_from}
-use Rattle.characters.specs.told.CharactersTold.{utf8_at}
-use Rattle.characters.specs.declared.Character.TheVariants.{Read, End}
+use Rattle.characters.specs.told.CharactersTold.{read, utf8_at}
 use Rattle.characters.proofs.CharacterLaws.{utf8-none, utf8-end, utf8-inside, utf8-next}
 use Rattle.characters.proofs.SplitLaws.{Boundary, boundary_start, boundary-next, boundary-text}
 use Rattle.characters.proofs.PartLaws.{rest-is}
@@ -86,7 +85,7 @@ module _ (s : List ℕ) where
   begins-start = record { inside = λ h. h; boundary = boundary_start s }
 
   module _ (at : ℕ) (i : Begins at) where
-    pub begins-end : utf8_at at (drop at s) ≡ End → s ≡ []
+    pub begins-end : utf8_at at (drop at s) ≡ None → s ≡ []
     begins-end e =
         let z : length (drop at s) ≡ 0 = ap length (utf8-none s at e) in
         go s (λ l. omega (arith, i.inside l, length-drop at s))
@@ -95,7 +94,7 @@ module _ (s : List ℕ) where
         go [] f = refl
         go (b ∷ l) f = absurd (f (omega arith))
 
-    module _ {code next : ℕ} (e : utf8_at at (drop at s) ≡ Read code next) where
+    module _ {code next : ℕ} (e : utf8_at at (drop at s) ≡ read code next) where
       pub begins-next : next < length s → Begins next
       begins-next h = record { inside = λ l. h; boundary = boundary-next s i.boundary e }
 
@@ -109,11 +108,11 @@ module _ (s : List ℕ) where
 
 -- Bytes by their first character, and by the last of those after it.
 module _ (s : List ℕ) where
-  pub ends-none : utf8_at 0 (drop 0 s) ≡ End → EndsTold s None
+  pub ends-none : utf8_at 0 (drop 0 s) ≡ None → EndsTold s None
   unfolding without_ends
   ends-none e = rw (utf8-end s 0 e)
 
-  module _ {code next : ℕ} (e : utf8_at 0 (drop 0 s) ≡ Read code next) where
+  module _ {code next : ℕ} (e : utf8_at 0 (drop 0 s) ≡ read code next) where
     pub next-inside : next ≤ length s
     next-inside = (utf8-inside s 0 e).1
 

@@ -15,10 +15,6 @@ use Rattle.foundation.specs.Choices.{if_some, map_option, IfSome}
 use Rattle.foundation.specs.Texts.{Text}
 use Rattle.foundation.proofs.ChoiceLaws.{and_right}
 use Rattle.messages.specs.told.Asked.{PieceInside}
-use Rattle.wire.specs.declared.Piece.{Piece}
-use Rattle.wire.specs.declared.Piece.TheVariants as piece
-use Rattle.messages.specs.declared.Indexed.{Indexed}
-use Rattle.messages.specs.declared.Indexed.TheVariants as indexed
 use Rattle.messages.specs.declared.repeated.Two.{Two}
 use Rattle.messages.specs.declared.repeated.Two.TheVariants.{Neither, One, Both}
 use Rattle.characters.specs.Characters.{is_scalar, from_utf8}
@@ -26,8 +22,6 @@ use Rattle.characters.specs.told.Places.{part_from, place_of}
 use Rattle.characters.specs.told.CharactersTold.{place_told}
 use Rattle.characters.proofs.PartLaws.{part-part, rest-is}
 use Rattle.characters.specs.Splits.{substring_of}
-use Rattle.characters.specs.declared.Place.{Place}
-use Rattle.characters.specs.declared.Place.TheVariants as place
 use Rattle.characters.proofs.TestLaws.{under, above}
 use Rattle.characters.proofs.TestLaws.{within as between-is}
 use Rattle.characters.proofs.SplitLaws.{place-within, substring-source}
@@ -39,8 +33,6 @@ use Rattle.names.specs.told.Stream.{listed_text, base_of}
 use Rattle.record_names.specs.told.Steps.{within, SubstringTold, base_in, text_in, OfBytes, BaseTold, StepTold, LeftTold, known, with_steps, turned_steps}
 use Rattle.names.specs.declared.name.Name.{Name}
 use Rattle.names.specs.declared.records.Record.{Record}
-use Rattle.names.specs.declared.name.PredefinedPart.{PredefinedPart}
-use Rattle.names.specs.declared.name.PredefinedPart.TheVariants as listed
 use Rattle.record_names.specs.told.Ends.{EndsTold}
 use Rattle.record_names.proofs.EndsLaws.{steps_dropped}
 use Rattle.foundation.specs.declared.Span.{Span}
@@ -79,24 +71,24 @@ module _ (s : List ℕ) (first last : ℕ) where
   pub sub-backward : last < first → SubstringTold s first last None
   sub-backward h = record { is = substring-source first last s ∙ rw (lt-ltb last first h); inside = tt }
 
-  module _ (h : first ≤ last) {p : Place} (e : place_told p ≡ place_of first s) where
-    pub sub-outside : p ≡ place.Nothing → SubstringTold s first last None
+  module _ (h : first ≤ last) {p : rust.Option ℕ} (e : place_told p ≡ place_of first s) where
+    pub sub-outside : p ≡ None → SubstringTold s first last None
     sub-outside g = record { is = substring-source first last s ∙ rw (le-ltb last first h, ← e, g); inside = tt }
 
-    module _ {a : ℕ} (g : p ≡ place.At a) where
+    module _ {a : ℕ} (g : p ≡ Some a) where
       at : place_of first s ≡ some a
       at = sym e ∙ ap place_told g
 
       pub sub-start : a ≤ length s
       sub-start = subst (IfSome λ k. k ≤ length s) at (place-within s first)
 
-      module _ {q : Place} (f : place_told q ≡ place_of (last - first) (part_from a (length s) s)) where
-        pub sub-past : q ≡ place.Nothing → SubstringTold s first last None
+      module _ {q : rust.Option ℕ} (f : place_told q ≡ place_of (last - first) (part_from a (length s) s)) where
+        pub sub-past : q ≡ None → SubstringTold s first last None
         sub-past i =
             let z : place_of (last - first) (drop a s) ≡ none = ap (place_of (last - first)) (sym (rest-is s a)) ∙ sym f ∙ ap place_told i in
             record { is = substring-source first last s ∙ rw (le-ltb last first h, at, z); inside = tt }
 
-        module _ {k : ℕ} (i : q ≡ place.At k) where
+        module _ {k : ℕ} (i : q ≡ Some k) where
           size : place_of (last - first) (drop a s) ≡ some k
           size = ap (place_of (last - first)) (sym (rest-is s a)) ∙ sym f ∙ ap place_told i
 
@@ -114,19 +106,25 @@ module _ (s : List ℕ) (first last : ℕ) where
               }
 
 -- What a record's text is made of.
-module _ (from : ℕ) (index : Indexed) {string : Piece} where
-  pub base-string : {a b : ℕ} → string ≡ piece.Body a b → BaseTold from string index (Some record { source = 1; part = within from record { start = a; end = b } })
+module _ (from : ℕ) (index : rust.Option ℕ) {string : rust.Option Span} where
+  pub base-string : {p : Span} → string ≡ Some p → BaseTold from string index (Some record { source = 1; part = within from p })
   unfolding source_text
-  base-string {a} {b} g = record {
+  base-string {p} g = record {
     bytes = (omega arith, omega arith);
     is = λ payload d2 end h.
         let i = subst (PieceInside (part_from from end payload)) g h in
-        rw g (ap (λ (l : List ℕ). some (from_utf8 l)) (part-part payload from end a b i.0 i.1));
+        rw g (ap (λ (l : List ℕ). some (from_utf8 l)) (part-part payload from end p.start p.end i.0 i.1));
   }
 
-  module _ (g : string ≡ piece.Nothing) where
-    module _ {n : ℕ} (i : index ≡ indexed.At n) (r : PredefinedPart) (e : listed_text r ≡ predefined_text n) where
-      pub base-listed : {a b : ℕ} → r ≡ listed.Part a b → BaseTold from string index (Some record { source = 2; part = record { start = a; end = b } })
+  module _ (g : string ≡ None) where
+    pub base-nothing : index ≡ None → BaseTold from string index None
+    base-nothing i = record { bytes = tt; is = λ payload d2 end h. rw (g, i) }
+
+    module _ {n : ℕ} (i : index ≡ Some n) (r : rust.Option Span) (e : listed_text r ≡ predefined_text n) where
+      pub base-past : r ≡ None → BaseTold from string index None
+      base-past q = record { bytes = tt; is = λ payload d2 end h. rw (g, i, ← e, q) }
+
+      pub base-listed : {p : Span} → r ≡ Some p → BaseTold from string index (Some record { source = 2; part = p })
       unfolding source_text
       base-listed q = record { bytes = (omega arith, omega arith); is = λ payload d2 end h. rw (g, i, ← e, q) }
 

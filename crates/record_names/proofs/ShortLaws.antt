@@ -24,19 +24,19 @@ use Rattle.names.specs.told.Name.{turned, source_text, name_text, plain, absent_
 use Rattle.names.specs.told.Stream.{listed_text}
 use Rattle.record_names.specs.told.Named.{PredefinedTold, NamedTold}
 use Rattle.names.specs.declared.name.Name.{Name}
-use Rattle.names.specs.declared.name.PredefinedPart.{PredefinedPart}
-use Rattle.names.specs.declared.name.PredefinedPart.TheVariants as listed
+use Rattle.foundation.specs.declared.Span.{Span}
+use Rattle.std.specs.declared.option.Option as rust
 use Rattle.record_names.proofs.PartLaws.{same-substituted}
 
 -- A predefined string as a name.
-module _ {index : ℕ} {l : PredefinedPart} (e : listed_text l ≡ predefined_text index) where
-  pub listed-absent : l ≡ listed.Nothing → {n : Name} → n ≡ absent_name → PredefinedTold index n
+module _ {index : ℕ} {l : rust.Option Span} (e : listed_text l ≡ predefined_text index) where
+  pub listed-absent : l ≡ None → {n : Name} → n ≡ absent_name → PredefinedTold index n
   unfolding name_text source_text
   listed-absent g q = subst (PredefinedTold index) (sym q) record { bytes = (omega arith, refl, omega arith, omega arith, omega arith, refl); is = λ payload units. ap listed_text (sym g) ∙ e }
 
-  pub listed-named : {a b : ℕ} → l ≡ listed.Part a b → {n : Name} → n ≡ plain 2 a b → PredefinedTold index n
+  pub listed-named : {p : Span} → l ≡ Some p → {n : Name} → n ≡ plain 2 p.start p.end → PredefinedTold index n
   unfolding name_text source_text turned
-  listed-named {a} {b} g q = subst (PredefinedTold index) (sym q) record {
+  listed-named g q = subst (PredefinedTold index) (sym q) record {
     bytes = (omega arith, refl, omega arith, omega arith, omega arith, refl);
     is = λ payload units. ap some (same-substituted _) ∙ ap listed_text (sym g) ∙ e;
   }

@@ -15,9 +15,8 @@ use Rattle.foundation.specs.Choices.{if_some, map_option}
 use Rattle.foundation.specs.Texts.{Text}
 use Rattle.characters.specs.Characters.{width, utf8_of, utf8, from_utf8}
 use Rattle.characters.specs.told.Places.{part_from}
-use Rattle.characters.specs.told.CharactersTold.{utf8_at}
+use Rattle.characters.specs.told.CharactersTold.{read, utf8_at}
 use Rattle.characters.specs.told.Plain.{instead}
-use Rattle.characters.specs.declared.Character.TheVariants.{Read, End}
 use Rattle.characters.proofs.TestLaws.{below}
 use Rattle.foundation.proofs.EveryLaws.{map_twice}
 use Rattle.characters.proofs.CharacterLaws.{utf8-end, utf8-inside}
@@ -166,10 +165,10 @@ unfolding utf8 utf8_of width
 between-size m = omega (arith, bytes_cons 0x4c (m ++ (0x3b ∷ [])), bytes-append m (0x3b ∷ []))
 
 module _ (s : List ℕ) (from to : ℕ) where
-  pub unwrap-empty : utf8_at 0 (drop 0 s) ≡ End → UnwrapTold s from to None
+  pub unwrap-empty : utf8_at 0 (drop 0 s) ≡ None → UnwrapTold s from to None
   unwrap-empty e = ap (λ (t : Text). unwrapped (substituted from to t)) (utf8-end s 0 e) ∙ ap (substituted from to) (sym (utf8-end s 0 e))
 
-  module _ {code next : ℕ} (e : utf8_at 0 (drop 0 s) ≡ Read code next) {c : ℕ} (p : c ≡ instead from to code) where
+  module _ {code next : ℕ} (e : utf8_at 0 (drop 0 s) ≡ read code next) {c : ℕ} (p : c ≡ instead from to code) where
     -- the whole, if its text stays
     stays : {t : Text} → from_utf8 s ≡ t → unwrapped (substituted from to t) ≡ substituted from to t → UnwrapTold s from to None
     stays q f = rw q f

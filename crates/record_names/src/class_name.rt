@@ -6,7 +6,7 @@ ghost use Rattle.record_names.specs.told.ClassNames.{UnwrapTold, qualified_part,
 
 use crate::ends::last_of;
 use crate::within;
-use characters::{Character, utf8_at};
+use characters::utf8_at;
 use foundation::Span;
 use names::name::{Name, PREDEFINED, base_part, instead};
 
@@ -14,19 +14,17 @@ use names::name::{Name, PREDEFINED, base_part, instead};
 fn unwrapped_part(s: &[u8], from: u32, to: u32) -> Option<Span>
     ensures { UnwrapTold s.now from to result }
 {
-    let Character::Read { code, next } = utf8_at(s, 0) else {
-        return None;
-    };
-    if instead(from, to, code) != 0x4c {
+    let first = utf8_at(s, 0)?;
+    if instead(from, to, first.value) != 0x4c {
         return None;
     }
-    let last = last_of(&s[next..])?;
+    let last = last_of(&s[first.next..])?;
     if instead(from, to, last.code) != 0x3b {
         return None;
     }
     Some(Span {
-        start: next,
-        end: next + last.place,
+        start: first.next,
+        end: first.next + last.place,
     })
 }
 

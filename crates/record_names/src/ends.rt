@@ -1,7 +1,7 @@
 // The first and the last character of some bytes' text. How the answers tell it: specs/told/Ends.antt.
 ghost use Rattle.record_names.specs.told.Ends.{LastTold, EndsTold};
 
-use characters::{Character, utf8_at};
+use characters::utf8_at;
 use foundation::Span;
 
 // The last character of a text, and where it begins.
@@ -16,11 +16,14 @@ pub(crate) fn last_of(s: &[u8]) -> Option<Last>
     ensures { LastTold s.now result }
 {
     let mut at = 0;
-    while let Character::Read { code, next } = utf8_at(s, at) {
-        if s.len() <= next {
-            return Some(Last { place: at, code });
+    while let Some(character) = utf8_at(s, at) {
+        if s.len() <= character.next {
+            return Some(Last {
+                place: at,
+                code: character.value,
+            });
         }
-        at = next;
+        at = character.next;
     }
     None
 }
@@ -29,12 +32,10 @@ pub(crate) fn last_of(s: &[u8]) -> Option<Last>
 pub(crate) fn without_ends(s: &[u8]) -> Option<Span>
     ensures { EndsTold s.now result }
 {
-    let Character::Read { code: _, next } = utf8_at(s, 0) else {
-        return None;
-    };
-    let last = last_of(&s[next..])?;
+    let first = utf8_at(s, 0)?;
+    let last = last_of(&s[first.next..])?;
     Some(Span {
-        start: next,
-        end: next + last.place,
+        start: first.next,
+        end: first.next + last.place,
     })
 }

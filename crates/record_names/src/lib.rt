@@ -18,7 +18,7 @@ use crate::sized::words_for;
 use crate::steps::{decides, record_name};
 use fields::{RECORD_OPERATION, RECORD_PREDEFINED_INDEX, RECORD_RANGE};
 use foundation::Span;
-use names::name::{Name, PredefinedPart, absent, predefined};
+use names::name::{Name, absent, predefined};
 use names::records::record_in;
 
 // A part of what begins at `from`, as a part of the whole.
@@ -64,10 +64,10 @@ fn read_record(bytes: &[u8], start: usize, end: usize) -> Option<Name>
 fn listed_name(index: u32) -> Name
     ensures { PredefinedTold index result }
 {
-    let PredefinedPart::Part { start, end } = predefined(index) else {
+    let Some(part) = predefined(index) else {
         return absent();
     };
-    plain(2, Span { start, end })
+    plain(2, part)
 }
 
 // The tags of a record's fields 1 to 3, which are varints.

@@ -5,4 +5,4 @@ pub returns-in_default : goal.returns-in_default
 returns-in_default c = listed-absent c.predefined.ensures c.in_default.is c.absent.ensures
 
 pub returns : goal.returns
-returns c = listed-named c.predefined.ensures c.in-Part.is c.plain.ensures
+returns c = listed-named c.predefined.ensures c.in-Some.is c.plain.ensures

@@ -1,8 +1,5 @@
-use Rattle.record_names.proofs.PartLaws.{base-string, base-listed}
+use Rattle.record_names.proofs.PartLaws.{base-string, base-nothing, base-past, base-listed}
 use Rattle.record_names.proofs.steps.base_of.Goals as goal
 
-pub returns-in-Body : goal.returns-in-Body
-returns-in-Body c = rw c.within.ensures (base-string c.args.from c.args.index c.in-Body.is)
-
-pub returns : goal.returns
-returns c = base-listed c.args.from c.args.index c.in_default.is c.in-At.is c.predefined.result c.predefined.ensures c.in-Part.is
+pub returns-in_default : goal.returns-in_default
+returns-in_default c = ?
