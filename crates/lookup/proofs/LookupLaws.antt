@@ -19,7 +19,7 @@ use Rattle.names.specs.Records.{decides}
 use Rattle.names.specs.Names.{Names, record_at, strings_from, d2_string, string, qualified_name}
 use Rattle.names.specs.told.Name.{source_text, sized, turned, name_text, absent_name}
 use Rattle.names.specs.told.Index.{start_of, end_of, IndexOf}
-use Rattle.lookup.specs.told.Lookups.{found_in, FoundBelow, FindTold, looked_up, NotesOf, WordsTold, DecidedIs, DecidedTold}
+use Rattle.lookup.specs.told.Lookups.{found_in, FoundBelow, FindTold, NotesOf, WordsTold, DecidedIs, DecidedTold}
 use Rattle.record_names.specs.told.Named.{NamedIs, ClassIs}
 use Rattle.record_names.specs.told.Note.{noted, noted_class}
 use Rattle.record_names.specs.told.Steps.{extent_of}
@@ -100,9 +100,6 @@ module _ (bytes notes : List ℕ) (count index : ℕ) (class : Bool) (r : rust.O
     (units : List ℕ) (records : List definition.Record) (d2 : ℕ → Res (Option Text)) (i : NotesOf bytes notes count records) where
   pub decided-no : r ≡ None → string (record { records = records; d2 = d2 }) index ≡ d2 index
   decided-no g = subst (DecidedIs bytes units class (record { records = records; d2 = d2 }) index) g (t bytes units records d2 i)
-
-  pub decided-yes : {name : Name} → r ≡ Some name → looked_up class (record { records = records; d2 = d2 }) index ≡ ok (name_text bytes units name)
-  decided-yes g = subst (DecidedIs bytes units class (record { records = records; d2 = d2 }) index) g (t bytes units records d2 i)
 
 -- The index of the bytes up to some place is one of them all.
 pub part_longer : (bytes : List ℕ) (n start end : ℕ) → start ≤ end → end ≤ length (take n bytes) → part_from start end (take n bytes) ≡ part_from start end bytes

@@ -5,18 +5,16 @@ use mathlib.Core.Bool.{Bool, true, false, ◌&&◌, ◌||◌}
 use mathlib.Core.List.{List, [], ◌∷◌, ◌++◌}
 use mathlib.Core.Option.{Option, some}
 use Prim.Native.Nat.{ℕ, suc, ◌+◌, ◌-◌, ◌≤◌, ◌<◌}
-use native.Mathlib.Nat.{le_refl, min-eq_left, min-eq_right}
 use native.Mathlib.Omega.{arith}
 use borrow.Author.Tests.{ne_eqb, eqb-true, eqb-false}
 use lib.Dec.{eqb}
 use lib.ListN.{length, take, drop, get_or, get_elem?, length-drop}
 use lib.Seq.{take-suc, get_or-drop}
-use Rattle.std.specs.Prelude.{if◌then◌else◌, min, Some, None}
+use Rattle.std.specs.Prelude.{if◌then◌else◌, Some, None}
 use Rattle.foundation.specs.Results.{Res, ok, ◌>>=◌}
 use Rattle.foundation.specs.Texts.{Text}
 use Rattle.characters.specs.Characters.{utf8, from_utf16, is_high, is_low, lone, pair}
 use Rattle.characters.specs.told.Places.{part_from}
-use Rattle.characters.proofs.TestLaws.{below}
 use Rattle.characters.proofs.SeamLaws.{units_seam}
 use Rattle.characters.proofs.UnitLaws.{units-ended, units-cons}
 use Rattle.names.specs.Records.{dotted}
@@ -30,7 +28,6 @@ use Rattle.lookup.specs.told.Strings.{SizeOf}
 use Rattle.names.specs.declared.name.Name.{Name}
 use Rattle.foundation.specs.declared.Span.{Span}
 use Rattle.std.specs.declared.option.Option as rust
-use Rattle.names.proofs.NameLaws.{part-rest}
 use Rattle.names.proofs.FittedLaws.{sized-is}
 use Rattle.record_names.proofs.PartLaws.{same-substituted}
 use Rattle.record_names.proofs.UnwrapLaws.{unwrap-first, unwrap-alone, unwrap-last, unwrap-both, between-size}
@@ -141,12 +138,6 @@ module _ (l : List ℕ) (start end : ℕ) where
         yes = λ e. let k = eqb-true (get_or l (end - 1) 0) 0x3b e in (omega arith, closed k, closed-units k);
         no = λ e. unclosed (eqb-false (get_or l (end - 1) 0) 0x3b e);
       }
-
-pub clipped_is : (l : List ℕ) (end : ℕ) → ClippedTold l end (min end (length l))
-clipped_is l end =
-    below (length l) end
-    (λ h. rw (min-eq_left {n = end} {m = length l} (omega arith)) record { inside = omega arith; same = λ start. refl })
-    λ h. rw (min-eq_right h) record { inside = le_refl (length l); same = λ start. sym (part-rest l start end h) }
 
 -- The class name of a string of d2.
 module _ (payload units ends : List ℕ) (index : ℕ) {r : rust.Option Span} (e : get_elem? (strings_from 0 ends units) index ≡ extent_of units r) where

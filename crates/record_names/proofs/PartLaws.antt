@@ -2,29 +2,25 @@
 -- Assumes nothing.
 use mathlib.Core.Path.{◌≡◌, refl, ap, sym, ◌∙◌, subst}
 use mathlib.Core.Logic.{inl, inr}
-use mathlib.Core.Bool.{Bool, true, false, ◌&&◌, ◌||◌}
+use mathlib.Core.Bool.{Bool, true, false, ◌&&◌}
 use mathlib.Core.List.{List, [], ◌∷◌}
 use mathlib.Core.Option.{Option, none, some}
-use Prim.Native.Nat.{ℕ, ◌+◌, ◌-◌, ◌^◌, ◌≤◌, ◌<◌}
+use Prim.Native.Nat.{ℕ, ◌+◌, ◌-◌, ◌≤◌, ◌<◌}
 use native.Mathlib.Omega.{arith}
-use borrow.Author.Tests.{eq-eqb, ne_eqb, lt-ltb, le-ltb, eqb-true, ltb-true, leb-true}
+use borrow.Author.Tests.{lt-ltb, le-ltb, eqb-true, ltb-true, leb-true}
 use lib.Dec.{eqb, leb, ltb}
 use lib.ListN.{length, drop, length-drop}
 use Rattle.std.specs.Prelude.{if◌then◌else◌, MatchOption, Some, None}
-use Rattle.foundation.specs.Choices.{if_some, is_some, map_option, IfSome}
+use Rattle.foundation.specs.Choices.{if_some, map_option, IfSome}
 use Rattle.foundation.specs.Texts.{Text}
 use Rattle.foundation.proofs.ChoiceLaws.{and_right}
-use Rattle.messages.specs.told.Asked.{piece_told, PieceInside, index_told}
-use Rattle.wire.specs.declared.Piece.{Piece}
-use Rattle.wire.specs.declared.Piece.TheVariants as piece
-use Rattle.messages.specs.declared.Indexed.{Indexed}
-use Rattle.messages.specs.declared.Indexed.TheVariants as indexed
+use Rattle.messages.specs.told.Asked.{PieceInside}
 use Rattle.messages.specs.declared.repeated.Two.{Two}
 use Rattle.messages.specs.declared.repeated.Two.TheVariants.{Neither, One, Both}
 use Rattle.characters.specs.Characters.{is_scalar, from_utf8}
 use Rattle.characters.specs.told.Places.{part_from, place_of}
 use Rattle.characters.specs.told.CharactersTold.{place_told}
-use Rattle.characters.proofs.PartLaws.{part-part, part-short, rest-is}
+use Rattle.characters.proofs.PartLaws.{part-part, rest-is}
 use Rattle.characters.specs.Splits.{substring_of}
 use Rattle.characters.proofs.TestLaws.{under, above}
 use Rattle.characters.proofs.TestLaws.{within as between-is}
@@ -34,10 +30,9 @@ use Rattle.names.specs.Records.{base_text, text_of, predefined_text, substituted
 use Rattle.names.specs.told.Name.{predefined_list, turned, dropped, source_text, name_text, plain, absent_name}
 use Rattle.names.specs.told.RecordTold.{both_numbers, record_told}
 use Rattle.names.specs.told.Stream.{listed_text, base_of}
-use Rattle.record_names.specs.told.Steps.{within, SubstringTold, PieceFits, base_in, text_in, OfBytes, IfOfBytes, BaseTold, StepTold, LeftTold, known, with_steps, turned_steps}
+use Rattle.record_names.specs.told.Steps.{within, SubstringTold, base_in, text_in, OfBytes, BaseTold, StepTold, LeftTold, known, with_steps, turned_steps}
 use Rattle.names.specs.declared.name.Name.{Name}
 use Rattle.names.specs.declared.records.Record.{Record}
-use Rattle.foundation.specs.declared.Span.{Span}
 use Rattle.record_names.specs.told.Ends.{EndsTold}
 use Rattle.record_names.proofs.EndsLaws.{steps_dropped}
 use Rattle.foundation.specs.declared.Span.{Span}
@@ -111,21 +106,21 @@ module _ (s : List ℕ) (first last : ℕ) where
               }
 
 -- What a record's text is made of.
-module _ (from : ℕ) (index : Indexed) {string : Piece} where
-  pub base-string : {a b : ℕ} → string ≡ piece.Body a b → BaseTold from string index (Some record { source = 1; part = within from record { start = a; end = b } })
+module _ (from : ℕ) (index : rust.Option ℕ) {string : rust.Option Span} where
+  pub base-string : {p : Span} → string ≡ Some p → BaseTold from string index (Some record { source = 1; part = within from p })
   unfolding source_text
-  base-string {a} {b} g = record {
+  base-string {p} g = record {
     bytes = (omega arith, omega arith);
     is = λ payload d2 end h.
         let i = subst (PieceInside (part_from from end payload)) g h in
-        rw g (ap (λ (l : List ℕ). some (from_utf8 l)) (part-part payload from end a b i.0 i.1));
+        rw g (ap (λ (l : List ℕ). some (from_utf8 l)) (part-part payload from end p.start p.end i.0 i.1));
   }
 
-  module _ (g : string ≡ piece.Nothing) where
-    pub base-nothing : index ≡ indexed.Nothing → BaseTold from string index None
+  module _ (g : string ≡ None) where
+    pub base-nothing : index ≡ None → BaseTold from string index None
     base-nothing i = record { bytes = tt; is = λ payload d2 end h. rw (g, i) }
 
-    module _ {n : ℕ} (i : index ≡ indexed.At n) (r : rust.Option Span) (e : listed_text r ≡ predefined_text n) where
+    module _ {n : ℕ} (i : index ≡ Some n) (r : rust.Option Span) (e : listed_text r ≡ predefined_text n) where
       pub base-past : r ≡ None → BaseTold from string index None
       base-past q = record { bytes = tt; is = λ payload d2 end h. rw (g, i, ← e, q) }
 
@@ -133,7 +128,7 @@ module _ (from : ℕ) (index : Indexed) {string : Piece} where
       unfolding source_text
       base-listed q = record { bytes = (omega arith, omega arith); is = λ payload d2 end h. rw (g, i, ← e, q) }
 
--- A substring of what it is made of.
+-- A substring of what it is made of, and what is between its first and its last character.
 module _ (payload s : List ℕ) (base : Base) (o : OfBytes base) (e : s ≡ part_from base.part.start base.part.end (base_of base.source payload predefined_list)) where
   -- the base itself, and a part of it
   abbrev whole : List ℕ
@@ -154,10 +149,6 @@ module _ (payload s : List ℕ) (base : Base) (o : OfBytes base) (e : s ≡ part
       ap (part_from p.start p.end) e ∙ part-part whole base.part.start base.part.end p.start p.end h (subst (λ (x : List ℕ). p.end ≤ length x) e i) in
       text-at d2 (base.part.start + p.start) (base.part.start + p.end) ∙ ap (λ (l : List ℕ). some (from_utf8 l)) (sym f)
 
-  -- a place among its bytes is one in the whole
-  pub part-inside : (k : ℕ) → k ≤ length s → k ≤ base.part.end - base.part.start
-  part-inside k h = omega (arith, ap length e, part-short whole base.part.start base.part.end)
-
   module _ (first last : ℕ) where
     pub part_none : SubstringTold s first last None → StepTold payload (substring_of first last) base None
     part_none t = record { bytes = tt; is = λ d2. rw (all-of d2) t.is }
@@ -170,22 +161,6 @@ module _ (payload s : List ℕ) (base : Base) (o : OfBytes base) (e : s ≡ part
 
   pub inner_cut : {p : Span} → EndsTold s (Some p) → LeftTold payload base without_ends (inner p)
   inner_cut {p} t = record { bytes = o; is = λ d2. rw (all-of d2) (ap some t.0 ∙ sym (inner-is p t.1 t.2 d2)) }
-
--- The part that an operation leaves.
-module _ (payload : List ℕ) (base : Base) where
-  pub left-whole : (op : ℕ) → (op ≡ 2 → ⊥) → OfBytes base → LeftTold payload base (dropped op) base
-  left-whole op f b = record { bytes = b; is = λ d2. go (base_in payload d2 base) }
-    where
-      go : (o : Option Text) → map_option (dropped op) o ≡ o
-      go none = refl
-      go (some t) = rw (ne_eqb op 2 f)
-
-  pub left-inner : (op : ℕ) → op ≡ 2 → {r : Base} → LeftTold payload base without_ends r → LeftTold payload base (dropped op) r
-  left-inner op e t = record { bytes = t.bytes; is = λ d2. go (base_in payload d2 base) ∙ t.is d2 }
-    where
-      go : (o : Option Text) → map_option (dropped op) o ≡ map_option without_ends o
-      go none = refl
-      go (some u) = rw (eq-eqb op 2 e)
 
 -- Replacement, and what an operation turns into dots.
 turned-known : (op : ℕ) (t : Text) → turned (known op) t ≡ turned op t
@@ -253,19 +228,6 @@ module _ (payload d2 : List ℕ) (base : Base) (op : ℕ) where
         go none = refl
         go (some t) = refl
 
--- The substring of a record, if it has one.
-pub sub_both : (payload : List ℕ) (base : Base) {two : Two} {a b : ℕ} {r : rust.Option Base} → two ≡ Both a b
-    → StepTold payload (substring_of a b) base r → StepTold payload (stepped substring_of (both_numbers two)) base r
-sub_both payload base e t = rw e t
-
-pub sub_none : (payload : List ℕ) (base : Base) (two : Two) → both_numbers two ≡ none → OfBytes base
-    → StepTold payload (stepped substring_of (both_numbers two)) base (Some base)
-sub_none payload base two e b = record { bytes = b; is = λ d2. rw e (go (base_in payload d2 base)) }
-  where
-    go : (o : Option Text) → if_some o none some ≡ o
-    go none = refl
-    go (some t) = refl
-
 -- A record's text, from what it is made of.
 text-is : (r : definition.Record) → text_of r ≡ with_steps r.replaced r.operation (if_some (base_text r) none (stepped substring_of r.substring))
 unfolding text_of
@@ -278,9 +240,6 @@ text-is r = go (base_text r)
     go (some t) = refl
 
 module _ (payload : List ℕ) (from : ℕ) (read : Record) {x : rust.Option Base} (t : BaseTold from read.string read.predefined x) where
-  pub of-bytes : {base : Base} → x ≡ Some base → OfBytes base
-  of-bytes g = subst IfOfBytes g t.bytes
-
   module _ (n : Name) (d2 : List ℕ) (end : ℕ) (h : PieceInside (part_from from end payload) read.string) where
     abbrev told : definition.Record
     told = record_told from (part_from from end payload) read
@@ -311,16 +270,3 @@ module _ (payload : List ℕ) (from : ℕ) (read : Record) {x : rust.Option Base
           ∙ ap steps (sym (l.is d2))
           ∙ sym (steps_dropped told.replaced told.operation (base_in payload d2 part))
           ∙ sym (text-is told ∙ ap (with_steps told.replaced told.operation) (part-is ∙ ap (text_in payload d2) q))
-
--- Whether a record decides.
-module _ (string : Piece) (index : Indexed) (from : ℕ) (s : List ℕ) where
-  pub decides-string : {a b : ℕ} → string ≡ piece.Body a b → true ≡ is_some (piece_told from s string) || is_some (index_told index)
-  decides-string e = rw e
-
-  pub decides-index : {b : Bool} → string ≡ piece.Nothing → b ≡ is_some (index_told index) → b ≡ is_some (piece_told from s string) || is_some (index_told index)
-  decides-index e g = rw e g
-
--- A piece of a part of some bytes has places among them.
-pub piece-fits : (bytes : List ℕ) (start end : ℕ) → start ≤ end → end < 2 ^ 64 → (p : Piece) → PieceInside (part_from start end bytes) p → PieceFits start p
-piece-fits bytes start end h l (piece.Body a b) i = (i.0, omega (arith, i.1, part-short bytes start end))
-piece-fits bytes start end h l piece.Nothing i = tt

@@ -7,7 +7,6 @@ use mathlib.Core.Option.{some}
 use Prim.Native.Nat.{ℕ, zero, suc, ◌+◌, ◌-◌, ◌≤◌, ◌<◌}
 use native.Mathlib.Omega.{arith}
 use native.Mathlib.Nat.{le_refl, min-eq_left, min-eq_right}
-use borrow.Author.Tests.{eq-eqb, ne_eqb}
 use lib.Dec.{eqb}
 use lib.ListN.{length}
 use Rattle.std.specs.Prelude.{if◌then◌else◌, min, Option, Some, None}
@@ -24,10 +23,10 @@ use Rattle.names.specs.told.Name.{predefined_list, turned, source_text, stepped_
 use Rattle.names.specs.told.Stream.{base_of, name_bytes}
 use Rattle.names.specs.declared.name.Name.{Name}
 use Rattle.record_names.specs.told.Steps.{BytesName}
-use Rattle.record_names.specs.told.Note.{class_size, class_of, NameFits, WordsTold}
+use Rattle.record_names.specs.told.Note.{class_size, class_of, WordsTold}
 use Rattle.record_names.specs.told.ClassNames.{qualified_part, class_text, part_size, ClassTold}
 use Rattle.record_names.specs.told.Named.{NamedIs, ClassIs, NamedTold, WordsFor, RecordWords}
-use Rattle.record_names.specs.told.Sized.{limit_of, clipped_name, SizeTold, with_size}
+use Rattle.record_names.specs.told.Sized.{clipped_name, SizeTold, with_size}
 use Rattle.record_names.proofs.WordLaws.{noted-no, class-no}
 use Rattle.record_names.specs.declared.note.Words.{Words}
 
@@ -44,16 +43,6 @@ part_same l start end = part-min l start (min end (length l)) ∙ part_clipped l
 list_length : length predefined_list ≡ 878
 unfolding predefined_list
 list_length = refl
-
-pub limit_listed : (source size : ℕ) → source ≡ 2 → 878 ≡ limit_of source size
-limit_listed source size h = rw (eq-eqb source 2 h)
-
-pub limit_size : (source size : ℕ) → (source ≡ 2 → ⊥) → size ≡ limit_of source size
-limit_size source size h = rw (ne_eqb source 2 h)
-
-pub clipped_is : (size : ℕ) (n : Name) {limit end start : ℕ} → limit ≡ limit_of n.source size → end ≡ min n.end limit → start ≡ min n.start end
-    → ◌≡◌ {A = Name} (record { source = n.source; start = start; end = end; from = n.from; to = n.to; operation = n.operation; qualified = n.qualified; size = 0 }) (clipped_name size n)
-clipped_is size n p q r = rw (r, q, p)
 
 -- The source of a name doesn't depend on its size.
 source-kept : (bytes d2 : List ℕ) (n : Name) (size : ℕ) → source_text bytes d2 (with_size n size) ≡ source_text bytes d2 n
@@ -103,7 +92,7 @@ module _ (bytes : List ℕ) (n : Name) (b : n.source ≤ 2) where
       there : 1 ≤ n.source → size ≡ part_size bytes n n.start n.end
       there l = e ∙ unstepped_size bytes unstepped refl refl refl _ (source_of bytes unstepped b [] l)
 
--- The clipped name is the same name, and fits two words.
+-- The clipped name is the same name.
 module _ (bytes : List ℕ) where
   source-same : (d2 : List ℕ) (source start end from to operation : ℕ) (qualified : Bool) → source ≤ 2
       → (let n : Name = record { source = source; start = start; end = end; from = from; to = to; operation = operation; qualified = qualified; size = 0 } in
@@ -120,31 +109,8 @@ module _ (bytes : List ℕ) where
   unfolding name_text
   clip-same d2 n b = rw (b.5, source-same d2 n.source n.start n.end n.from n.to n.operation n.qualified b.0)
 
-  limit-short : (source : ℕ) → length bytes < 65536 → limit_of source (length bytes) < 65536
-  limit-short source h = go (eqb source 2)
-    where
-      go : (t : Bool) → (if t then 878 else length bytes) < 65536
-      go true = omega arith
-      go false = h
-
   clip-bytes : (n : Name) → BytesName n → BytesName (clipped_name (length bytes) n)
   clip-bytes n b = (b.0, b.1, b.2, b.3, b.4, refl)
-
-  pub clip-made : (n : Name) → BytesName n → {c : Name} → c ≡ clipped_name (length bytes) n → BytesName c
-  clip-made n b e = rw e (clip-bytes n b)
-
-  -- the places of a clipped name
-  module _ (h : length bytes < 65536) (n : Name) where
-    abbrev clipped : Name
-    clipped = clipped_name (length bytes) n
-
-    pub clipped-ordered : clipped.start ≤ clipped.end
-    clipped-ordered = omega arith
-
-    pub clipped-short : clipped.end < 65536
-    clipped-short =
-        let l = limit-short n.source h in
-        omega arith
 
   -- What is noted of a record: nothing of one that doesn't decide.
   pub words-none : {d : Option Name} → d ≡ None → WordsFor bytes d (record { place = 0; steps = 0 })
@@ -154,37 +120,10 @@ module _ (bytes : List ℕ) where
   }
 
   -- else its name, clipped, with its size, and the part that is left of it as a class name
-  module _ (h : length bytes < 65536) {d : Option Name} {n c q : Name} (e : d ≡ Some n) (b : BytesName n) (f : c ≡ clipped_name (length bytes) n)
+  module _ {d : Option Name} {n c q : Name} (e : d ≡ Some n) (b : BytesName n) (f : c ≡ clipped_name (length bytes) n)
       (k : ClassTold bytes c q) {size : ℕ} (s : SizeTold bytes c size) where
     made : BytesName c
     made = rw f (clip-bytes n b)
-
-    ordered : c.start ≤ c.end
-    ordered = rw f (clipped-ordered h n)
-
-    short : c.end < 65536
-    short = rw f (clipped-short h n)
-
-    pub name-fits : {z : Name} → z ≡ with_size c size → NameFits z
-    name-fits g =
-        let o = ordered in
-        let l = short in
-        rw g (record {
-          source = made.0;
-          start = omega arith;
-          end = l;
-          from = made.3;
-          to = made.4;
-          operation = made.2;
-          qualified = made.1;
-          size = s.fits;
-        })
-
-    pub class-fits : (q.start < 65536) × (q.end < 65536)
-    class-fits =
-        let i = k.inside ordered in
-        let l = short in
-        (omega (arith, i.0), omega (arith, i.1))
 
     text-size : (d2 : List ℕ) → name_text bytes d2 (with_size c size) ≡ name_text bytes d2 c
     text-size d2 = size_same bytes c made.0 made.5 size s.is d2

@@ -16,11 +16,9 @@ use crate::ends::without_ends;
 use crate::{plain, within};
 use characters::find_place;
 use foundation::{Span, wide};
-use messages::Indexed;
 use messages::repeated::Two;
 use names::name::{Name, PREDEFINED, absent, base_part, predefined};
 use names::records::Record;
-use wire::Piece;
 
 // The part of some bytes that gives the substring of their text by byte places.
 fn substring(s: &[u8], first: usize, last: usize) -> Option<Span>
@@ -45,22 +43,19 @@ struct Base {
 }
 
 // What the text of a record is made of whose message begins at `from`.
-fn base_of(string: Piece, index: Indexed, from: usize) -> Option<Base>
+fn base_of(string: Option<Span>, index: Option<u32>, from: usize) -> Option<Base>
     requires { PieceFits from string }
     ensures { BaseTold from string index result }
 {
-    if let Piece::Body { start, end } = string {
+    if let Some(part) = string {
         return Some(Base {
             source: 1,
-            part: within(from, Span { start, end }),
+            part: within(from, part),
         });
     }
-    let Indexed::At { index: i } = index else {
-        return None;
-    };
     Some(Base {
         source: 2,
-        part: predefined(i)?,
+        part: predefined(index?)?,
     })
 }
 
@@ -182,21 +177,9 @@ pub(crate) fn record_name(payload: &[u8], from: usize, read: Record) -> Name
     with_steps(left, read.replaced, read.operation)
 }
 
-fn is_index(index: Indexed) -> bool
-    ensures { result ≡ is_some (index_told index) }
-{
-    match index {
-        Indexed::At { index: _ } => true,
-        Indexed::Nothing => false,
-    }
-}
-
 // A record with a string or a predefined index decides its indices, even if its text can't be built.
-pub(crate) fn decides(string: Piece, index: Indexed) -> bool
+pub(crate) fn decides(string: Option<Span>, index: Option<u32>) -> bool
     ensures { (base : ℕ) (s : List ℕ) → result ≡ is_some (piece_told base s string) || is_some (index_told index) }
 {
-    match string {
-        Piece::Body { start: _, end: _ } => true,
-        Piece::Nothing => is_index(index),
-    }
+    string.is_some() || index.is_some()
 }

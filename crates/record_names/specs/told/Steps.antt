@@ -5,9 +5,6 @@ use Rattle.std.proofs.Math.Option.{Option, none, some}
 use Rattle.foundation.specs.Choices.{if_some, map_option}
 use Rattle.foundation.specs.Texts.{Text}
 use Rattle.messages.specs.told.Asked.{piece_told, PieceInside, index_told}
-use Rattle.wire.specs.declared.Piece.{Piece}
-use Rattle.wire.specs.declared.Piece.TheVariants as piece
-use Rattle.messages.specs.declared.Indexed.{Indexed}
 use Rattle.characters.specs.Characters.{from_utf8}
 use Rattle.characters.specs.told.Places.{part_from}
 use Rattle.characters.specs.Splits.{substring_of}
@@ -38,9 +35,9 @@ pub record SubstringTold (s : List ℕ) (first last : ℕ) (r : rust.Option Span
   pub inside : ExtentInside s r
 
 -- a piece of a message that begins at `from` has places
-abbrev pub PieceFits : ℕ → Piece → Type 0
-PieceFits from (piece.Body start end) = (start ≤ end) × (from + end < 2 ^ 64)
-PieceFits from piece.Nothing = Unit {0}
+abbrev pub PieceFits : ℕ → rust.Option Span → Type 0
+PieceFits from (Some p) = (p.start ≤ p.end) × (from + p.end < 2 ^ 64)
+PieceFits from None = Unit {0}
 
 -- the text of a part of a source
 abbrev pub base_in : List ℕ → List ℕ → Base → Option Text
@@ -59,7 +56,7 @@ IfOfBytes (Some b) = OfBytes b
 IfOfBytes None = Unit {0}
 
 -- what a record's text is made of, whose message begins at `from`: its string or its predefined string
-pub record BaseTold (from : ℕ) (string : Piece) (index : Indexed) (r : rust.Option Base) : Type 0 where
+pub record BaseTold (from : ℕ) (string : rust.Option Span) (index : rust.Option ℕ) (r : rust.Option Base) : Type 0 where
   pub bytes : IfOfBytes r
   pub is : (payload d2 : List ℕ) (end : ℕ) → PieceInside (part_from from end payload) string
       → if_some (piece_told from (part_from from end payload) string) (if_some (index_told index) none predefined_text) (λ p. some (from_utf8 p.bytes))

@@ -7,4 +7,4 @@ pub returns-in_default : goal.returns-in_default
 returns-in_default c = words-none c.args.bytes.now c.in_default.is
 
 pub returns : goal.returns
-returns c = words-some c.args.bytes.now c.requires.1 c.in-Some.is (subst DecidedBytes c.in-Some.is c.requires.0) c.clipped_name-part.ensures c.qualified_bytes-class.ensures c.size_of-size.ensures refl c.words_of.ensures
+returns c = words-some c.args.bytes.now c.in-Some.is (subst DecidedBytes c.in-Some.is c.requires.0) c.clipped_name-part.ensures c.qualified_bytes-class.ensures c.size_of-size.ensures refl c.words_of.ensures
