@@ -10,7 +10,7 @@ ghost use Rattle.erasure.specs.declared.Meaning.TheVariants.{Other};
 
 use characters::utf16_at;
 use erasure::{Meaning, Position, Printed, meaning_of, printed_as, put_part};
-use names::name::{Name, change_of, character_of, is_there};
+use names::name::{Name, change_of, character_of, is_there, part_of};
 use names::stream::put_name;
 use schema::head::type_head;
 use schema::name::class_name_at;
@@ -45,7 +45,7 @@ fn may_be_listed(payload: &[u8], d2: &[u16], name: Name) -> bool
     if source != 3 {
         return true;
     }
-    let Some(character) = utf16_at(d2, name.start, name.end) else {
+    let Some(character) = utf16_at(part_of(d2, name.start, name.end), 0) else {
         return true;
     };
     character_of(change_of(name, true), character.value) == 0x6b

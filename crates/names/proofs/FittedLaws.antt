@@ -14,15 +14,13 @@ use Rattle.std.specs.Prelude.{if◌then◌else◌}
 use Rattle.foundation.specs.Texts.{Text}
 use Rattle.foundation.proofs.ChoiceLaws.{if_ind}
 use Rattle.foundation.proofs.OverlayLaws.{sets_out}
-use Rattle.characters.specs.Characters.{width, utf8_of, utf8, from_utf8_after, from_utf8, from_utf16}
-use Rattle.characters.specs.told.Places.{part_from}
-use Rattle.characters.specs.told.CharactersTold.{Character, read, PutCharacter, utf8_at, utf16_at}
+use Rattle.characters.specs.Characters.{width, utf8_of, utf8}
+use Rattle.characters.specs.told.CharactersTold.{Character, read, PutCharacter}
 use Rattle.foundation.specs.declared.Read.{Read}
 use Rattle.std.specs.declared.option.Option.TheVariants.{Some, None}
 use Rattle.characters.proofs.LengthLaws.{width_most, bytes_cons}
-use Rattle.characters.proofs.CharacterLaws.{utf8-end, utf8-next}
-use Rattle.characters.proofs.UnitLaws.{units-ended, utf16-end, utf16-next}
 use Rattle.characters.proofs.WriteLaws.{put_next}
+use Rattle.names.specs.told.Encoded.{Decoding}
 use Rattle.names.specs.told.Name.{fitted, is_measured, sized}
 use Rattle.names.specs.told.Stream.{changed, fitted_of}
 use Rattle.names.specs.declared.name.Change.{Change}
@@ -33,14 +31,6 @@ lt_leb n k h = go (leb k n) refl
     go : (b : Bool) → leb k n ≡ b → leb k n ≡ false
     go true e = absurd (omega (arith, leb-true k n e))
     go false e = e
-
-from_none : from_utf8 [] ≡ []
-unfolding from_utf8_after
-from_none = refl
-
-from_no_unit : from_utf16 [] ≡ []
-unfolding from_utf16
-from_no_unit = refl
 
 zeros-bytes : (n : ℕ) → length (utf8 (replicate n 0)) ≡ n
 unfolding utf8 utf8_of
@@ -191,34 +181,20 @@ module _ {whole rest : Text} {size at to left : ℕ} {A₀ A : List ℕ} (s : Fi
     }
 
 -- The step by the character that was read.
-module _ (h : Change) (left : ℕ) (l : 0 < left) {r : Read ℕ} where
-  pub bytes-step : (s : List ℕ) (i : ℕ) {c : Character} → c ≡ utf8_at i (drop i s) → r ≡ fitted_of h left (length s) c
-      → FittedStep left (map (changed h) (from_utf8 (drop i s))) (map (changed h) (from_utf8 (drop r.next s))) r
-  bytes-step s i {c} e g = go c e g
+module _ {decoded : List ℕ → Text} {character : ℕ → List ℕ → Character} (d : Decoding decoded character) (h : Change) (left : ℕ) (l : 0 < left) {r : Read ℕ} where
+  pub decoded_step : (s : List ℕ) (i : ℕ) {c : Character} → c ≡ character i (drop i s) → r ≡ fitted_of h left (length s) c
+      → FittedStep left (map (changed h) (decoded (drop i s))) (map (changed h) (decoded (drop r.next s))) r
+  decoded_step s i {c} e g = go c e g
     where
-      ended : from_utf8 (drop (length s) s) ≡ []
-      ended = ap from_utf8 (drop_of_length-le s (le_refl (length s))) ∙ from_none
+      ended : decoded (drop (length s) s) ≡ []
+      ended = ap decoded (drop_of_length-le s (le_refl (length s))) ∙ d.none
 
-      go : (c : Character) → c ≡ utf8_at i (drop i s) → r ≡ fitted_of h left (length s) c
-          → FittedStep left (map (changed h) (from_utf8 (drop i s))) (map (changed h) (from_utf8 (drop r.next s))) r
-      go (Some c) e g = fitted-next h left (length s) l (from_utf8 (drop i s)) (λ j. from_utf8 (drop j s)) (utf8-next s i (sym e)) ended g
+      go : (c : Character) → c ≡ character i (drop i s) → r ≡ fitted_of h left (length s) c
+          → FittedStep left (map (changed h) (decoded (drop i s))) (map (changed h) (decoded (drop r.next s))) r
+      go (Some c) e g = fitted-next h left (length s) l (decoded (drop i s)) (λ j. decoded (drop j s)) (d.goes_on s i (sym e)) ended g
       go None e g =
-          fitted-end h left (length s) l (from_utf8 (drop i s)) (from_utf8 (drop r.next s)) (utf8-end s i (sym e))
-          (ap (λ (f : Read ℕ). from_utf8 (drop f.next s)) g ∙ ended) g
-
-  pub units-step : (s : List ℕ) (i end : ℕ) {c : Character} → c ≡ utf16_at i (part_from i end s) → r ≡ fitted_of h left end c
-      → FittedStep left (map (changed h) (from_utf16 (part_from i end s))) (map (changed h) (from_utf16 (part_from r.next end s))) r
-  units-step s i end {c} e g = go c e g
-    where
-      ended : from_utf16 (part_from end end s) ≡ []
-      ended = ap from_utf16 (units-ended s end end (le_refl end)) ∙ from_no_unit
-
-      go : (c : Character) → c ≡ utf16_at i (part_from i end s) → r ≡ fitted_of h left end c
-          → FittedStep left (map (changed h) (from_utf16 (part_from i end s))) (map (changed h) (from_utf16 (part_from r.next end s))) r
-      go (Some c) e g = fitted-next h left end l (from_utf16 (part_from i end s)) (λ j. from_utf16 (part_from j end s)) (utf16-next s i end (sym e)) ended g
-      go None e g =
-          fitted-end h left end l (from_utf16 (part_from i end s)) (from_utf16 (part_from r.next end s)) (utf16-end s i end (sym e))
-          (ap (λ (f : Read ℕ). from_utf16 (part_from f.next end s)) g ∙ ended) g
+          fitted-end h left (length s) l (decoded (drop i s)) (decoded (drop r.next s)) (d.ended s i (sym e))
+          (ap (λ (f : Read ℕ). decoded (drop f.next s)) g ∙ ended) g
 
 -- What is written of a character, by its width.
 module _ (h : Change) (left end : ℕ) {ch : Character} where

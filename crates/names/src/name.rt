@@ -1,5 +1,5 @@
 // A name, by the part that it is made of and what is done to its characters. What it means: specs/told/Name.antt, `name_text`.
-ghost use Rattle.std.specs.Prelude.{◌≡◌, List, ℕ};
+ghost use Rattle.std.specs.Prelude.{◌≡◌, ◌-◌, List, ℕ, take, drop};
 ghost use Rattle.foundation.specs.Choices.{is_some};
 ghost use Rattle.characters.specs.told.Places.{part_from};
 ghost use Rattle.characters.specs.told.Plain.{instead, with_dots, slashed_character};
@@ -80,8 +80,8 @@ pub fn predefined(index: u32) -> Option<Span>
 }
 
 // The part of `s` from a place to another, as far as `s` goes.
-pub(crate) fn part_of(s: &[u8], start: usize, end: usize) -> &[u8]
-    ensures { result.now ≡ part_from start end s.now }
+pub fn part_of<T>(s: &[T], start: usize, end: usize) -> &[T]
+    ensures { result.now ≡ take (end - start) (drop start s.now) }
 {
     if end <= start {
         return &s[0..0];

@@ -4,7 +4,8 @@
 
 ghost use Rattle.std.specs.Prelude.{◌≤◌, ◌<◌, length, IfOk};
 
-use names::name::{Change, Name, PREDEFINED};
+use names::encoded::Encoded;
+use names::name::{Change, Name, PREDEFINED, part_of};
 use std::io;
 use std::io::Read;
 
@@ -109,24 +110,9 @@ fn print_character(rt: &impl Print, code: u32) -> io::Result<()> {
     Ok(())
 }
 
-fn print_bytes(rt: &impl Print, s: &[u8], change: Change) -> io::Result<()> {
+fn print_text<E: Encoded>(rt: &impl Print, text: E, change: Change) -> io::Result<()> {
     let mut at = 0;
-    while let Some(character) = characters::utf8_at(s, at) {
-        print_character(rt, names::name::character_of(change, character.value))?;
-        at = character.next;
-    }
-    Ok(())
-}
-
-fn print_units(
-    rt: &impl Print,
-    units: &[u16],
-    start: usize,
-    end: usize,
-    change: Change,
-) -> io::Result<()> {
-    let mut at = start;
-    while let Some(character) = characters::utf16_at(units, at, end) {
+    while let Some(character) = text.character_at(at) {
         print_character(rt, names::name::character_of(change, character.value))?;
         at = character.next;
     }
@@ -142,10 +128,10 @@ fn print_name(rt: &impl Print, payload: &[u8], units: &[u16], name: Name) -> io:
     }
     let change = names::name::change_of(name, false);
     if source == 3 {
-        return print_units(rt, units, start, end, change);
+        return print_text(rt, part_of(units, start, end), change);
     }
     let s = names::name::base_part(payload, &PREDEFINED, source, start, end);
-    print_bytes(rt, s, change)
+    print_text(rt, s, change)
 }
 
 fn look_up(
