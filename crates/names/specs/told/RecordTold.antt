@@ -1,20 +1,18 @@
 -- What the code's answers about a record tell, in the definitions' words.
 -- Assumes nothing.
-use Rattle.std.specs.Prelude.{◌≡◌, List, ℕ, eqb, if◌then◌else◌}
+use Rattle.std.specs.Prelude.{◌≡◌, List, ℕ}
 use Rattle.std.proofs.Math.Option.{Option, none, some}
 use Rattle.std.specs.declared.option.Option as rust
 use Rattle.foundation.specs.Choices.{if_some}
 use Rattle.foundation.specs.Results.{ok, ◌from◌}
-use Rattle.fields.specs.Fields.{Record-range, Record-predefined_index, Record-operation, Record-substring_index, Record-replace_char, Record-string}
 use Rattle.wire.specs.Wire.{Message, cut}
-use Rattle.messages.specs.told.Asked.{FoundTold, number_told, piece_told, PieceInside, index_told, number_in}
+use Rattle.messages.specs.told.Asked.{number_told, piece_told, PieceInside, index_told, number_in}
 use Rattle.wire.specs.declared.WireValue.{WireValue}
 use Rattle.messages.specs.declared.repeated.Two.{Two}
 use Rattle.messages.specs.declared.repeated.Two.TheVariants.{Neither, One, Both}
 use Rattle.names.specs.Records.{record_of}
 use Rattle.names.specs.Records as definition
 use Rattle.names.specs.declared.records.Record.{Record}
-use Rattle.std.specs.Prelude.{Some, None}
 
 abbrev pub operation_in : rust.Option WireValue → ℕ
 operation_in f = if_some (number_told (number_in f)) 0 λ n. n
