@@ -3,42 +3,39 @@
 use mathlib.Core.Path.{◌≡◌, refl, ap, sym, ◌∙◌, subst}
 use mathlib.Core.Bool.{Bool, true, false}
 use mathlib.Core.List.{List, [], ◌∷◌}
-use mathlib.Core.Option.{Option, none, some}
-use Rattle.std.specs.declared.option.Option as rust
-use Prim.Native.Nat.{ℕ, zero, suc, ◌≤◌, ◌<◌, ◌%◌, ◌^◌}
+use mathlib.Core.Option as math
+use mathlib.Core.Option.{none, some}
+use Prim.Native.Nat.{ℕ, ◌≤◌, ◌<◌}
 use native.Mathlib.Omega.{arith}
-use borrow.Author.Tests.{eq-eqb, ne_eqb, eqb-true, eqb-false}
+use borrow.Author.Tests.{eqb-true, eqb-false}
 use lib.Dec.{eqb}
 use lib.ListN.{length}
 use Rattle.std.specs.Prelude.{if◌then◌else◌}
 use Rattle.foundation.specs.Choices.{or_else}
-use Rattle.foundation.specs.Results.{Res, ok, refused, ◌from◌}
+use Rattle.foundation.specs.Results.{ok, ◌from◌}
 use Rattle.fields.specs.Fields.{Record-range, Record-predefined_index, Record-operation, Record-substring_index, Record-replace_char, Record-string}
 use Rattle.wire.specs.Wire.{Value, field, read_field, Message, cut}
 use Rattle.wire.specs.Messages.{values, first_of, value, joined, varints}
-use Rattle.wire.specs.told.WireTold.{wire_refused, rest_of, value_of, Inside, FieldTold}
+use Rattle.wire.specs.told.WireTold.{rest_of, value_of, Inside, FieldTold}
 use Rattle.messages.specs.told.Asked.{found_told, FoundInside, FoundTold, piece_in, index_told, index_in}
-use Rattle.messages.specs.told.Repeated.{first_two_of}
 use Rattle.wire.specs.declared.WireError.{WireError}
 use Rattle.wire.specs.declared.WireValue.{WireValue}
 use Rattle.wire.specs.declared.FieldStep.{FieldStep}
 use Rattle.wire.specs.declared.FieldStep.TheVariants as step
-use Rattle.messages.specs.declared.repeated.Two.{Two}
-use Rattle.messages.specs.declared.repeated.Two.TheVariants.{Neither, One, Both}
 use Rattle.wire.proofs.WalkLaws.{field_is, Leads, leads-start, leads-next, leads-never, leads-end, values-found, values-passed}
 use Rattle.messages.proofs.FindLaws.{number_is, index_is, piece_is}
 use Rattle.names.specs.Records.{served, two_of, record_of}
 use Rattle.names.specs.told.RecordTold.{first_seen, with_field, FirstsTold, operation_in, both_numbers, RecordTold}
 use Rattle.names.specs.declared.records.Firsts.{Firsts}
 use Rattle.names.specs.declared.records.Record.{Record}
-use Rattle.std.specs.Prelude.{Some, None}
+use Rattle.std.specs.Prelude.{Option, Some, None}
 
 -- What was seen of field k before a place, and the rest from there, say what the whole message does.
 module _ (k base : ℕ) (s : List ℕ) where
-  pub Known : rust.Option WireValue → Message → Message → Type 0
+  pub Known : Option WireValue → Message → Message → Type 0
   Known f m rest = value k m ≡ or_else (found_told base s f) (value k rest)
 
-  known_next : (f : rust.Option WireValue) (n : ℕ) (v : WireValue) (m rest : Message) → Known f m (field n (value_of base s v) ∷ rest) → Known (first_seen k f n v) m rest
+  known_next : (f : Option WireValue) (n : ℕ) (v : WireValue) (m rest : Message) → Known f m (field n (value_of base s v) ∷ rest) → Known (first_seen k f n v) m rest
   unfolding Known
   known_next (Some w) n v m rest e = e
   known_next None n v m rest e = go (eqb n k) refl
@@ -47,7 +44,7 @@ module _ (k base : ℕ) (s : List ℕ) where
       go true q = e ∙ ap first_of (values-found k (value_of base s v) rest (eqb-true n k q))
       go false q = e ∙ ap first_of (values-passed k (value_of base s v) rest (eqb-false n k q))
 
-  inside-next : (f : rust.Option WireValue) (n : ℕ) (v : WireValue) → FoundInside s f → Inside s v → FoundInside s (first_seen k f n v)
+  inside-next : (f : Option WireValue) (n : ℕ) (v : WireValue) → FoundInside s f → Inside s v → FoundInside s (first_seen k f n v)
   inside-next (Some w) n v h i = h
   inside-next None n v h i = go (eqb n k)
     where
@@ -55,7 +52,7 @@ module _ (k base : ℕ) (s : List ℕ) where
       go true = i
       go false = tt
 
-  pub record Seen (at : ℕ) (f : rust.Option WireValue) : Type 0 where
+  pub record Seen (at : ℕ) (f : Option WireValue) : Type 0 where
     pub leads : Leads (Known f) (◌from◌ base s) (rest_of base s at)
     pub inside : FoundInside s f
 
@@ -63,12 +60,12 @@ module _ (k base : ℕ) (s : List ℕ) where
   unfolding Known
   seen_start = record { leads = leads-start (Known None) base s (λ m. refl); inside = tt }
 
-  module _ (at : ℕ) (f : rust.Option WireValue) (i : Seen at f) where
+  module _ (at : ℕ) (f : Option WireValue) (i : Seen at f) where
     seen_end : length s ≤ at → FoundTold base s k f
     unfolding Known values
     seen_end h = record { is = λ m w. leads-end (Known f) (◌from◌ base s) base s at i.leads h m w ∙ go (found_told base s f); inside = i.inside }
       where
-        go : (o : Option Value) → or_else o none ≡ o
+        go : (o : math.Option Value) → or_else o none ≡ o
         go none = refl
         go (some v) = refl
 
@@ -106,7 +103,7 @@ module _ (base : ℕ) (s : List ℕ) where
   }
 
   module _ (at : ℕ) (f : Firsts) (i : AllSeen base s at f) where
-    abbrev told : ((k : ℕ) (x : rust.Option WireValue) → Seen k base s at x → FoundTold base s k x) → FirstsTold base s f
+    abbrev told : ((k : ℕ) (x : Option WireValue) → Seen k base s at x → FoundTold base s k x) → FirstsTold base s f
     told t = record {
       range = t Record-range f.range i.range;
       predefined = t Record-predefined_index f.predefined i.predefined;
@@ -147,7 +144,7 @@ module _ (base : ℕ) (s : List ℕ) (k : ℕ) (m : Message) (w : cut (◌from�
 
 -- the record, from what each field comes to
 pub record_is : (base : ℕ) (s : List ℕ) (f : Firsts) (r : Record) → FirstsTold base s f
-    → (range : rust.Option ℕ) → index_told range ≡ index_in f.range → r.range ≡ served (index_told range)
+    → (range : Option ℕ) → index_told range ≡ index_in f.range → r.range ≡ served (index_told range)
     → r.string ≡ piece_in f.string → index_told r.predefined ≡ index_in f.predefined → r.operation ≡ operation_in f.operation
     → (FoundTold base s Record-substring_index f.substring → (m : Message) → cut (◌from◌ base s) ≡ ok m → two_of (varints Record-substring_index m) ≡ both_numbers r.substring)
     → (FoundTold base s Record-replace_char f.replaced → (m : Message) → cut (◌from◌ base s) ≡ ok m → two_of (varints Record-replace_char m) ≡ both_numbers r.replaced)

@@ -11,17 +11,17 @@ loop-at-init c =
 pub loop-at-smaller : goal.loop-at-smaller
 loop-at-smaller c =
     let a = c.args in
-    let h = field-inside a.base a.s.now c.loop-at.at (c.field_at-step.ensures.inside (omega arith)) (omega arith) c.in-Field.is in
+    let h = field-inside a.base a.s.now c.loop-at.at c.in-Ok.read (c.in-Ok.ensures.inside (omega arith)) (omega arith) in
     omega arith
 
 pub loop-at-preserved : goal.loop-at-preserved
 loop-at-preserved c =
     let a = c.args in
     let l = c.loop-at in
-    let e = c.field_at-step.ensures.inside (omega arith) in
     let h = c.loop-at-test.true in
-    let g = c.in-Field.is in
-    (seen_next a.first a.base a.s.now l.at e h g l.one l.invariant.0 c.found_or-one.ensures, seen_next a.second a.base a.s.now l.at e h g l.two l.invariant.1 c.found_or-two.ensures, seen_next a.third a.base a.s.now l.at e h g l.three l.invariant.2 c.found_or-three.ensures)
+    let x = c.in-Ok.read in
+    let e = c.in-Ok.ensures.inside (omega arith) in
+    (seen_next a.first a.base a.s.now l.at h x e l.one l.invariant.0 c.found_or-one.ensures, seen_next a.second a.base a.s.now l.at h x e l.two l.invariant.1 c.found_or-two.ensures, seen_next a.third a.base a.s.now l.at h x e l.three l.invariant.2 c.found_or-three.ensures)
 
 pub returns-after-loop-at : goal.returns-after-loop-at
 returns-after-loop-at c =
@@ -34,7 +34,6 @@ pub returns-in_default : goal.returns-in_default
 returns-in_default c =
     let a = c.args in
     let l = c.loop-at in
-    let e = c.field_at-step.ensures.inside (omega arith) in
     let h = c.loop-at-test.true in
-    let g = c.in_default.is in
-    (seen_never a.first a.base a.s.now l.at e h g l.one l.invariant.0, seen_never a.second a.base a.s.now l.at e h g l.two l.invariant.1, seen_never a.third a.base a.s.now l.at e h g l.three l.invariant.2)
+    let e = c.in_default.ensures.inside (omega arith) in
+    (seen_never a.first a.base a.s.now l.at h _ e l.one l.invariant.0, seen_never a.second a.base a.s.now l.at h _ e l.two l.invariant.1, seen_never a.third a.base a.s.now l.at h _ e l.three l.invariant.2)
