@@ -6,6 +6,7 @@ ghost use Rattle.wire.specs.Wire.{cut, Message};
 ghost use Rattle.wire.specs.Messages.{varints};
 ghost use Rattle.messages.specs.told.Asked.{FoundTold, index_told};
 ghost use Rattle.wire.specs.told.WireTold.{rest_of};
+ghost use Rattle.names.specs.declared.records.IndexError.TheVariants.{Wire};
 ghost use Rattle.names.specs.Records.{served, two_of};
 ghost use Rattle.names.specs.told.Index.{packed_places, NotedTold, IndexTold};
 ghost use Rattle.names.specs.told.RecordTold.{with_field, FirstsTold, operation_in, both_numbers, RecordTold};
@@ -133,11 +134,19 @@ pub fn record_in(s: &[u8], base: u32) -> Record
     }
 }
 
+// Why there is no index: the lent notes have no room for it, or the messages are refused.
 #[derive(Clone, Copy)]
-pub enum RecordIndex {
-    Records { count: usize },
+pub enum IndexError {
     NoRoom,
-    Refused { error: WireError },
+    Wire(WireError),
+}
+
+impl From<WireError> for IndexError {
+    ghost from_gives = { λ error made. made ≡ Wire error };
+
+    fn from(error: WireError) -> IndexError {
+        IndexError::Wire(error)
+    }
 }
 
 // Two places in one number.
@@ -161,12 +170,13 @@ fn put_entry(notes: &mut [u64], count: usize, start: u32, end: u32, next: u64)
     notes[at + 2] = next;
 }
 
-// Cuts the records of the name table in `bytes` from `at` on, and notes for each where it stands and the first index that it serves.
-fn note_records(bytes: &[u8], at: usize, notes: &mut [u64]) -> RecordIndex
+// Cuts the records of the name table in `bytes` from `at` on, and notes for each where it stands and the first index that it serves. How
+// many there are.
+fn note_records(bytes: &[u8], at: usize, notes: &mut [u64]) -> Result<usize, IndexError>
     ensures { (m : Message) → cut (rest_of 0 bytes.now at) ≡ ok m → NotedTold bytes.now at m notes.new result }
 {
     if 4294967295 < bytes.len() {
-        return RecordIndex::NoRoom;
+        return Err(IndexError::NoRoom);
     }
     let room = notes.len() / RECORD_WORDS;
     let mut total: u64 = 0;
@@ -174,15 +184,13 @@ fn note_records(bytes: &[u8], at: usize, notes: &mut [u64]) -> RecordIndex
     let mut i = at;
     while i < bytes.len() {
         let Some(record) = next_body(bytes, 0, STRING_TABLE_TYPES_RECORD, i) else {
-            return RecordIndex::Records { count };
+            return Ok(count);
         };
         let message = &bytes[record.start..record.end];
         let base = record.start as u32;
-        if let Err(error) = check(message, base) {
-            return RecordIndex::Refused { error };
-        }
+        check(message, base)?;
         if room <= count {
-            return RecordIndex::NoRoom;
+            return Err(IndexError::NoRoom);
         }
         let range = served(index(message, base, RECORD_RANGE));
         total += range as u64;
@@ -190,26 +198,21 @@ fn note_records(bytes: &[u8], at: usize, notes: &mut [u64]) -> RecordIndex
         count += 1;
         i = record.end;
     }
-    RecordIndex::Records { count }
+    Ok(count)
 }
 
-// The index of a name table: `bytes` are the decoded ones up to its end, and it begins at `at`. An error in the local names refuses after
+// The index of a name table, and how many records it has: `bytes` are the decoded ones up to its end, and it begins at `at`. An error in the local names refuses after
 // all records are cut.
-pub fn index_records(bytes: &[u8], at: usize, notes: &mut [u64]) -> RecordIndex
+pub fn index_records(bytes: &[u8], at: usize, notes: &mut [u64]) -> Result<usize, IndexError>
     ensures { (m : Message) → cut (rest_of 0 bytes.now at) ≡ ok m → IndexTold bytes.now at m notes.new result }
 {
     if bytes.len() < at {
-        return RecordIndex::NoRoom;
+        return Err(IndexError::NoRoom);
     }
     if 4294967295 < at {
-        return RecordIndex::NoRoom;
+        return Err(IndexError::NoRoom);
     }
-    let noted = note_records(bytes, at, notes);
-    let RecordIndex::Records { count } = noted else {
-        return noted;
-    };
-    match check_varints(&bytes[at..], at as u32, STRING_TABLE_TYPES_LOCAL_NAME) {
-        Ok(()) => RecordIndex::Records { count },
-        Err(error) => RecordIndex::Refused { error },
-    }
+    let count = note_records(bytes, at, notes)?;
+    check_varints(&bytes[at..], at as u32, STRING_TABLE_TYPES_LOCAL_NAME)?;
+    Ok(count)
 }

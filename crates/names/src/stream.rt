@@ -7,7 +7,8 @@ ghost use Rattle.names.specs.told.Name.{predefined_list, source_text, fitted, is
 ghost use Rattle.names.specs.told.Stream.{changed, changed_bytes, KeepsWidth, fitted_of, source_bytes, name_bytes, PutText, NoneReplaced, PlainPart};
 
 use crate::name::{Change, Name, PREDEFINED, change_of, character_of, part_of};
-use characters::{Character, ascii, measure};
+use characters::{ascii, measure};
+use foundation::Read;
 
 // The text of some bytes, each character changed, one by one. Answers the place after it.
 fn put_utf8(s: &[u8], change: Change, area: &mut [u8], at: usize) -> usize
@@ -16,15 +17,12 @@ fn put_utf8(s: &[u8], change: Change, area: &mut [u8], at: usize) -> usize
 {
     let mut i = 0;
     let mut to = at;
-    loop {
-        let character = characters::utf8_at(&*s, i);
-        let Character::Read { code, next } = character else {
-            return to;
-        };
-        let size = characters::put_character(area, to, character_of(change, code));
-        to += size;
-        i = next;
+    while let Some(character) = characters::utf8_at(s, i) {
+        let code = character_of(change, character.value);
+        to += characters::put_character(area, to, code);
+        i = character.next;
     }
+    to
 }
 
 // The same of units of d2.
@@ -41,15 +39,12 @@ fn put_utf16(
 {
     let mut i = start;
     let mut to = at;
-    loop {
-        let character = characters::utf16_at(&*units, i, end);
-        let Character::Read { code, next } = character else {
-            return to;
-        };
-        let size = characters::put_character(area, to, character_of(change, code));
-        to += size;
-        i = next;
+    while let Some(character) = characters::utf16_at(units, i, end) {
+        let code = character_of(change, character.value);
+        to += characters::put_character(area, to, code);
+        i = character.next;
     }
+    to
 }
 
 // Does a change keep how many bytes each character takes?
@@ -66,12 +61,12 @@ fn past_bytes(s: &[u8], change: Change, at: usize) -> usize
     ensures { result ≡ at + length (changed_bytes change (from_utf8 s.now)) }
 {
     if keeps_width(change) {
-        if ascii::ascii_bytes(&*s) {
+        if ascii::ascii_bytes(s) {
             return at + s.len();
         }
     }
     let mut none = [0u8; 0];
-    put_utf8(&*s, change, &mut none, at)
+    put_utf8(s, change, &mut none, at)
 }
 
 // The same of units of d2: by the units alone, where the part is there and no character's width changes.
@@ -81,11 +76,11 @@ fn past_units(units: &[u16], start: usize, end: usize, change: Change, at: usize
 {
     if end <= units.len() {
         if keeps_width(change) {
-            return at + measure::utf8_size(&*units, start, end);
+            return at + measure::utf8_size(units, start, end);
         }
     }
     let mut none = [0u8; 0];
-    put_utf16(&*units, start, end, change, &mut none, at)
+    put_utf16(units, start, end, change, &mut none, at)
 }
 
 // Is no character replaced, but / and $ by dots and dots by slashes?
@@ -105,21 +100,21 @@ fn put_bytes(s: &[u8], change: Change, area: &mut [u8], at: usize) -> usize
     ensures { PutText (changed_bytes change (from_utf8 s.now)) at result area.old area.new }
 {
     if replaces_none(change) {
-        if ascii::ascii_bytes(&*s) {
+        if ascii::ascii_bytes(s) {
             let next = at + s.len();
             if area.len() <= at {
                 return next;
             }
             if next <= area.len() {
-                ascii::copy_bytes(&*s, change.dots, change.slashes, area, at);
+                ascii::copy_bytes(s, change.dots, change.slashes, area, at);
                 return next;
             }
         }
     }
     if area.len() <= at {
-        return past_bytes(&*s, change, at);
+        return past_bytes(s, change, at);
     }
-    put_utf8(&*s, change, area, at)
+    put_utf8(s, change, area, at)
 }
 
 // Is a part of d2 there, and made of characters below 128?
@@ -132,7 +127,7 @@ fn plain_units(units: &[u16], start: usize, end: usize) -> bool
     if units.len() < end {
         return false;
     }
-    ascii::ascii_units(&*units, start, end)
+    ascii::ascii_units(units, start, end)
 }
 
 // The text of some units of d2, in the same way.
@@ -148,27 +143,27 @@ fn put_units(
     ensures { PutText (changed_bytes change (from_utf16 (part_from start end units.now))) at result area.old area.new }
 {
     if replaces_none(change) {
-        if plain_units(&*units, start, end) {
+        if plain_units(units, start, end) {
             let next = at + (end - start);
             if area.len() <= at {
                 return next;
             }
             if next <= area.len() {
-                ascii::copy_units(&*units, start, end, change.dots, change.slashes, area, at);
+                ascii::copy_units(units, start, end, change.dots, change.slashes, area, at);
                 return next;
             }
         }
     }
     if area.len() <= at {
-        return past_units(&*units, start, end, change, at);
+        return past_units(units, start, end, change, at);
     }
     if end < start {
-        return put_utf16(&*units, start, end, change, area, at);
+        return put_utf16(units, start, end, change, area, at);
     }
     if area.len() - at < end - start {
-        return put_first_units(&*units, start, end, change, area, at);
+        return put_first_units(units, start, end, change, area, at);
     }
-    put_utf16(&*units, start, end, change, area, at)
+    put_utf16(units, start, end, change, area, at)
 }
 
 // A part of the predefined list. The list stands in no function that writes other names, since each call copies it.
@@ -180,23 +175,24 @@ fn put_listed(start: usize, end: usize, change: Change, area: &mut [u8], at: usi
 }
 
 // What is written next of a text whose size is noted, and where it goes on.
-#[derive(Clone, Copy)]
-struct Fitted {
-    pub code: u32,
-    pub next: usize,
-}
-
-fn fitted_of(character: Character, change: Change, left: usize, end: usize) -> Fitted
+fn fitted_of(character: Option<Read<u32>>, change: Change, left: usize, end: usize) -> Read<u32>
     ensures { result ≡ fitted_of change left end character }
 {
-    let Character::Read { code, next } = character else {
-        return Fitted { code: 0, next: end };
+    let ended = Read {
+        value: 0,
+        next: end,
     };
-    let c = character_of(change, code);
-    if left < characters::width_of(c) {
-        return Fitted { code: 0, next: end };
+    let Some(read) = character else {
+        return ended;
+    };
+    let code = character_of(change, read.value);
+    if left < characters::width_of(code) {
+        return ended;
     }
-    Fitted { code: c, next }
+    Read {
+        value: code,
+        next: read.next,
+    }
 }
 
 // The text of some bytes, made to take `size` bytes, as far as the area goes: what is past its end is not walked.
@@ -211,9 +207,9 @@ fn put_fitted(s: &[u8], change: Change, size: usize, area: &mut [u8], at: usize)
         if area.len() <= to {
             return;
         }
-        let character = characters::utf8_at(&*s, i);
+        let character = characters::utf8_at(s, i);
         let one = fitted_of(character, change, left, s.len());
-        let taken = characters::put_character(area, to, one.code);
+        let taken = characters::put_character(area, to, one.value);
         to += taken;
         left -= taken;
         i = one.next;
@@ -240,9 +236,9 @@ fn put_fitted_units(
         if area.len() <= to {
             return;
         }
-        let character = characters::utf16_at(&*units, i, end);
+        let character = characters::utf16_at(units, i, end);
         let one = fitted_of(character, change, left, end);
-        let taken = characters::put_character(area, to, one.code);
+        let taken = characters::put_character(area, to, one.value);
         to += taken;
         left -= taken;
         i = one.next;
@@ -261,8 +257,8 @@ fn put_first_units(
     requires { at + length (changed_bytes change (from_utf16 (part_from start end units.now))) < 2 ^ 64 }
     ensures { PutText (changed_bytes change (from_utf16 (part_from start end units.now))) at result area.old area.new }
 {
-    let next = past_units(&*units, start, end, change, at);
-    put_fitted_units(&*units, start, end, change, next - at, area, at);
+    let next = past_units(units, start, end, change, at);
+    put_fitted_units(units, start, end, change, next - at, area, at);
     next
 }
 
@@ -274,14 +270,14 @@ fn put_measured(s: &[u8], change: Change, size: usize, area: &mut [u8], at: usiz
     if s.len() == size {
         if replaces_none(change) {
             if at + size <= area.len() {
-                if ascii::ascii_bytes(&*s) {
-                    ascii::copy_bytes(&*s, change.dots, change.slashes, area, at);
+                if ascii::ascii_bytes(s) {
+                    ascii::copy_bytes(s, change.dots, change.slashes, area, at);
                     return;
                 }
             }
         }
     }
-    put_fitted(&*s, change, size, area, at);
+    put_fitted(s, change, size, area, at);
 }
 
 // A measured part of the predefined list.
@@ -320,14 +316,14 @@ fn put_noted(
         return next;
     }
     if source == 3 {
-        put_fitted_units(&*d2, start, end, change, size, area, at);
+        put_fitted_units(d2, start, end, change, size, area, at);
         return next;
     }
     if source == 2 {
         put_measured_list(start, end, change, size, area, at);
         return next;
     }
-    put_measured(part_of(&*payload, start, end), change, size, area, at);
+    put_measured(part_of(payload, start, end), change, size, area, at);
     next
 }
 
@@ -356,12 +352,12 @@ fn put_walked(
     let start = name.start;
     let end = name.end;
     if source == 3 {
-        return put_units(&*d2, start, end, change, area, at);
+        return put_units(d2, start, end, change, area, at);
     }
     if source == 2 {
         return put_listed(start, end, change, area, at);
     }
-    put_bytes(part_of(&*payload, start, end), change, area, at)
+    put_bytes(part_of(payload, start, end), change, area, at)
 }
 
 // The characters of a name's source, changed.
@@ -377,9 +373,9 @@ fn put_source(
     ensures { PutText (source_bytes name.size change (source_text payload.now d2.now name)) at result area.old area.new }
 {
     if is_measured(name.size) {
-        return put_noted(&*payload, &*d2, name, change, area, at);
+        return put_noted(payload, d2, name, change, area, at);
     }
-    put_walked(&*payload, &*d2, name, change, area, at)
+    put_walked(payload, d2, name, change, area, at)
 }
 
 // A name's text in UTF-8, as far as the area goes; an absent one has none. Answers the place after it.
@@ -403,5 +399,5 @@ pub fn put_name(
         return at;
     }
     let change = change_of(name, slashes);
-    put_source(&*payload, &*d2, name, change, area, at)
+    put_source(payload, d2, name, change, area, at)
 }

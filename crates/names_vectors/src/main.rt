@@ -4,10 +4,7 @@
 
 ghost use Rattle.std.specs.Prelude.{◌≤◌, ◌<◌, length, IfOk};
 
-use characters::Character;
-use messages::Checked;
 use names::name::{Change, Name, PREDEFINED};
-use names::records::RecordIndex;
 use std::io;
 use std::io::Read;
 
@@ -114,14 +111,11 @@ fn print_character(rt: &impl Print, code: u32) -> io::Result<()> {
 
 fn print_bytes(rt: &impl Print, s: &[u8], change: Change) -> io::Result<()> {
     let mut at = 0;
-    loop {
-        let character = characters::utf8_at(s, at);
-        let Character::Read { code, next } = character else {
-            return Ok(());
-        };
-        print_character(rt, names::name::character_of(change, code))?;
-        at = next;
+    while let Some(character) = characters::utf8_at(s, at) {
+        print_character(rt, names::name::character_of(change, character.value))?;
+        at = character.next;
     }
+    Ok(())
 }
 
 fn print_units(
@@ -132,14 +126,11 @@ fn print_units(
     change: Change,
 ) -> io::Result<()> {
     let mut at = start;
-    loop {
-        let character = characters::utf16_at(units, at, end);
-        let Character::Read { code, next } = character else {
-            return Ok(());
-        };
-        print_character(rt, names::name::character_of(change, code))?;
-        at = next;
+    while let Some(character) = characters::utf16_at(units, at, end) {
+        print_character(rt, names::name::character_of(change, character.value))?;
+        at = character.next;
     }
+    Ok(())
 }
 
 fn print_name(rt: &impl Print, payload: &[u8], units: &[u16], name: Name) -> io::Result<()> {
@@ -165,13 +156,11 @@ fn look_up(
     index: u32,
     kind: u8,
 ) -> io::Result<()> {
-    let checked = messages::check(table, 0);
-    let Checked::Whole = checked else {
+    if messages::check(table, 0).is_err() {
         return print!(rt; "refused");
-    };
+    }
     let mut notes = [0u64; 48];
-    let indexed = names::records::index_records(table, 0, &mut notes);
-    let RecordIndex::Records { count } = indexed else {
+    let Ok(count) = names::records::index_records(table, 0, &mut notes) else {
         return print!(rt; "refused");
     };
     lookup::resolve::resolve(table, &mut notes, count);

@@ -3,8 +3,8 @@
 use mathlib.Core.Path.{◌≡◌, refl, ap, sym, ◌∙◌, subst}
 use mathlib.Core.Bool.{Bool, true, false, ◌&&◌, ◌||◌}
 use mathlib.Core.List.{List, [], ◌∷◌}
-use mathlib.Core.Option as math
-use mathlib.Core.Option.{none, some}
+use mathlib.Core.Option.{Option, none, some}
+use Rattle.std.specs.declared.option.Option as rust
 use Prim.Native.Nat.{ℕ, ◌+◌, ◌-◌, ◌^◌, ◌≤◌, ◌<◌}
 use native.Mathlib.Omega.{arith}
 use borrow.Author.Tests.{eq-eqb, ne_eqb, lt-ltb, le-ltb, le-leb, eqb-true, ltb-true, leb-true}
@@ -42,7 +42,7 @@ use Rattle.record_names.proofs.EndsLaws.{steps_dropped}
 use Rattle.record_names.specs.declared.steps.Base.{Base}
 use Rattle.record_names.specs.declared.steps.Base.TheVariants as base
 use Rattle.names.proofs.NameLaws.{source-bytes}
-use Rattle.std.specs.Prelude.{Option, Some, None}
+use Rattle.std.specs.Prelude.{Some, None}
 use Rattle.foundation.specs.declared.Span.{Span}
 
 -- Tests of numbers.
@@ -129,7 +129,7 @@ module _ (s : List ℕ) (first last : ℕ) where
               }
 
 -- What a record's text is made of.
-module _ (from : ℕ) (index : Option ℕ) {string : Option Span} where
+module _ (from : ℕ) (index : rust.Option ℕ) {string : rust.Option Span} where
   pub base-string : {p : Span} → string ≡ Some p → BaseTold from string index (base.Part 1 (from + p.start) (from + p.end))
   unfolding source_text
   base-string {p} g = record {
@@ -182,14 +182,14 @@ module _ (payload : List ℕ) (source start end : ℕ) where
   pub left-whole : (op : ℕ) → (op ≡ 2 → ⊥) → LeftTold payload source start end (dropped op) (record { start = start; end = end })
   left-whole op f d2 = go (source_text payload d2 (plain source start end))
     where
-      go : (o : math.Option Text) → map_option (dropped op) o ≡ o
+      go : (o : Option Text) → map_option (dropped op) o ≡ o
       go none = refl
       go (some t) = rw (ne_eqb op 2 f)
 
   pub left-inner : (op : ℕ) → op ≡ 2 → (r : Span) → LeftTold payload source start end without_ends r → LeftTold payload source start end (dropped op) r
   left-inner op e r t d2 = go (source_text payload d2 (plain source start end)) ∙ t d2
     where
-      go : (o : math.Option Text) → map_option (dropped op) o ≡ map_option without_ends o
+      go : (o : Option Text) → map_option (dropped op) o ≡ map_option without_ends o
       go none = refl
       go (some u) = rw (eq-eqb op 2 e)
 
@@ -251,7 +251,7 @@ module _ (payload d2 : List ℕ) (source start end op : ℕ) where
   unfolding name_text source_text
   named-is from to e = rw e (go (source_text payload d2 (plain source start end)))
     where
-      go : (o : math.Option Text) → map_option (λ t. turned (known op) (substituted from to t)) o ≡ map_option (λ t. turned op (substituted from to t)) o
+      go : (o : Option Text) → map_option (λ t. turned (known op) (substituted from to t)) o ≡ map_option (λ t. turned op (substituted from to t)) o
       go none = refl
       go (some t) = ap some (turned-known op (substituted from to t))
 
@@ -259,7 +259,7 @@ module _ (payload d2 : List ℕ) (source start end op : ℕ) where
       → name_text payload d2 (steps_of 0 0 k) ≡ turned_steps (both_numbers two) op (source_text payload d2 (plain source start end))
   steps-none two q e = named-is 0 0 e ∙ rw q (go (source_text payload d2 (plain source start end)))
     where
-      go : (o : math.Option Text) → map_option (λ t. turned op (substituted 0 0 t)) o ≡ turned_steps none op o
+      go : (o : Option Text) → map_option (λ t. turned op (substituted 0 0 t)) o ≡ turned_steps none op o
       go none = refl
       go (some t) = ap (λ (x : Text). some (turned op x)) (same-substituted t)
 
@@ -269,7 +269,7 @@ module _ (payload d2 : List ℕ) (source start end op : ℕ) where
     unfolding replace_of
     steps-both t e = named-is a b e ∙ rw (q, ← s, t) (go (source_text payload d2 (plain source start end)))
       where
-        go : (o : math.Option Text) → map_option (λ t. turned op (substituted a b t)) o ≡ if_some o none λ t. some (turned op (substituted a b t))
+        go : (o : Option Text) → map_option (λ t. turned op (substituted a b t)) o ≡ if_some o none λ t. some (turned op (substituted a b t))
         go none = refl
         go (some t) = refl
 
@@ -278,7 +278,7 @@ module _ (payload d2 : List ℕ) (source start end op : ℕ) where
     unfolding replace_of name_text source_text
     steps-absent t e = rw (e, q, ← s, t) (go (source_text payload d2 (plain source start end)))
       where
-        go : (o : math.Option Text) → ◌≡◌ {A = math.Option Text} none (if_some o none λ t. none)
+        go : (o : Option Text) → ◌≡◌ {A = Option Text} none (if_some o none λ t. none)
         go none = refl
         go (some t) = refl
 
@@ -291,7 +291,7 @@ pub sub_none : (payload : List ℕ) (source start end : ℕ) (two : Two) → bot
     → StepTold payload (stepped substring_of (both_numbers two)) source start end (base.Part source start end)
 sub_none payload source start end two e p q = record { bytes = (p, q); is = λ d2. rw e (go (source_text payload d2 (plain source start end))) }
   where
-    go : (o : math.Option Text) → if_some o none some ≡ o
+    go : (o : Option Text) → if_some o none some ≡ o
     go none = refl
     go (some t) = refl
 
@@ -300,7 +300,7 @@ text-is : (r : definition.Record) → text_of r ≡ with_steps r.replaced r.oper
 unfolding text_of
 text-is r = go (base_text r)
   where
-    go : (o : math.Option Text)
+    go : (o : Option Text)
         → if_some o none (λ base. if_some (stepped substring_of r.substring base) none λ part. map_option (operated r.operation) (stepped replace_of r.replaced part))
         ≡ with_steps r.replaced r.operation (if_some o none (stepped substring_of r.substring))
     go none = refl
@@ -325,7 +325,7 @@ module _ (payload : List ℕ) (from : ℕ) (read : Record) (x : Base) (t : BaseT
     module _ {source start stop : ℕ} (g : x ≡ base.Part source start stop) (y : Base)
         (u : StepTold payload (stepped substring_of (both_numbers read.substring)) source start stop y) where
       part-is : if_some (base_text told) none (stepped substring_of told.substring) ≡ text_in payload d2 y
-      part-is = ap (λ (o : math.Option Text). if_some o none (stepped substring_of told.substring)) (base-is ∙ ap (text_in payload d2) g) ∙ u.is d2
+      part-is = ap (λ (o : Option Text). if_some o none (stepped substring_of told.substring)) (base-is ∙ ap (text_in payload d2) g) ∙ u.is d2
 
       pub record-cut : y ≡ base.Nothing → n ≡ absent_name → name_text payload d2 n ≡ text_of told
       unfolding name_text source_text
@@ -336,13 +336,13 @@ module _ (payload : List ℕ) (from : ℕ) (read : Record) (x : Base) (t : BaseT
           → name_text payload d2 n ≡ turned_steps (both_numbers read.replaced) read.operation (source_text payload d2 (plain of l.start l.end))
           → name_text payload d2 n ≡ text_of told
       record-built {of} {a} {b} q l left e =
-          let steps : math.Option Text → math.Option Text = turned_steps told.replaced told.operation in
+          let steps : Option Text → Option Text = turned_steps told.replaced told.operation in
           e
           ∙ ap steps (sym (left d2))
           ∙ sym (steps_dropped told.replaced told.operation (source_text payload d2 (plain of a b)))
           ∙ sym (text-is told ∙ ap (with_steps told.replaced told.operation) (part-is ∙ ap (text_in payload d2) q))
 
 -- A piece of a part of some bytes has places among them.
-pub piece-fits : (bytes : List ℕ) (start end : ℕ) → start ≤ end → end < 2 ^ 64 → (p : Option Span) → PieceInside (part_from start end bytes) p → PieceFits start p
+pub piece-fits : (bytes : List ℕ) (start end : ℕ) → start ≤ end → end < 2 ^ 64 → (p : rust.Option Span) → PieceInside (part_from start end bytes) p → PieceFits start p
 piece-fits bytes start end h l (Some p) i = (i.0, omega (arith, i.1, part-short bytes start end))
 piece-fits bytes start end h l None i = tt

@@ -85,8 +85,8 @@ fn show_cuts(rt: &impl Print, name: &str, s: &[u8]) -> io::Result<()> {
 fn show_first(rt: &impl Print, name: &str, s: &[u8], number: u32) -> io::Result<()> {
     print!(rt; "{name}\n  first")?;
     match messages::find(s, 0, number) {
-        None => println!(rt; " nothing"),
         Some(value) => print_value(rt, value),
+        None => println!(rt; " nothing"),
     }
 }
 

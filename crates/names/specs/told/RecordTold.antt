@@ -1,8 +1,8 @@
 -- What the code's answers about a record tell, in the definitions' words.
 -- Assumes nothing.
 use Rattle.std.specs.Prelude.{◌≡◌, List, ℕ}
-use Rattle.std.proofs.Math.Option as math
-use Rattle.std.proofs.Math.Option.{none, some}
+use Rattle.std.proofs.Math.Option.{Option, none, some}
+use Rattle.std.specs.declared.option.Option as rust
 use Rattle.foundation.specs.Choices.{if_some}
 use Rattle.foundation.specs.Results.{ok, ◌from◌}
 use Rattle.fields.specs.Fields.{Record-range, Record-predefined_index, Record-operation, Record-substring_index, Record-replace_char, Record-string}
@@ -15,7 +15,6 @@ use Rattle.names.specs.Records.{record_of}
 use Rattle.names.specs.Records as definition
 use Rattle.names.specs.declared.records.Firsts.{Firsts}
 use Rattle.names.specs.declared.records.Record.{Record}
-use Rattle.std.specs.Prelude.{Option}
 
 -- the first occurrences of all fields, after one more field
 unfoldable pub with_field : Firsts → ℕ → WireValue → Firsts
@@ -37,10 +36,10 @@ pub record FirstsTold (base : ℕ) (s : List ℕ) (f : Firsts) : Type 0 where
   pub replaced : FoundTold base s Record-replace_char f.replaced
   pub string : FoundTold base s Record-string f.string
 
-abbrev pub operation_in : Option WireValue → ℕ
+abbrev pub operation_in : rust.Option WireValue → ℕ
 operation_in f = if_some (number_told (number_in f)) 0 λ n. n
 
-abbrev pub both_numbers : Two → math.Option (ℕ × ℕ)
+abbrev pub both_numbers : Two → Option (ℕ × ℕ)
 both_numbers Neither = none
 both_numbers (One a) = none
 both_numbers (Both a b) = some (a, b)

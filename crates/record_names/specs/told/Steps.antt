@@ -1,8 +1,8 @@
 -- What the code's answers about a record's text tell, in the definitions' words.
 -- Assumes nothing.
 use Rattle.std.specs.Prelude.{◌≡◌, false, List, ℕ, ◌+◌, ◌^◌, ◌≤◌, ◌<◌, eqb, length, if◌then◌else◌}
-use Rattle.std.proofs.Math.Option as math
-use Rattle.std.proofs.Math.Option.{none, some}
+use Rattle.std.proofs.Math.Option.{Option, none, some}
+use Rattle.std.specs.declared.option.Option as rust
 use Rattle.foundation.specs.Choices.{if_some, map_option}
 use Rattle.foundation.specs.Texts.{Text}
 use Rattle.messages.specs.told.Asked.{piece_told, PieceInside, index_told}
@@ -18,10 +18,10 @@ use Rattle.record_names.specs.declared.Extent.{Extent}
 use Rattle.record_names.specs.declared.Extent.TheVariants as extent
 use Rattle.record_names.specs.declared.steps.Base.{Base}
 use Rattle.record_names.specs.declared.steps.Base.TheVariants as base
-use Rattle.std.specs.Prelude.{Option, Some, None}
+use Rattle.std.specs.Prelude.{Some, None}
 use Rattle.foundation.specs.declared.Span.{Span}
 
-abbrev pub extent_of : List ℕ → Extent → math.Option (List ℕ)
+abbrev pub extent_of : List ℕ → Extent → Option (List ℕ)
 extent_of s (extent.Part start end) = some (part_from start end s)
 extent_of s extent.Nothing = none
 
@@ -35,11 +35,11 @@ pub record SubstringTold (s : List ℕ) (first last : ℕ) (r : Extent) : Type 0
   pub inside : ExtentInside s r
 
 -- a piece of a message that begins at `from` has places
-abbrev pub PieceFits : ℕ → Option Span → Type 0
+abbrev pub PieceFits : ℕ → rust.Option Span → Type 0
 PieceFits from (Some p) = (p.start ≤ p.end) × (from + p.end < 2 ^ 64)
 PieceFits from None = Unit {0}
 
-abbrev pub text_in : List ℕ → List ℕ → Base → math.Option Text
+abbrev pub text_in : List ℕ → List ℕ → Base → Option Text
 text_in payload d2 (base.Part source start end) = source_text payload d2 (plain source start end)
 text_in payload d2 base.Nothing = none
 
@@ -49,14 +49,14 @@ OfBytes (base.Part source start end) = (0 < source) × (source ≤ 2)
 OfBytes base.Nothing = Unit {0}
 
 -- what a record's text is made of, whose message begins at `from`: its string or its predefined string
-pub record BaseTold (from : ℕ) (string : Option Span) (index : Option ℕ) (r : Base) : Type 0 where
+pub record BaseTold (from : ℕ) (string : rust.Option Span) (index : rust.Option ℕ) (r : Base) : Type 0 where
   pub bytes : OfBytes r
   pub is : (payload d2 : List ℕ) (end : ℕ) → PieceInside (part_from from end payload) string
       → if_some (piece_told from (part_from from end payload) string) (if_some (index_told index) none predefined_text) (λ p. some (from_utf8 p.bytes))
       ≡ text_in payload d2 r
 
 -- the part of a part that a step gives
-pub record StepTold (payload : List ℕ) (step : Text → math.Option Text) (source start end : ℕ) (r : Base) : Type 0 where
+pub record StepTold (payload : List ℕ) (step : Text → Option Text) (source start end : ℕ) (r : Base) : Type 0 where
   pub bytes : OfBytes r
   pub is : (d2 : List ℕ) → if_some (source_text payload d2 (plain source start end)) none step ≡ text_in payload d2 r
 
@@ -69,18 +69,18 @@ abbrev pub known : ℕ → ℕ
 known operation = if eqb operation 1 then 1 else if eqb operation 2 then 2 else 0
 
 -- replacement and operation of a text
-abbrev pub with_steps : math.Option (ℕ × ℕ) → ℕ → math.Option Text → math.Option Text
+abbrev pub with_steps : Option (ℕ × ℕ) → ℕ → Option Text → Option Text
 with_steps replaced operation text = if_some text none λ t. map_option (operated operation) (stepped replace_of replaced t)
 
 -- the same of a text from which the operation has dropped what it drops
-abbrev pub turned_steps : math.Option (ℕ × ℕ) → ℕ → math.Option Text → math.Option Text
+abbrev pub turned_steps : Option (ℕ × ℕ) → ℕ → Option Text → Option Text
 turned_steps replaced operation text = if_some text none λ t. map_option (turned operation) (stepped replace_of replaced t)
 
 -- a name that is made of bytes, not of units, and is no class name yet; its size isn't noted yet
 abbrev pub BytesName : Name → Type 0
 BytesName n = (n.source ≤ 2) × (n.qualified ≡ false) × (n.operation < 4) × (n.from < 2097152) × (n.to < 2097152) × (n.size ≡ 0)
 
-pub record StepsTold (source start end : ℕ) (replaced : math.Option (ℕ × ℕ)) (operation : ℕ) (r : Name) : Type 0 where
+pub record StepsTold (source start end : ℕ) (replaced : Option (ℕ × ℕ)) (operation : ℕ) (r : Name) : Type 0 where
   pub bytes : source ≤ 2 → BytesName r
   pub is : (payload d2 : List ℕ) → name_text payload d2 r ≡ turned_steps replaced operation (source_text payload d2 (plain source start end))
 

@@ -28,19 +28,19 @@ overflow_add-base c = let h = part_in c.loop-start.invariant.0 c.next_body-piece
 pub overflow_add-at : goal.overflow_add-at
 overflow_add-at c = let h = part_room c.loop-start.invariant.0 c.next_body-piece.ensures c.in-Body.is c.requires in omega (arith, h.room)
 
-pub type_part-part-requires : goal.type_part-part-requires
-type_part-part-requires c = part_room c.loop-start.invariant.0 c.next_body-piece.ensures c.in-Body.is c.requires
+pub type_part-requires : goal.type_part-requires
+type_part-requires c = part_room c.loop-start.invariant.0 c.next_body-piece.ensures c.in-Body.is c.requires
 
-pub returns-in_default-part : goal.returns-in_default-part
-returns-in_default-part c = parts-absent c.loop-start.invariant.0 c.next_body-piece.ensures c.in-Body.is c.requires.stands c.type_part-part.ensures c.in_default-part.is
+pub returns-in_err-size : goal.returns-in_err-size
+returns-in_err-size c = rw c.from_residual.ensures (parts-absent c.loop-start.invariant.0 c.next_body-piece.ensures c.in-Body.is c.requires.stands c.type_part.ensures c.in_err-size.was)
 
 pub overflow_add-size : goal.overflow_add-size
 overflow_add-size c = let h = part_room c.loop-start.invariant.0 c.next_body-piece.ensures c.in-Body.is c.requires in
-    let k = parts_next c.loop-start.invariant.0 c.next_body-piece.ensures c.in-Body.is c.requires.stands c.type_part-part.ensures c.in-Written.is in
+    let k = parts_next c.loop-start.invariant.0 c.next_body-piece.ensures c.in-Body.is c.requires.stands c.type_part.ensures c.in_ok-size.was in
     omega (arith, h.room, k.few, k.inside, c.requires.stands.inside, c.requires.payload-short)
 
 pub loop-start-smaller : goal.loop-start-smaller
 loop-start-smaller c = let h = part_in c.loop-start.invariant.0 c.next_body-piece.ensures c.in-Body.is in omega arith
 
 pub loop-start-preserved : goal.loop-start-preserved
-loop-start-preserved c = (parts_next c.loop-start.invariant.0 c.next_body-piece.ensures c.in-Body.is c.requires.stands c.type_part-part.ensures c.in-Written.is, c.type_part-part.auto.area ∙ c.loop-start.invariant.1)
+loop-start-preserved c = (parts_next c.loop-start.invariant.0 c.next_body-piece.ensures c.in-Body.is c.requires.stands c.type_part.ensures c.in_ok-size.was, c.type_part.auto.area ∙ c.loop-start.invariant.1)

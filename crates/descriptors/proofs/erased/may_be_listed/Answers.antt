@@ -12,4 +12,4 @@ pub returns-in_default : goal.returns-in_default
 returns-in_default c = λ e. never_false e
 
 pub returns : goal.returns
-returns c = λ e. not_listed c.args.payload.now c.args.d2.now c.args.name c.if-source-ne3.false c.change_of.ensures (utf16-next c.args.d2.now c.args.name.start c.args.name.end (sym c.utf16_at-character.ensures ∙ c.in-Read.is)) c.character_of.ensures (eqb-false c.character_of.result 0x6b e)
+returns c = λ e. not_listed c.args.payload.now c.args.d2.now c.args.name c.if-source-ne3.false c.change_of.ensures (utf16-next c.args.d2.now c.args.name.start c.args.name.end (sym c.utf16_at.ensures ∙ c.in-Some.is)) c.character_of.ensures (eqb-false c.character_of.result 0x6b e)

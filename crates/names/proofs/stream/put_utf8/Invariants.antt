@@ -4,8 +4,8 @@ use Rattle.characters.specs.Characters.{from_utf8}
 use Rattle.names.proofs.StreamLaws.{Streaming}
 use Rattle.names.proofs.stream.put_utf8.Given as goal
 
-abbrev pub invariant-loop-code : goal.invariant-loop-code
-invariant-loop-code l = Streaming l.change (from_utf8 l.s) (from_utf8 (drop l.i l.s)) l.at l.to l.initial.area l.area
+abbrev pub invariant-loop-character : goal.invariant-loop-character
+invariant-loop-character l = Streaming l.change (from_utf8 l.s) (from_utf8 (drop l.i l.s)) l.at l.to l.initial.area l.area
 
-abbrev pub decreases-loop-code : goal.decreases-loop-code
-decreases-loop-code l = length l.s - l.i
+abbrev pub decreases-loop-character : goal.decreases-loop-character
+decreases-loop-character l = length l.s - l.i
