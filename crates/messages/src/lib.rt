@@ -140,8 +140,8 @@ pub struct ThreeFound {
     pub third: Option<WireValue>,
 }
 
-// What was found of a field before a place, if it was found, and else its value, if the field at the place is the one that is asked for.
-fn found_or(seen: Option<WireValue>, asked: u32, field: Field) -> Option<WireValue>
+// What was found of a field before a place, if it was found, and else the value of the field at the place, if that is the one that is asked for.
+pub fn found_or(seen: Option<WireValue>, asked: u32, field: Field) -> Option<WireValue>
     ensures { result ≡ found_or seen asked field.number field.value }
 {
     if seen.is_some() {

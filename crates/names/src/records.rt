@@ -9,7 +9,7 @@ ghost use Rattle.wire.specs.told.WireTold.{rest_of};
 ghost use Rattle.names.specs.declared.records.IndexError.TheVariants.{Wire};
 ghost use Rattle.names.specs.Records.{served, two_of};
 ghost use Rattle.names.specs.told.Index.{packed_places, NotedTold, IndexTold};
-ghost use Rattle.names.specs.told.RecordTold.{first_seen, with_field, FirstsTold, operation_in, both_numbers, RecordTold};
+ghost use Rattle.names.specs.told.RecordTold.{with_field, FirstsTold, operation_in, both_numbers, RecordTold};
 
 use fields::{
     RECORD_OPERATION, RECORD_PREDEFINED_INDEX, RECORD_RANGE, RECORD_REPLACE_CHAR, RECORD_STRING,
@@ -17,8 +17,8 @@ use fields::{
 };
 use foundation::Span;
 use messages::repeated::{Two, check_varints, first_two};
-use messages::{check, index, index_in, next_body, number_in, piece_in};
-use wire::{FieldStep, WireError, WireValue, field_at};
+use messages::{check, found_or, index, index_in, next_body, number_in, piece_in};
+use wire::{Field, WireError, WireValue, field_at};
 
 // The first occurrence of each field of a record.
 #[derive(Clone, Copy)]
@@ -31,27 +31,9 @@ struct Firsts {
     string: Option<WireValue>,
 }
 
-// The first occurrence of a field that is asked for, after one more field.
-fn first_seen(
-    asked: u32,
-    seen: Option<WireValue>,
-    number: u32,
-    value: WireValue,
-) -> Option<WireValue>
-    ensures { result ≡ first_seen asked seen number value }
-{
-    if number != asked {
-        return seen;
-    }
-    if seen.is_some() {
-        return seen;
-    }
-    Some(value)
-}
-
 impl Firsts {
-    fn with_field(self, number: u32, value: WireValue) -> Firsts
-        ensures { result ≡ with_field self number value }
+    fn with_field(self, field: Field) -> Firsts
+        ensures { result ≡ with_field self field.number field.value }
     {
         let range = self.range;
         let predefined = self.predefined;
@@ -60,12 +42,12 @@ impl Firsts {
         let replaced = self.replaced;
         let string = self.string;
         Firsts {
-            range: first_seen(RECORD_RANGE, range, number, value),
-            predefined: first_seen(RECORD_PREDEFINED_INDEX, predefined, number, value),
-            operation: first_seen(RECORD_OPERATION, operation, number, value),
-            substring: first_seen(RECORD_SUBSTRING_INDEX, substring, number, value),
-            replaced: first_seen(RECORD_REPLACE_CHAR, replaced, number, value),
-            string: first_seen(RECORD_STRING, string, number, value),
+            range: found_or(range, RECORD_RANGE, field),
+            predefined: found_or(predefined, RECORD_PREDEFINED_INDEX, field),
+            operation: found_or(operation, RECORD_OPERATION, field),
+            substring: found_or(substring, RECORD_SUBSTRING_INDEX, field),
+            replaced: found_or(replaced, RECORD_REPLACE_CHAR, field),
+            string: found_or(string, RECORD_STRING, field),
         }
     }
 }
@@ -84,17 +66,11 @@ fn firsts_in(s: &[u8], base: u32) -> Firsts
     };
     let mut at = 0;
     while at < s.len() {
-        let step = field_at(s, base, at);
-        let FieldStep::Field {
-            number,
-            value,
-            next,
-        } = step
-        else {
+        let Ok(read) = field_at(s, base, at) else {
             return firsts;
         };
-        firsts = firsts.with_field(number, value);
-        at = next;
+        firsts = firsts.with_field(read.value);
+        at = read.next;
     }
     firsts
 }

@@ -1,13 +1,13 @@
 -- What the code's answers about a record tell, in the definitions' words.
 -- Assumes nothing.
-use Rattle.std.specs.Prelude.{◌≡◌, List, ℕ, eqb, if◌then◌else◌}
+use Rattle.std.specs.Prelude.{◌≡◌, List, ℕ}
 use Rattle.std.proofs.Math.Option.{Option, none, some}
 use Rattle.std.specs.declared.option.Option as rust
 use Rattle.foundation.specs.Choices.{if_some}
 use Rattle.foundation.specs.Results.{ok, ◌from◌}
 use Rattle.fields.specs.Fields.{Record-range, Record-predefined_index, Record-operation, Record-substring_index, Record-replace_char, Record-string}
 use Rattle.wire.specs.Wire.{Message, cut}
-use Rattle.messages.specs.told.Asked.{FoundTold, number_told, piece_told, PieceInside, index_told, number_in}
+use Rattle.messages.specs.told.Asked.{FoundTold, found_or, number_told, piece_told, PieceInside, index_told, number_in}
 use Rattle.wire.specs.declared.WireValue.{WireValue}
 use Rattle.messages.specs.declared.repeated.Two.{Two}
 use Rattle.messages.specs.declared.repeated.Two.TheVariants.{Neither, One, Both}
@@ -15,21 +15,16 @@ use Rattle.names.specs.Records.{record_of}
 use Rattle.names.specs.Records as definition
 use Rattle.names.specs.declared.records.Firsts.{Firsts}
 use Rattle.names.specs.declared.records.Record.{Record}
-use Rattle.std.specs.Prelude.{Some, None}
 
--- the first occurrence of field k, after one more field
-abbrev pub first_seen : ℕ → rust.Option WireValue → ℕ → WireValue → rust.Option WireValue
-first_seen k (Some v) n w = Some v
-first_seen k None n w = if eqb n k then Some w else None
-
+-- the first occurrences of all fields, after one more field
 unfoldable pub with_field : Firsts → ℕ → WireValue → Firsts
 with_field f n v = record {
-  range = first_seen Record-range f.range n v;
-  predefined = first_seen Record-predefined_index f.predefined n v;
-  operation = first_seen Record-operation f.operation n v;
-  substring = first_seen Record-substring_index f.substring n v;
-  replaced = first_seen Record-replace_char f.replaced n v;
-  string = first_seen Record-string f.string n v;
+  range = found_or f.range Record-range n v;
+  predefined = found_or f.predefined Record-predefined_index n v;
+  operation = found_or f.operation Record-operation n v;
+  substring = found_or f.substring Record-substring_index n v;
+  replaced = found_or f.replaced Record-replace_char n v;
+  string = found_or f.string Record-string n v;
 }
 
 -- the first occurrences of all fields
