@@ -2,7 +2,7 @@
 // where the slice can be cut, and is safe on any. The definitions: wire's specs/Messages.antt; how the answers tell them: specs/told/Asked.antt.
 #![tactic(auto)]
 
-ghost use Rattle.std.specs.Prelude.{◌≡◌, ◌≤◌, length};
+ghost use Rattle.std.specs.Prelude.{◌≡◌, ℕ, ◌≤◌, ◌<◌, length, get_or, None};
 ghost use Rattle.foundation.specs.Results.{ok, ◌from◌};
 ghost use Rattle.wire.specs.Wire.{cut, Message};
 ghost use Rattle.wire.specs.Messages.{varint_of, index, messages};
@@ -133,48 +133,45 @@ pub fn find_two(s: &[u8], base: u32, first: u32, second: u32) -> TwoFound
     }
 }
 
-#[derive(Clone, Copy)]
-pub struct ThreeFound {
-    pub first: Option<WireValue>,
-    pub second: Option<WireValue>,
-    pub third: Option<WireValue>,
-}
-
 // What was found of a field before a place, if it was found, and else its value, if the field at the place is the one that is asked for.
 fn found_or(seen: Option<WireValue>, asked: u32, field: Field) -> Option<WireValue>
     ensures { result ≡ found_or seen asked field.number field.value }
 {
-    if seen.is_some() {
+    if seen.is_some() || field.number != asked {
         return seen;
-    }
-    if field.number != asked {
-        return None;
     }
     Some(field.value)
 }
 
-// The first occurrences of three fields, by one walk.
-pub fn find_three(s: &[u8], base: u32, first: u32, second: u32, third: u32) -> ThreeFound
-    ensures { FoundTold base s.now first result.first × FoundTold base s.now second result.second × FoundTold base s.now third result.third }
+// The same of several fields that are asked for.
+fn each_found_or<const N: usize>(
+    seen: [Option<WireValue>; N],
+    numbers: [u32; N],
+    field: Field,
+) -> [Option<WireValue>; N]
+    ensures { (i : ℕ) → i < N → get_or result i None ≡ found_or (get_or seen.entry i None) (get_or numbers.entry i 0) field.number field.value }
 {
-    let mut one = None;
-    let mut two = None;
-    let mut three = None;
+    let mut found = seen;
+    for i in 0..N {
+        found[i] = found_or(seen[i], numbers[i], field);
+    }
+    found
+}
+
+// The first occurrences of several fields, by one walk.
+pub fn find_each<const N: usize>(s: &[u8], base: u32, numbers: [u32; N]) -> [Option<WireValue>; N]
+    ensures { (i : ℕ) → i < N → FoundTold base s.now (get_or numbers.entry i 0) (get_or result i None) }
+{
+    let mut found = [None; N];
     let mut at = 0;
     while at < s.len() {
         let Ok(read) = field_at(s, base, at) else {
             break;
         };
-        one = found_or(one, first, read.value);
-        two = found_or(two, second, read.value);
-        three = found_or(three, third, read.value);
+        found = each_found_or(found, numbers, read.value);
         at = read.next;
     }
-    ThreeFound {
-        first: one,
-        second: two,
-        third: three,
-    }
+    found
 }
 
 // What was found, as a number.

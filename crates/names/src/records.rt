@@ -9,7 +9,7 @@ ghost use Rattle.wire.specs.told.WireTold.{rest_of};
 ghost use Rattle.names.specs.declared.records.IndexError.TheVariants.{Wire};
 ghost use Rattle.names.specs.Records.{served, two_of};
 ghost use Rattle.names.specs.told.Index.{packed_places, NotedTold, IndexTold};
-ghost use Rattle.names.specs.told.RecordTold.{first_seen, with_field, FirstsTold, operation_in, both_numbers, RecordTold};
+ghost use Rattle.names.specs.told.RecordTold.{operation_in, both_numbers, RecordTold};
 
 use fields::{
     RECORD_OPERATION, RECORD_PREDEFINED_INDEX, RECORD_RANGE, RECORD_REPLACE_CHAR, RECORD_STRING,
@@ -17,87 +17,8 @@ use fields::{
 };
 use foundation::Span;
 use messages::repeated::{Two, check_varints, first_two};
-use messages::{check, index, index_in, next_body, number_in, piece_in};
-use wire::{FieldStep, WireError, WireValue, field_at};
-
-// The first occurrence of each field of a record.
-#[derive(Clone, Copy)]
-struct Firsts {
-    range: Option<WireValue>,
-    predefined: Option<WireValue>,
-    operation: Option<WireValue>,
-    substring: Option<WireValue>,
-    replaced: Option<WireValue>,
-    string: Option<WireValue>,
-}
-
-// The first occurrence of a field that is asked for, after one more field.
-fn first_seen(
-    asked: u32,
-    seen: Option<WireValue>,
-    number: u32,
-    value: WireValue,
-) -> Option<WireValue>
-    ensures { result ≡ first_seen asked seen number value }
-{
-    if number != asked {
-        return seen;
-    }
-    if seen.is_some() {
-        return seen;
-    }
-    Some(value)
-}
-
-impl Firsts {
-    fn with_field(self, number: u32, value: WireValue) -> Firsts
-        ensures { result ≡ with_field self number value }
-    {
-        let range = self.range;
-        let predefined = self.predefined;
-        let operation = self.operation;
-        let substring = self.substring;
-        let replaced = self.replaced;
-        let string = self.string;
-        Firsts {
-            range: first_seen(RECORD_RANGE, range, number, value),
-            predefined: first_seen(RECORD_PREDEFINED_INDEX, predefined, number, value),
-            operation: first_seen(RECORD_OPERATION, operation, number, value),
-            substring: first_seen(RECORD_SUBSTRING_INDEX, substring, number, value),
-            replaced: first_seen(RECORD_REPLACE_CHAR, replaced, number, value),
-            string: first_seen(RECORD_STRING, string, number, value),
-        }
-    }
-}
-
-// One walk of a record's message.
-fn firsts_in(s: &[u8], base: u32) -> Firsts
-    ensures { FirstsTold base s.now result }
-{
-    let mut firsts = Firsts {
-        range: None,
-        predefined: None,
-        operation: None,
-        substring: None,
-        replaced: None,
-        string: None,
-    };
-    let mut at = 0;
-    while at < s.len() {
-        let step = field_at(s, base, at);
-        let FieldStep::Field {
-            number,
-            value,
-            next,
-        } = step
-        else {
-            return firsts;
-        };
-        firsts = firsts.with_field(number, value);
-        at = next;
-    }
-    firsts
-}
+use messages::{check, find_each, index, index_in, next_body, number_in, piece_in};
+use wire::{WireError, WireValue};
 
 // How many indices a record serves: range 0 counts as 1, and so does no range.
 fn served(range: Option<u32>) -> u32
@@ -137,17 +58,22 @@ pub struct Record {
     pub replaced: Two,
 }
 
-// The record of a message that is cut.
+// The record of a message that is cut: one walk finds the first occurrence of each of its fields.
 pub fn record_in(s: &[u8], base: u32) -> Record
     ensures { RecordTold base s.now result }
 {
-    let firsts = firsts_in(s, base);
-    let range = firsts.range;
-    let predefined = firsts.predefined;
-    let operation = firsts.operation;
-    let substring = firsts.substring;
-    let replaced = firsts.replaced;
-    let string = firsts.string;
+    let [range, predefined, operation, substring, replaced, string] = find_each(
+        s,
+        base,
+        [
+            RECORD_RANGE,
+            RECORD_PREDEFINED_INDEX,
+            RECORD_OPERATION,
+            RECORD_SUBSTRING_INDEX,
+            RECORD_REPLACE_CHAR,
+            RECORD_STRING,
+        ],
+    );
     Record {
         range: served(index_in(range)),
         string: piece_in(string),

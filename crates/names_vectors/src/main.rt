@@ -4,7 +4,6 @@
 
 ghost use Rattle.std.specs.Prelude.{◌≤◌, ◌<◌, length, IfOk};
 
-use messages::Checked;
 use names::encoded::Encoded;
 use names::name::{Change, Name, PREDEFINED, part_of};
 use std::io;
@@ -143,10 +142,9 @@ fn look_up(
     index: u32,
     kind: u8,
 ) -> io::Result<()> {
-    let checked = messages::check(table, 0);
-    let Checked::Whole = checked else {
+    if messages::check(table, 0).is_err() {
         return print!(rt; "refused");
-    };
+    }
     let mut notes = [0u64; 48];
     let Ok(count) = names::records::index_records(table, 0, &mut notes) else {
         return print!(rt; "refused");

@@ -2,8 +2,7 @@
 // value or places, or the refusal with its offset.
 #![tactic(auto)]
 
-use messages::repeated::{FirstTwo, Two};
-use messages::{Checked, Found};
+use messages::repeated::Two;
 use std::io;
 use wire::{FieldStep, Varint, WireError, WireValue};
 
@@ -67,11 +66,11 @@ fn show_packed(rt: &impl Print, name: &str, s: &[u8], base: u32) -> io::Result<(
     println!(rt)
 }
 
-fn print_checked(rt: &impl Print, checked: Checked) -> io::Result<()> {
-    let Checked::Whole = checked else {
-        return print_refusal(rt, checked.error());
-    };
-    println!(rt; "whole")
+fn print_checked(rt: &impl Print, checked: Result<(), WireError>) -> io::Result<()> {
+    match checked {
+        Ok(()) => println!(rt; "whole"),
+        Err(error) => print_refusal(rt, error),
+    }
 }
 
 // A message cut short after each of its bytes.
@@ -86,11 +85,10 @@ fn show_cuts(rt: &impl Print, name: &str, s: &[u8]) -> io::Result<()> {
 
 fn show_first(rt: &impl Print, name: &str, s: &[u8], number: u32) -> io::Result<()> {
     print!(rt; "{name}\n  first")?;
-    let found = messages::find(s, 0, number);
-    let Found::Value { value } = found else {
-        return println!(rt; " nothing");
-    };
-    print_value(rt, value)
+    match messages::find(s, 0, number) {
+        Some(value) => print_value(rt, value),
+        None => println!(rt; " nothing"),
+    }
 }
 
 fn print_two(rt: &impl Print, two: Two) -> io::Result<()> {
@@ -104,11 +102,10 @@ fn print_two(rt: &impl Print, two: Two) -> io::Result<()> {
 // The first two of a repeated number, mod 2^32.
 fn show_two(rt: &impl Print, name: &str, s: &[u8], number: u32) -> io::Result<()> {
     print!(rt; "{name}\n  ")?;
-    let numbers = messages::repeated::first_two(s, 0, number);
-    let FirstTwo::Numbers { two } = numbers else {
-        return print_refusal(rt, numbers.error());
-    };
-    print_two(rt, two)
+    match messages::repeated::first_two(s, 0, number) {
+        Ok(two) => print_two(rt, two),
+        Err(error) => print_refusal(rt, error),
+    }
 }
 
 fn published(rt: &impl Print) -> io::Result<()> {
