@@ -27,9 +27,9 @@ use Rattle.messages.specs.declared.Checked.TheVariants as checked
 use Rattle.messages.proofs.BodyLaws.{part-is, checked_at}
 use Rattle.names.specs.Records.{Record}
 use Rattle.names.specs.Names.{Names, ends_fit}
-use Rattle.names.specs.told.Index.{IndexOf, IndexTold}
-use Rattle.names.specs.declared.records.RecordIndex.{RecordIndex}
-use Rattle.names.specs.declared.records.RecordIndex.TheVariants as records
+use Rattle.names.specs.told.Index.{IndexOf, RecordIndex, IndexTold}
+use Rattle.std.specs.declared.result.Result.TheVariants.{Ok, Err}
+use Rattle.names.specs.declared.records.IndexError.TheVariants as index
 use Rattle.lookup.specs.told.Lookups.{NotesOf}
 use Rattle.lookup.specs.told.Strings.{codes_from, sizes_from, Keeps, SizesOf}
 use Rattle.lookup.proofs.LookupLaws.{index_longer}
@@ -73,12 +73,6 @@ pub types-left : (r : TypeIndex) → ((count first : ℕ) → r ≡ types.Types 
 types-left (types.Types n first) k l = absurd (k n first refl)
 types-left types.NoRoom k l = refl
 types-left (types.Refused error) k l = absurd (l error refl)
-
-pub records-left : (r : RecordIndex) → ((count : ℕ) → r ≡ records.Records count → ⊥) → ((error : WireError) → r ≡ records.Refused error → ⊥)
-    → r ≡ records.NoRoom
-records-left (records.Records count) k l = absurd (k count refl)
-records-left records.NoRoom k l = refl
-records-left (records.Refused error) k l = absurd (l error refl)
 
 -- The body, cut.
 module _ (bytes : List ℕ) (at count : ℕ) (entries : List ℕ) (x : Checked) (t : CheckedTold (cut (◌from◌ at (take (length bytes - at) (drop at bytes)))) x) where
@@ -175,11 +169,11 @@ module _ (bytes : List ℕ) (start end rest : ℕ) (o : start ≤ end) (i : end 
         let n = length-drop start (take end bytes) in
         omega (arith, bodies_few StringTableTypes-record (rest_of 0 (take end bytes) start) table.1)
 
-    pub records-refused : Delimited → {error : WireError} → r ≡ records.Refused error → OpenedTold bytes before (opened.Refused error)
+    pub records-refused : Delimited → {error : WireError} → r ≡ Err (index.Wire error) → OpenedTold bytes before (opened.Refused error)
     unfolding payload
     records-refused d e kind d2 = rw (d, cuts, indexed e)
 
-    pub records-no-room : r ≡ records.NoRoom → OpenedTold bytes before opened.NoRoom
+    pub records-no-room : r ≡ Err index.NoRoom → OpenedTold bytes before opened.NoRoom
     records-no-room e room =
         let l = length-take end bytes in
         indexed e (record {
@@ -188,7 +182,7 @@ module _ (bytes : List ℕ) (start end rest : ℕ) (o : start ≤ end) (i : end 
           long = omega (arith, room.long, few);
         })
 
-    module _ {count : ℕ} (e : r ≡ records.Records count) where
+    module _ {count : ℕ} (e : r ≡ Ok count) where
       opens : Delimited → (kind : ℕ) (d2 : ℕ → Res (Option Text))
           → payload kind d2 bytes ≡ body_from kind (record { records = (indexed e).0; d2 = d2 }) bytes rest
       unfolding payload

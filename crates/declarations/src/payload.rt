@@ -12,7 +12,7 @@ use lookup::resolve::resolve;
 use lookup::strings::note_strings;
 use messages::reader::{Split, split_payload};
 use messages::{Checked, check};
-use names::records::{RECORD_WORDS, RecordIndex, index_records};
+use names::records::{IndexError, RECORD_WORDS, index_records};
 use schema::Tables;
 use schema::table::{TypeIndex, index_types};
 use wire::WireError;
@@ -73,14 +73,11 @@ fn open_table(bytes: &[u8], start: usize, end: usize, rest: usize, notes: &mut [
             error: checked.error(),
         };
     };
-    let records = index_records(&bytes[..end], start, notes);
-    let RecordIndex::Records { count } = records else {
-        let RecordIndex::Refused { error } = records else {
-            return Opened::NoRoom;
-        };
-        return Opened::Refused { error };
-    };
-    open_noted(bytes, rest, count, notes)
+    match index_records(&bytes[..end], start, notes) {
+        Ok(count) => open_noted(bytes, rest, count, notes),
+        Err(IndexError::NoRoom) => Opened::NoRoom,
+        Err(IndexError::Wire(error)) => Opened::Refused { error },
+    }
 }
 
 // The decoded bytes opened, their tables noted in what is lent.
