@@ -47,11 +47,12 @@ use Rattle.schema.proofs.StandsLaws.{stands-cut}
 use Rattle.schema.proofs.FoundLaws.{bind_given, first-same}
 use Rattle.schema.proofs.GivenLaws.{Entered, type_entered}
 use Rattle.erasure.specs.Erasure.{slashed, meaning_of, Erased, class, array_of, first_erased, erased, of_type, erased_return, print, print_returned}
-use Rattle.erasure.specs.told.ErasureTold.{Means, PutSized, PutPart, fixed_part, part_at, printed_told, PrintsAs}
+use Rattle.erasure.specs.told.ErasureTold.{Means, PutSized, PutPart, fixed_told, part_at, printed_told, PrintsAs}
 use Rattle.erasure.specs.declared.Meaning.{Meaning}
 use Rattle.erasure.specs.declared.Meaning.TheVariants.{Other}
 use Rattle.erasure.specs.declared.Position.{Position}
 use Rattle.erasure.specs.declared.Position.TheVariants.{Parameter, Element, Return}
+use Rattle.erasure.specs.declared.Part.{Part}
 use Rattle.erasure.specs.declared.Printed.{Printed}
 use Rattle.erasure.specs.declared.Printed.TheVariants as prints
 use Rattle.erasure.proofs.ListedLaws.{too_long, no_kotlin, means-past}
@@ -145,10 +146,10 @@ by_answer : {x y : std.Option Printed} → x ≡ y → (n : Text) (inner : Optio
 by_answer e n inner = ap (λ (y : std.Option Printed). map_option print_returned (printed_told (slashed n) inner y)) e
 
 module _ (payload d2 : List ℕ) (name : Name) {printed : Printed} {at : ℕ} {A A' : List ℕ} where
-  pub printed-fixed : {part r : ℕ} → printed ≡ prints.Fixed part → PutPart part at r A A' → PrintedPut payload d2 name printed at (type_part.Whole r) A A'
+  pub printed-fixed : {part : Part} {r : ℕ} → printed ≡ prints.Fixed part → PutPart part at r A A' → PrintedPut payload d2 name printed at (type_part.Whole r) A A'
   printed-fixed {part} e p = record {
     within = omega (arith, p.size, part-short part);
-    is = λ n g inner. (print_returned (fixed_part part), by_answer (ap Some e) n inner, p);
+    is = λ n g inner. (print_returned (fixed_told part), by_answer (ap Some e) n inner, p);
   }
 
   pub printed-array : printed ≡ prints.ThroughArray → A' ≡ set A at 0x5b → PrintedPut payload d2 name printed at type_part.Bracket A A'
