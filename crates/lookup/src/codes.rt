@@ -41,13 +41,11 @@ fn record_for(notes: &[u64], count: usize, at: usize, index: u64) -> usize
     requires { (3 * count ≤ length notes.now) × (at < count) }
     ensures { result < count }
 {
-    if count <= at + 1 {
-        return at;
+    if at + 1 < count && notes[RECORD_WORDS * at + 2] <= index {
+        at + 1
+    } else {
+        at
     }
-    if notes[RECORD_WORDS * at + 2] <= index {
-        return at + 1;
-    }
-    at
 }
 
 // Notes the code of each of the first indices that `count` records serve.

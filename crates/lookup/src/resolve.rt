@@ -17,7 +17,7 @@ fn resolve_one(bytes: &[u8], notes: &mut [u64], at: usize)
     let Some(place) = place_of(bytes, notes, at) else {
         return;
     };
-    let words = record_words(bytes, place.start, place.end);
+    let words = record_words(bytes, place);
     let i = RECORD_WORDS * at;
     notes[i] = words.place;
     notes[i + 1] = words.steps;

@@ -117,13 +117,7 @@ module _ (from : ℕ) (index : rust.Option ℕ) {string : rust.Option Span} wher
   }
 
   module _ (g : string ≡ None) where
-    pub base-nothing : index ≡ None → BaseTold from string index None
-    base-nothing i = record { bytes = tt; is = λ payload d2 end h. rw (g, i) }
-
     module _ {n : ℕ} (i : index ≡ Some n) (r : rust.Option Span) (e : listed_text r ≡ predefined_text n) where
-      pub base-past : r ≡ None → BaseTold from string index None
-      base-past q = record { bytes = tt; is = λ payload d2 end h. rw (g, i, ← e, q) }
-
       pub base-listed : {p : Span} → r ≡ Some p → BaseTold from string index (Some record { source = 2; part = p })
       unfolding source_text
       base-listed q = record { bytes = (omega arith, omega arith); is = λ payload d2 end h. rw (g, i, ← e, q) }

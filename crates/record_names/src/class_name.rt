@@ -29,12 +29,12 @@ fn unwrapped_part(s: &[u8], from: u32, to: u32) -> Option<Span>
 }
 
 // A name as a class name, made of another part of its source.
-fn qualified_part(name: Name, start: usize, end: usize) -> Name
-    ensures { result ≡ qualified_part name start end }
+fn qualified_part(name: Name, part: Span) -> Name
+    ensures { result ≡ qualified_part name part.start part.end }
 {
     Name {
-        start,
-        end,
+        start: part.start,
+        end: part.end,
         qualified: true,
         size: 0,
         ..name
@@ -48,8 +48,11 @@ pub(crate) fn qualified_bytes(payload: &[u8], name: Name) -> Name
 {
     let s = base_part(payload, &PREDEFINED, name.source, name.start, name.end);
     let Some(part) = unwrapped_part(s, name.from, name.to) else {
-        return qualified_part(name, name.start, name.end);
+        return Name {
+            qualified: true,
+            size: 0,
+            ..name
+        };
     };
-    let left = within(name.start, part);
-    qualified_part(name, left.start, left.end)
+    qualified_part(name, within(name.start, part))
 }

@@ -48,14 +48,14 @@ pub fn plain(source: u8, part: Span) -> Name
     }
 }
 
-// The name that the record from `start` to `end` builds, if it decides.
-fn read_record(bytes: &[u8], start: usize, end: usize) -> Option<Name>
-    requires { (start ≤ end) × (end ≤ length bytes.now) × (start < 2 ^ 32) }
-    ensures { NamedTold bytes.now start end result }
+// The name that the record whose message is a part of the bytes builds, if it decides.
+fn read_record(bytes: &[u8], part: Span) -> Option<Name>
+    requires { (part.start ≤ part.end) × (part.end ≤ length bytes.now) × (part.start < 2 ^ 32) }
+    ensures { NamedTold bytes.now part.start part.end result }
 {
-    let read = record_in(&bytes[start..end], start as u32);
+    let read = record_in(&bytes[part.start..part.end], part.start as u32);
     if decides(read.string, read.predefined) {
-        return Some(record_name(bytes, start, read));
+        return Some(record_name(bytes, part.start, read));
     }
     None
 }
@@ -78,11 +78,12 @@ const PREDEFINED_INDEX_TAG: u32 = RECORD_PREDEFINED_INDEX * 8;
 const OPERATION_TAG: u32 = RECORD_OPERATION * 8;
 
 // The same as `read_record`. Most records have no field, or one of two bytes: its tag and its number.
-fn record_at(bytes: &[u8], start: usize, end: usize) -> Option<Name>
-    requires { (start ≤ end) × (end ≤ length bytes.now) × (start < 2 ^ 32) }
-    ensures { NamedTold bytes.now start end result }
+fn record_at(bytes: &[u8], part: Span) -> Option<Name>
+    requires { (part.start ≤ part.end) × (part.end ≤ length bytes.now) × (part.start < 2 ^ 32) }
+    ensures { NamedTold bytes.now part.start part.end result }
 {
-    let size = end - start;
+    let start = part.start;
+    let size = part.end - start;
     if size == 0 {
         return None;
     }
@@ -94,14 +95,14 @@ fn record_at(bytes: &[u8], start: usize, end: usize) -> Option<Name>
             _ => {}
         }
     }
-    read_record(bytes, start, end)
+    read_record(bytes, part)
 }
 
-// What is noted of the record from `start` to `end`: its name and its class name, in two words.
+// What is noted of the record whose message is a part of the bytes: its name and its class name, in two words.
 // Callers show that its message stands in the payload, and that places of the payload fit 16 bits: lookup::resolve tests both.
-pub fn record_words(bytes: &[u8], start: usize, end: usize) -> Words
-    requires { (start ≤ end) × (end ≤ length bytes.now) × (length bytes.now < 65536) }
-    ensures { RecordWords bytes.now start end result }
+pub fn record_words(bytes: &[u8], part: Span) -> Words
+    requires { (part.start ≤ part.end) × (part.end ≤ length bytes.now) × (length bytes.now < 65536) }
+    ensures { RecordWords bytes.now part.start part.end result }
 {
-    words_for(bytes, record_at(bytes, start, end))
+    words_for(bytes, record_at(bytes, part))
 }

@@ -2,7 +2,13 @@
 ghost use Rattle.std.specs.Prelude.{◌≡◌, ◌<◌};
 ghost use Rattle.record_names.specs.told.Note.{noted, noted_class, class_size, NameFits, WordsTold};
 
+use foundation::Span;
 use names::name::Name;
+
+// A place has 16 bits, a character 21.
+const PLACE: u64 = 65536;
+
+const CHARACTER: u64 = 2097152;
 
 // What is noted of a record: `place` has 16 bits for each of four places, `steps` the rest.
 #[derive(Clone, Copy)]
@@ -11,17 +17,18 @@ pub struct Words {
     pub steps: u64,
 }
 
-// A record's name with its size, and the part of its source from `start` to `end` that is left of it as a class name.
-pub(crate) fn words_of(name: Name, start: usize, end: usize) -> Words
-    requires { NameFits name × (start < 65536) × (end < 65536) }
-    ensures { WordsTold name start end result }
+// A record's name with its size, and the part of its source that is left of it as a class name.
+pub(crate) fn words_of(name: Name, class: Span) -> Words
+    requires { NameFits name × (class.start < 65536) × (class.end < 65536) }
+    ensures { WordsTold name class.start class.end result }
 {
-    let parts = name.start as u64 + 65536 * (name.end as u64);
-    let class = start as u64 + 65536 * (end as u64);
-    let characters = name.from as u64 + 2097152 * (name.to as u64 + 2097152 * (name.size as u64));
-    let low = 1 + name.source as u64 + 4 * (name.operation as u64);
+    let parts = name.start as u64 + PLACE * (name.end as u64);
+    let class = class.start as u64 + PLACE * (class.end as u64);
+    let characters = u64::from(name.from)
+        + CHARACTER * (u64::from(name.to) + CHARACTER * (name.size as u64));
+    let low = 1 + u64::from(name.source) + 4 * u64::from(name.operation);
     Words {
-        place: parts + 4294967296 * class,
+        place: parts + PLACE * PLACE * class,
         steps: low + 16 * characters,
     }
 }
@@ -38,13 +45,13 @@ pub fn noted(words: Words) -> Option<Name>
     }
     Some(Name {
         source: (kind - 1) as u8,
-        start: (place % 65536) as usize,
-        end: (place / 65536 % 65536) as usize,
-        from: (steps / 4 / 4 % 2097152) as u32,
-        to: (steps / 4 / 4 / 2097152 % 2097152) as u32,
+        start: (place % PLACE) as usize,
+        end: (place / PLACE % PLACE) as usize,
+        from: (steps / 4 / 4 % CHARACTER) as u32,
+        to: (steps / 4 / 4 / CHARACTER % CHARACTER) as u32,
         operation: (steps / 4 % 4) as u8,
         qualified: false,
-        size: (steps / 4 / 4 / 2097152 / 2097152) as usize,
+        size: (steps / 4 / 4 / CHARACTER / CHARACTER) as usize,
     })
 }
 
@@ -64,10 +71,10 @@ pub fn noted_class(words: Words) -> Option<Name>
     ensures { result ≡ noted_class words.place words.steps }
 {
     let name = noted(words)?;
-    let start = (words.place / 65536 / 65536 % 65536) as usize;
+    let start = (words.place / PLACE / PLACE % PLACE) as usize;
     Some(Name {
         start,
-        end: (words.place / 65536 / 65536 / 65536 % 65536) as usize,
+        end: (words.place / PLACE / PLACE / PLACE % PLACE) as usize,
         qualified: true,
         size: class_size(name.size, name.start, start),
         ..name

@@ -6,6 +6,7 @@ ghost use Rattle.record_names.specs.told.Sized.{limit_of, ClipTold, SizeTold};
 
 use crate::class_name::qualified_bytes;
 use crate::note::{Words, words_of};
+use foundation::Span;
 use names::name::{Name, PREDEFINED};
 use names::stream::put_name;
 
@@ -58,5 +59,11 @@ pub(crate) fn words_for(bytes: &[u8], answer: Option<Name>) -> Words
     let part = clipped_name(bytes.len(), name);
     let class = qualified_bytes(bytes, part);
     let size = size_of(bytes, part);
-    words_of(Name { size, ..part }, class.start, class.end)
+    words_of(
+        Name { size, ..part },
+        Span {
+            start: class.start,
+            end: class.end,
+        },
+    )
 }
