@@ -55,7 +55,7 @@ use Rattle.erasure.specs.declared.Position.TheVariants.{Parameter, Element, Retu
 use Rattle.erasure.specs.declared.Part.{Part}
 use Rattle.erasure.specs.declared.Printed.{Printed}
 use Rattle.erasure.specs.declared.Printed.TheVariants as prints
-use Rattle.erasure.proofs.ListedLaws.{too_long, no_kotlin, means-past}
+use Rattle.erasure.proofs.ListedLaws.{too_long, no_kotlin, means_none}
 use Rattle.erasure.proofs.PartLaws.{first-at, element_at, return_at, part-told, part-short}
 use Rattle.descriptors.specs.told.DefaultsTold.{erased_at}
 use Rattle.descriptors.specs.told.ErasedTold.{TypePartIs, PrintedPut, TypePartTold}
@@ -99,12 +99,12 @@ not_listed payload d2 name s {h} e {code} {rest} f {c} q g =
     ∙ ap (source_bytes name.size h) (source-units payload d2 name s ∙ ap some f) in
     let other : get_or (name_bytes payload d2 name true) 0 0 ≡ 0x6b → ⊥ =
     λ k. g (q ∙ sized-first name.size (changed h code) (map (changed h) rest) (ap (λ (l : List ℕ). get_or l 0 0) (sym bytes) ∙ k)) in
-    means-past (name_bytes payload d2 name true) 36 (no_kotlin other) (omega arith)
+    means_none (name_bytes payload d2 name true) (no_kotlin other)
 
 -- What a name means, by its bytes in an area that holds every listed name.
 module _ (bytes : List ℕ) {before area : List ℕ} {size : ℕ} (p : stream.PutText bytes 0 size before area) where
   pub means-long : 36 < size → Means bytes Other
-  means-long h = means-past bytes 36 (too_long (omega (arith, p.place))) (omega arith)
+  means-long h = means_none bytes (too_long (omega (arith, p.place)))
 
   short-taken : length before ≡ 36 → size ≤ 36 → take size area ≡ bytes
   short-taken f h =

@@ -20,7 +20,7 @@ use Rattle.schema.specs.Types.{declared_type}
 use Rattle.schema.specs.Members.{bit_of, flags_in, receiver_in}
 use Rattle.schema.specs.told.SchemaTold.{Lent, EntryAt, Stands}
 use Rattle.schema.proofs.StandsLaws.{stands-cut}
-use Rattle.erasure.specs.Erasure.{Returned, of_type, erased_return, print, print_returned}
+use Rattle.erasure.specs.Erasure.{Returned, erased_return, print, print_returned}
 use Rattle.erasure.specs.told.ErasureTold.{PutSized, PutPart}
 use Rattle.erasure.specs.declared.Position.TheVariants as position
 use Rattle.erasure.specs.declared.Class.TheVariants as classes
