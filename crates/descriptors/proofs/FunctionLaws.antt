@@ -20,8 +20,8 @@ use Rattle.schema.specs.Types.{declared_type}
 use Rattle.schema.specs.Members.{bit_of, flags_in, receiver_in}
 use Rattle.schema.specs.told.SchemaTold.{Lent, EntryAt, Stands}
 use Rattle.schema.proofs.StandsLaws.{stands-cut}
-use Rattle.erasure.specs.Erasure.{Returned, erased_return, print, print_returned}
-use Rattle.erasure.specs.told.ErasureTold.{PutSized, PutPart}
+use Rattle.erasure.specs.Erasure.{Returned, of_type, erased_return, print, print_returned}
+use Rattle.erasure.specs.told.ErasureTold.{fixed_told, PutSized, PutPart}
 use Rattle.erasure.specs.declared.Position.TheVariants as position
 use Rattle.erasure.specs.declared.Class.TheVariants as classes
 use Rattle.erasure.specs.declared.Part.TheVariants as parts
@@ -137,6 +137,13 @@ module _ {e : Lent} (msg : List ℕ) {base at : ℕ} {r : std.Option ℕ} {A A�
       part-answer (sym q)
       (part-more (part_cost * (1 + length msg)) (omega arith)
       (part_then receiver_part (λ f. parameters_part f.parameters) before_part before-part (part-answer w u) p))
+
+-- The parts that the code names.
+pub object-part : fixed_told (parts.Class classes.Object) ≡ of_type object
+object-part = refl
+
+pub continuation-part : fixed_told parts.Continuation ≡ of_type continuation_class
+continuation-part = refl
 
 -- What stands after them.
 abbrev suspended : Option (List ℕ)

@@ -81,10 +81,7 @@ fn parameter_parts(
 {
     let mut from = 0;
     let mut size = 0;
-    loop {
-        let Some(parameter) = next_body(msg, base, number, from) else {
-            return Some(size);
-        };
+    while let Some(parameter) = next_body(msg, base, number, from) {
         from = parameter.end;
         size += type_part(
             &msg[parameter.start..parameter.end],
@@ -104,6 +101,7 @@ fn parameter_parts(
             at + size,
         )?;
     }
+    Some(size)
 }
 
 // The default descriptor of a constructor, which returns V.
