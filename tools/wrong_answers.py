@@ -72,9 +72,11 @@ def functions_of(crate):
         for match in FUNCTION.finditer(text):
             start, indent = match.start(), match.group(1)
             end = text.index(f'\n{indent}}}\n', start)
-            owner = re.findall(r"^impl(?:<[^>]*>)? (\w+)", text[:start], re.M)[-1:] if indent else []
-            home = homes[owner[0]] if owner else module
-            path = '::'.join(home + owner + [match.group(2)])
+            # the type, and of a trait's `impl` the trait after it, as TFromU
+            owner = re.findall(r"^impl(?:<[^>]*>)? ([\w:<>']+)(?: for (\w+))?", text[:start], re.M)[-1:] if indent else []
+            home = homes.get(owner[0][1] or owner[0][0].split('<')[0], module) if owner else module
+            names = [of + re.sub(r"\W", '', first) if of else first.split('<')[0] for first, of in owner]
+            path = '::'.join(home + names + [match.group(2)])
             found[path] = Function(path, file.name, start, end, text)
     return found
 

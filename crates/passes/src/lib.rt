@@ -17,7 +17,7 @@ ghost use Rattle.passes.specs.told.PassTold.{of_index, FirstTold, PassedTold, Fr
 use areas::write_in;
 use declarations::body::{Section, Sections, body_in};
 use declarations::payload::{IndexError, open_lent};
-use encoding::{Decoded, decode};
+use encoding::{DecodeError, decode};
 use inputs::outcome::{Outcome, refused, stop_refusal};
 use schema::{ALLOWANCE, Stop, Tables};
 use sheet::State;
@@ -256,9 +256,8 @@ pub fn decode_in(
     requires { InLimits d1.now d2.now ends.now }
     ensures { PassedTold asked (reading_of asked.kind d1.now d2.now ends.now) (FrameRoom d1.now bytes.new notes.new) result sheet.old sheet.new text.old text.new }
 {
-    let decoded = decode(d1, bytes);
-    match decoded {
-        Decoded::Bytes { length } => read_in(
+    match decode(d1, bytes) {
+        Ok(length) => read_in(
             asked,
             &bytes[..length],
             d2,
@@ -269,9 +268,9 @@ pub fn decode_in(
             sheet,
             text,
         ),
-        Decoded::TooLong => Some(without_lists(refused(1, 0))),
-        Decoded::Empty => Some(without_lists(refused(5, 0))),
-        Decoded::NotAByte { unit } => Some(without_lists(refused(6, unit as u64))),
-        Decoded::NoRoom => None,
+        Err(DecodeError::TooLong) => Some(without_lists(refused(1, 0))),
+        Err(DecodeError::Empty) => Some(without_lists(refused(5, 0))),
+        Err(DecodeError::NotAByte { unit }) => Some(without_lists(refused(6, u64::from(unit)))),
+        Err(DecodeError::NoRoom) => None,
     }
 }
