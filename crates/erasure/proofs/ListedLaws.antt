@@ -9,6 +9,7 @@ use borrow.Author.Tests.{ltb-false}
 use lib.Dec.{T, ltb, eqb}
 use lib.ListN.{length, take, drop, get_or, take-append-drop}
 use Rattle.std.specs.Prelude.{if◌then◌else◌}
+use Rattle.std.specs.Str.{bytes_eq}
 use Rattle.foundation.specs.Texts.{Text, ascii, same}
 use Rattle.foundation.proofs.ChoiceLaws.{same_refl, same_true}
 use Rattle.characters.specs.Characters.{is_scalar, utf8, utf8_of}
@@ -19,7 +20,7 @@ use Rattle.erasure.specs.Erasure.{Meaning, nothing, mapped, Entry, ◌means◌, 
 use Rattle.erasure.specs.told.ErasureTold.{row_at, listed_name, listed_meaning, CanBe, Means, MeansRow}
 use Rattle.erasure.specs.declared.Meaning as answer
 use Rattle.erasure.specs.declared.Meaning.TheVariants.{Other}
-use Rattle.erasure.proofs.TextLaws.{never}
+use Rattle.erasure.proofs.TextLaws.{never, same_is}
 use Rattle.erasure.proofs.TableLaws.{tabulate, tabulated}
 
 -- Names are 8 to 36 bytes long.
@@ -85,8 +86,13 @@ hashed_right = refl
 pub can_be : (s : List ℕ) {a b r : ℕ} → a ≡ get_or s 7 0 → b ≡ get_or s (length s - 1) 0 → r ≡ get_or hashed ((length s + a + 3 * b) % 128) 0 → CanBe s r
 can_be s p q e k l f = e ∙ rw (p, q, f) (tabulated (λ i. get_or hashed (hash (listed_name i)) 0) (λ i. i) 36 hashed_right k l)
 
-pub listed-is : (s part : List ℕ) (k : ℕ) {r : Bool} → k < 36 → part ≡ after_kotlin k → r ≡ same s (kotlin ++ part) → r ≡ same s (listed_name k)
-listed-is s part k h p e = e ∙ rw (p, name-joined k h)
+-- A name is a row's if it is kotlin/ and the row's part.
+module _ (s : List ℕ) (k : ℕ) (h : k < 36) where
+  pub listed-is : {part rest : List ℕ} {r : Bool} → part ≡ after_kotlin k → s ≡ kotlin ++ rest → r ≡ bytes_eq rest part → r ≡ same s (listed_name k)
+  listed-is {part} {rest} p q e = e ∙ same_is rest part ∙ rw (p, q, ← name-joined k h)
+
+  pub listed-other : ((rest : List ℕ) → s ≡ kotlin ++ rest → ⊥) → false ≡ same s (listed_name k)
+  listed-other n = sym (never (same s (listed_name k)) λ t. n (after_kotlin k) (same_true s (listed_name k) t ∙ sym (name-joined k h)))
 
 -- A row's name is found there, and not before.
 characters : tabulate (λ k. every is_scalar (row_at k).name) 36 ≡ tabulate (λ k. true) 36

@@ -3,6 +3,8 @@
 use mathlib.Core.Path.{◌≡◌, refl, ap, ◌∙◌, subst}
 use mathlib.Core.Bool.{Bool, true, false}
 use mathlib.Core.List.{List, [], ◌∷◌, ◌++◌, map}
+use Rattle.std.specs.Prelude as std
+use Rattle.std.specs.Prelude.{Some, None}
 use mathlib.Core.Option.{Option, some}
 use Prim.Native.Nat.{ℕ, ◌+◌, ◌-◌, ◌≤◌, ◌<◌, min}
 use native.Mathlib.Omega.{arith}
@@ -146,11 +148,6 @@ module _ {at : ℕ} {S S' : List ℕ} where
   put-packed k a b h p q e = record { size = part-size row_text 31 k h p q; area = rw (part-is row_text 31 k h p q) at e }
 
 -- A type's part at its position: a value, if it doesn't mean Unit.
-pub boxed_if : (position : Position) (nullable : Bool) → nullable ≡ true → true ≡ boxed_at position nullable
-boxed_if Parameter nullable e = rw e
-boxed_if Element nullable e = rw e
-boxed_if Return nullable e = rw e
-
 abbrev Valued : erasure.Meaning → Type 0
 Valued (primitive p) = Unit {0}
 Valued (primitive_array p) = Unit {0}
@@ -185,29 +182,29 @@ part-unit Return nullable inner = refl
 -- What the code answers of each meaning.
 module _ {m : answer.Meaning} (position : Position) (nullable : Bool) where
   pub prints-box : {p r : ℕ} {b : Bool} → m ≡ means.Primitive p → r ≡ min p 7 → b ≡ boxed_at position nullable → b ≡ true
-      → PrintsAs m nullable position (prints.Fixed (16 + r))
+      → PrintsAs m nullable position (Some (prints.Fixed (16 + r)))
   prints-box {p} e q f b n inner = rw (e, q, box-part p, part-value position nullable inner (primitive (primitive_at p)) tt, ← f, b)
 
   pub prints-letter : {p r : ℕ} {b : Bool} → m ≡ means.Primitive p → r ≡ min p 7 → b ≡ boxed_at position nullable → b ≡ false
-      → PrintsAs m nullable position (prints.Fixed r)
+      → PrintsAs m nullable position (Some (prints.Fixed r))
   prints-letter {p} e q f b n inner = rw (e, q, letter-part p, part-value position nullable inner (primitive (primitive_at p)) tt, ← f, b)
 
-  pub prints-letters : {p r : ℕ} → m ≡ means.PrimitiveArray p → r ≡ min p 7 → PrintsAs m nullable position (prints.Fixed (8 + r))
+  pub prints-letters : {p r : ℕ} → m ≡ means.PrimitiveArray p → r ≡ min p 7 → PrintsAs m nullable position (Some (prints.Fixed (8 + r)))
   prints-letters {p} e q n inner = rw (e, q, array-part p) (part-value position nullable inner (primitive_array (primitive_at p)) tt)
 
-  pub prints-array : m ≡ means.Array → PrintsAs m nullable position prints.ThroughArray
+  pub prints-array : m ≡ means.Array → PrintsAs m nullable position (Some prints.ThroughArray)
   prints-array e n inner = rw e (part-value position nullable inner array tt ∙ map_twice array_of of_type inner)
 
-  pub prints-unit : (q : Position) → m ≡ means.Unit → position ≡ q → PrintsAs m nullable position (prints.Fixed (unit_part q))
+  pub prints-unit : (q : Position) → m ≡ means.Unit → position ≡ q → PrintsAs m nullable position (Some (prints.Fixed (unit_part q)))
   prints-unit q e p n inner = rw (e, p) (part-unit q nullable inner)
 
-  pub prints-nothing : m ≡ means.Nothing → PrintsAs m nullable position prints.Nothing
+  pub prints-nothing : m ≡ means.Nothing → PrintsAs m nullable position None
   prints-nothing e n inner = rw e (part-value position nullable inner nothing tt)
 
-  pub prints-class : {k r : ℕ} → m ≡ means.Class k → r ≡ min k 22 → PrintsAs m nullable position (prints.Fixed (16 + r))
+  pub prints-class : {k r : ℕ} → m ≡ means.Class k → r ≡ min k 22 → PrintsAs m nullable position (Some (prints.Fixed (16 + r)))
   prints-class {k} e q n inner = rw (e, q, class-part k) (part-value position nullable inner (mapped (class_at k)) tt)
 
-  pub prints-itself : m ≡ means.Other → PrintsAs m nullable position prints.ClassItself
+  pub prints-itself : m ≡ means.Other → PrintsAs m nullable position (Some prints.ClassItself)
   prints-itself e n inner = rw e (part-value position nullable inner (mapped n) tt)
 
 -- The erasure of the first of some types, and of a return, by its meaning at its position.
@@ -226,7 +223,7 @@ unfolding erased_return erased first_erased
 return_at t n e = rw e
 
 -- What the code says of a name's bytes and of the meaning that it found, together.
-pub part-told : (position : Position) (nullable : Bool) (inner : Option Erased) {bytes : List ℕ} (m : answer.Meaning) (r : Printed) (n : Text)
+pub part-told : (position : Position) (nullable : Bool) (inner : Option Erased) {bytes : List ℕ} (m : answer.Meaning) (r : std.Option Printed) (n : Text)
     → Means bytes m → PrintsAs m nullable position r → Characters n → utf8 n ≡ bytes
     → part_at position nullable inner (look_up n listed) ≡ printed_told n inner r
 part-told position nullable inner m r n f g c u = ap (part_at position nullable inner) (f n c u) ∙ g n inner

@@ -2,7 +2,7 @@
 // tell them: specs/told/ErasureTold.antt.
 #![tactic(auto)]
 
-ghost use Rattle.std.specs.Prelude.{◌≡◌, ◌++◌, ◌<◌, min};
+ghost use Rattle.std.specs.Prelude.{◌≡◌, ◌++◌, ◌<◌};
 ghost use Rattle.foundation.specs.Texts.{same};
 ghost use Rattle.erasure.specs.Erasure.{letter};
 ghost use Rattle.erasure.specs.told.ErasureTold.{Means, CanBe, listed_name, MeansRow, primitive_at, PutSized, PutPart, row_text, boxed_at, PrintsAs};
@@ -21,14 +21,14 @@ pub enum Meaning {
 }
 
 // Where a type stands.
-#[derive(Clone, Copy)]
+#[derive(Clone, Copy, PartialEq, Eq)]
 pub enum Position {
     Parameter,
     Element,
     Return,
 }
 
-// What is printed of a type.
+// What is printed of a type that has a descriptor.
 #[derive(Clone, Copy)]
 pub enum Printed {
     // A part that no name of the input enters: `fixed_part`.
@@ -37,27 +37,6 @@ pub enum Printed {
     ThroughArray,
     // The class that the input names.
     ClassItself,
-    // It has no descriptor.
-    Nothing,
-}
-
-// Some text was written, or a needed type has no descriptor.
-#[derive(Clone, Copy)]
-pub enum Part {
-    Written { size: usize },
-    Absent,
-}
-
-fn wide(byte: u8) -> usize
-    ensures { (result ≡ byte) × (result < 256) }
-{
-    byte as usize
-}
-
-fn wide16(n: u16) -> usize
-    ensures { result ≡ n }
-{
-    n as usize
 }
 
 // The names of the table, in its order, each without the `kotlin/` that it begins with; and where each starts and the last ends.
@@ -115,36 +94,6 @@ const ROWS: [u8; 128] = *b"\
     \x24\x24\x24\x24\x24\x24\x24\x24\x24\x24\x24\x24\x24\x24\x24\x24\
     \x24\x24\x24\x24\x24\x24\x24\x24\x24\x24\x24\x24\x01\x24\x24\x24";
 
-fn equal(a: &[u8], b: &[u8]) -> bool
-    ensures { result ≡ same a.now b.now }
-{
-    if a.len() != b.len() {
-        return false;
-    }
-    let mut i = 0;
-    while i < a.len() {
-        if a[i] != b[i] {
-            return false;
-        }
-        i += 1;
-    }
-    true
-}
-
-// Whether `name` is one text and then another.
-fn is_joined(name: &[u8], first: &[u8], second: &[u8]) -> bool
-    ensures { result ≡ same name.now (first.now ++ second.now) }
-{
-    let n = first.len();
-    if name.len() < n {
-        return false;
-    }
-    if equal(&name[..n], &*first) {
-        return equal(&name[n..], &*second);
-    }
-    false
-}
-
 // The row of the table that `name` can be, by its length, its eighth byte and its last, which no two rows have in common.
 fn row_of(name: &[u8]) -> usize
     ensures { CanBe name.now result }
@@ -159,19 +108,20 @@ fn row_of(name: &[u8]) -> usize
     if name[0] != b'k' {
         return 36;
     }
-    let hash = (n + wide(name[7]) + 3 * wide(name[n - 1])) % 128;
-    wide(ROWS[hash])
+    let hash = (n + usize::from(name[7]) + 3 * usize::from(name[n - 1])) % 128;
+    usize::from(ROWS[hash])
 }
 
 fn is_listed(name: &[u8], row: usize) -> bool
     requires { row < 36 }
     ensures { result ≡ same name.now (listed_name row) }
 {
-    let starts: &[u16] = &NAME_STARTS;
-    let start = wide16(starts[row]);
-    let end = wide16(starts[row + 1]);
-    let names: &[u8] = &NAMES;
-    is_joined(&*name, b"kotlin/", &names[start..end])
+    let start = usize::from(NAME_STARTS[row]);
+    let end = usize::from(NAME_STARTS[row + 1]);
+    match name.strip_prefix(b"kotlin/") {
+        Some(rest) => rest == &NAMES[start..end],
+        None => false,
+    }
 }
 
 fn meaning_at(row: usize) -> Meaning
@@ -194,11 +144,8 @@ fn meaning_at(row: usize) -> Meaning
 pub fn meaning_of(name: &[u8]) -> Meaning
     ensures { Means name.now result }
 {
-    let row = row_of(&*name);
-    if 36 <= row {
-        return Meaning::Other;
-    }
-    if is_listed(&*name, row) {
+    let row = row_of(name);
+    if row < 36 && is_listed(name, row) {
         return meaning_at(row);
     }
     Meaning::Other
@@ -265,11 +212,9 @@ fn put_row(area: &mut [u8], at: usize, row: usize) -> usize
     requires { row < 31 }
     ensures { PutSized (row_text row) at result area.old area.new }
 {
-    let starts: &[u16] = &PART_STARTS;
-    let start = wide16(starts[row]);
-    let end = wide16(starts[row + 1]);
-    let parts: &[u8] = &PARTS;
-    sheet::put_all(area, at, &parts[start..end]);
+    let start = usize::from(PART_STARTS[row]);
+    let end = usize::from(PART_STARTS[row + 1]);
+    sheet::put_all(area, at, &PARTS[start..end]);
     end - start
 }
 
@@ -288,50 +233,38 @@ pub fn put_part(area: &mut [u8], at: usize, part: usize) -> usize
     1
 }
 
-fn up_to(n: usize, last: usize) -> usize
-    ensures { result ≡ min n last }
-{
-    if n < last { n } else { last }
-}
-
 fn is_boxed(nullable: bool, position: Position) -> bool
     ensures { result ≡ boxed_at position nullable }
 {
-    if nullable {
-        return true;
-    }
-    match position {
-        Position::Parameter => false,
-        Position::Element => true,
-        Position::Return => false,
-    }
+    nullable || position == Position::Element
 }
 
-// What is printed of a type at a position.
-pub fn printed_as(meaning: Meaning, nullable: bool, position: Position) -> Printed
+// What is printed of a type at a position; nothing if it has no descriptor.
+pub fn printed_as(meaning: Meaning, nullable: bool, position: Position) -> Option<Printed>
     ensures { PrintsAs meaning nullable position result }
 {
     match meaning {
         Meaning::Primitive { primitive } => {
-            let letter = up_to(primitive, 7);
-            if is_boxed(nullable, position) {
-                return Printed::Fixed { part: 16 + letter };
-            }
-            Printed::Fixed { part: letter }
+            let letter = primitive.min(7);
+            let part = if is_boxed(nullable, position) {
+                16 + letter
+            } else {
+                letter
+            };
+            Some(Printed::Fixed { part })
         }
-        Meaning::PrimitiveArray { primitive } => Printed::Fixed {
-            part: 8 + up_to(primitive, 7),
-        },
-        Meaning::Array => Printed::ThroughArray,
+        Meaning::PrimitiveArray { primitive } => Some(Printed::Fixed {
+            part: 8 + primitive.min(7),
+        }),
+        Meaning::Array => Some(Printed::ThroughArray),
         Meaning::Unit => match position {
-            Position::Parameter => Printed::Fixed { part: UNIT },
-            Position::Element => Printed::Fixed { part: UNIT },
-            Position::Return => Printed::Fixed { part: VOID },
+            Position::Parameter | Position::Element => Some(Printed::Fixed { part: UNIT }),
+            Position::Return => Some(Printed::Fixed { part: VOID }),
         },
-        Meaning::Nothing => Printed::Nothing,
-        Meaning::Class { class } => Printed::Fixed {
-            part: 16 + up_to(class, 22),
-        },
-        Meaning::Other => Printed::ClassItself,
+        Meaning::Nothing => None,
+        Meaning::Class { class } => Some(Printed::Fixed {
+            part: 16 + class.min(22),
+        }),
+        Meaning::Other => Some(Printed::ClassItself),
     }
 }

@@ -13,7 +13,6 @@ ghost use Rattle.members.specs.told.ClosedTold.{close_cost, CloseTold};
 use crate::callables::{constructor_in, function_in};
 use declaration_rows::{put_default, put_default_absent};
 use descriptors::defaults::{constructor_default, function_default};
-use erasure::Part;
 use schema::{Picked, Tables};
 use sheet::{State, put_all};
 
@@ -45,7 +44,7 @@ fn close_constructor(
 {
     let mut aside = [0u8; 256];
     let part = constructor_default(msg, base, payload, d2, ends, notes, tables, &mut aside, 0);
-    let Part::Written { size } = part else {
+    let Some(size) = part else {
         return put_default_absent(state, sheet);
     };
     if size <= 256 {
@@ -74,7 +73,7 @@ fn close_function(
 {
     let mut aside = [0u8; 256];
     let part = function_default(msg, base, payload, d2, ends, notes, tables, &mut aside, 0);
-    let Part::Written { size } = part else {
+    let Some(size) = part else {
         return put_default_absent(state, sheet);
     };
     if size <= 256 {

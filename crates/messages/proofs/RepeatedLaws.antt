@@ -11,6 +11,7 @@ use Rattle.wire.specs.Messages.{values, varints_in, joined, varints}
 use Rattle.wire.specs.told.WireTold.{wire_refused, rest_of, part_between, value_of, Inside, varint_told, FieldTold}
 use Rattle.messages.specs.told.Asked.{CheckedTold}
 use Rattle.messages.specs.told.Repeated.{first_two, first_two_of, two_told, pushed, pushed_all, pushed_to}
+use Rattle.std.specs.Prelude.{Result, Ok, Err}
 use Rattle.wire.specs.declared.WireError.{WireError}
 use Rattle.wire.specs.declared.WireValue.{WireValue}
 use Rattle.wire.specs.declared.WireValue.TheVariants as wire
@@ -18,11 +19,8 @@ use Rattle.wire.specs.declared.Varint.{Varint}
 use Rattle.wire.specs.declared.Varint.TheVariants as read
 use Rattle.wire.specs.declared.FieldStep.{FieldStep}
 use Rattle.wire.specs.declared.FieldStep.TheVariants as step
-use Rattle.messages.specs.declared.Checked.TheVariants as checked
 use Rattle.messages.specs.declared.repeated.Two.{Two}
 use Rattle.messages.specs.declared.repeated.Two.TheVariants.{Neither, Both}
-use Rattle.messages.specs.declared.repeated.FirstTwo.{FirstTwo}
-use Rattle.messages.specs.declared.repeated.FirstTwo.TheVariants as first
 use Rattle.wire.proofs.Progress.{none_empty, packed_none, packed_next}
 use Rattle.wire.proofs.FieldLaws.{varint-is, varint-refused}
 use Rattle.wire.proofs.WalkLaws.{bind_ok, byte_left, Leads, leads-start, leads-next, leads-never, leads-end, values-found, values-passed}
@@ -66,7 +64,7 @@ module _ (base : ℕ) (s : List ℕ) (i : ℕ) (t : Two) where
         let on : packed (rest_of base s i) ≡ wire_refused err = packed_next (rest_of base s i) (byte_left s i h) ∙ (rw (varint-refused base s i e g q)) in
         ap (pushed_to t) on
 
-pub run-part : (base : ℕ) (s : List ℕ) (t : Two) (a e : ℕ) (r : FirstTwo) → a ≤ e
+pub run-part : (base : ℕ) (s : List ℕ) (t : Two) (a e : ℕ) (r : Result Two WireError) → a ≤ e
     → pushed_to t (packed (rest_of base (take e s) a)) ≡ two_told r
     → pushed_to t (packed (part_between base s a e)) ≡ two_told r
 run-part base s t a e r h w = ap (λ (p : Part). pushed_to t (packed p)) (sym (part-is base s a e h)) ∙ w
@@ -118,8 +116,8 @@ module _ (k base : ℕ) (s : List ℕ) where
             leads-next (◌from◌ base s) base s at e h R R o next g λ m rest c.
             c ∙ ap (λ (vs : List Value). pushed_to t (joined vs)) (values-passed k (value_of base s v) rest q)
 
-        module _ (q : n ≡ k) {x : FirstTwo} (p : pushed_to t (varints_in (value_of base s v)) ≡ two_told x) where
-          pub pushing-next : {u : Two} → x ≡ first.Numbers u → Pushing k base s next u
+        module _ (q : n ≡ k) {x : Result Two WireError} (p : pushed_to t (varints_in (value_of base s v)) ≡ two_told x) where
+          pub pushing-next : {u : Two} → x ≡ Ok u → Pushing k base s next u
           unfolding varints
           pushing-next {u} z =
               let R : Message → Message → Type 0 = λ m rest. pushed_to Neither (varints k m) ≡ pushed_to t (varints k rest) in
@@ -128,8 +126,8 @@ module _ (k base : ℕ) (s : List ℕ) where
               c ∙ ap (λ (vs : List Value). pushed_to t (joined vs)) (values-found k (value_of base s v) rest q)
               ∙ value_pushed t u (value_of base s v) (values k rest) (p ∙ ap two_told z)
 
-          pub pushing-refused : {error : WireError} → x ≡ first.Refused error → (m : Message) → cut (◌from◌ base s) ≡ ok m
-              → first_two_of (varints k m) ≡ two_told x
+          pub pushing-refused : {error : WireError} → x ≡ Err error → (m : Message) → cut (◌from◌ base s) ≡ ok m
+              → first_two_of (varints k m) ≡ two_told (Err error)
           unfolding varints
           pushing-refused {error} z m w =
               let R : Message → Message → Type 0 = λ m rest. pushed_to Neither (varints k m) ≡ pushed_to t (varints k rest) in
@@ -137,15 +135,15 @@ module _ (k base : ℕ) (s : List ℕ) where
               let l = leads-next (◌from◌ base s) base s at e h R S o next g λ m rest c.
               c ∙ ap (λ (vs : List Value). pushed_to t (joined vs)) (values-found k (value_of base s v) rest q)
               ∙ value_not t (value_of base s v) (values k rest) error (p ∙ ap two_told z) in
-              sym (pushed_two (varints k m)) ∙ (l m w).2 ∙ ap two_told (sym z)
+              sym (pushed_two (varints k m)) ∙ (l m w).2
 
 -- that the numbers are sound, whatever they are
-module _ (r : Res (List ℕ)) {x : FirstTwo} (e : first_two_of r ≡ two_told x) where
-  pub two-sound : {t : Two} → x ≡ first.Numbers t → CheckedTold r checked.Whole
+module _ (r : Res (List ℕ)) {x : Result Two WireError} (e : first_two_of r ≡ two_told x) where
+  pub two-sound : {t : Two} → x ≡ Ok t → CheckedTold r (Ok tt)
   two-sound g = let b = bind_ok r first_two (e ∙ ap two_told g) in (b.0, b.1)
 
-  pub two_refused : {error err : WireError} → x ≡ first.Refused error → err ≡ error → CheckedTold r (checked.Refused err)
-  two_refused {error} {err} g q = go r (e ∙ ap two_told g) ∙ ap (wire_refused {A = List ℕ}) (sym q)
+  pub two_refused : {error : WireError} → x ≡ Err error → CheckedTold r (Err error)
+  two_refused {error} g = go r (e ∙ ap two_told g)
     where
       go : (r : Res (List ℕ)) → first_two_of r ≡ wire_refused error → r ≡ wire_refused error
       go (ok ns) e = let z : ◌≡◌ {A = ℕ} 0 1 = cc in absurd (omega arith)
@@ -163,6 +161,6 @@ module _ (base : ℕ) (s : List ℕ) (t : Two) {v : WireValue} where
     pub body-inside : (a ≤ e) × (e ≤ length s) × (0 < a)
     body-inside = subst (Inside s) g i
 
-    pub push-body : (r : FirstTwo) → pushed_to t (packed (rest_of base (take e s) a)) ≡ two_told r
+    pub push-body : (r : Result Two WireError) → pushed_to t (packed (rest_of base (take e s) a)) ≡ two_told r
         → pushed_to t (varints_in (value_of base s v)) ≡ two_told r
     push-body r w = ap (λ (w : WireValue). pushed_to t (varints_in (value_of base s w))) g ∙ run-part base s t a e r body-inside.0 w

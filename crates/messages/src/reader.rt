@@ -1,10 +1,11 @@
-// A reader over a payload: the lent bytes and the offset of the next one. Its methods leave the work to functions on a slice and a place, so
-// that each proof by hand has no branch. The definitions of what they tell: specs/told/Reader.antt.
+// A reader over a payload: the lent bytes and the offset of the next one. Its methods leave the work to functions on a slice and a place. The
+// definitions of what they tell: specs/told/Reader.antt.
 ghost use Rattle.std.specs.Prelude.{◌≡◌, ◌-◌, ◌≤◌, length, drop};
 ghost use Rattle.foundation.specs.Results.{◌from◌};
 ghost use Rattle.wire.specs.Wire.{read_delimited};
 ghost use Rattle.messages.specs.told.Reader.{after_delimited, DelimitedRead, parts_of, SplitTold};
 
+use foundation::Span;
 use wire::{Delimited, WireError, delimited_at};
 
 #[derive(Clone, Copy)]
@@ -58,59 +59,33 @@ impl<'a> WireReader<'a> {
     }
 }
 
-// A payload's two parts, by their places: the name table from `start` to `end`, the declarations from `rest` on.
+// A payload's two parts, by their places: the name table, and the declarations from `rest` on.
 #[derive(Clone, Copy)]
-pub enum Split {
-    Parts {
-        start: usize,
-        end: usize,
-        rest: usize,
-    },
-    Refused {
-        error: WireError,
-    },
-}
-
-impl Split {
-    // The refusal of a payload that is refused; nothing is promised of one with its parts.
-    pub fn error(self) -> WireError
-        ensures { (e : WireError) → self ≡ Split.Refused e → result ≡ e }
-    {
-        match self {
-            Split::Parts {
-                start: _,
-                end: _,
-                rest,
-            } => WireError::VarintCutShort { place: rest },
-            Split::Refused { error } => error,
-        }
-    }
+pub struct Parts {
+    pub table: Span,
+    pub rest: usize,
 }
 
 // The parts of a payload: `table` is what was read of its name table, `rest` the bytes after that.
-fn parts<'a>(table: Delimited, bytes: &'a [u8], rest: &'a [u8]) -> Split
+fn payload_parts<'a>(table: Delimited, bytes: &'a [u8], rest: &'a [u8]) -> Result<Parts, WireError>
     requires { length rest.now ≤ length bytes.now }
     ensures { result ≡ parts_of table (length bytes.now - length rest.now) }
 {
     let Delimited::Body { start, end } = table else {
-        return Split::Refused {
-            error: table.error(),
-        };
+        return Err(table.error());
     };
-    let from = bytes.len() - rest.len();
-    Split::Parts {
-        start,
-        end,
-        rest: from,
-    }
+    Ok(Parts {
+        table: Span { start, end },
+        rest: bytes.len() - rest.len(),
+    })
 }
 
-// Opens a payload: a length-delimited name table, then the declarations. Who calls this needs no proof by hand.
-pub fn split_payload(bytes: &[u8]) -> Split
+// Opens a payload: a length-delimited name table, then the declarations.
+pub fn split_payload(bytes: &[u8]) -> Result<Parts, WireError>
     ensures { SplitTold bytes.now (read_delimited (◌from◌ 0 bytes.now)) result }
 {
     let mut reader = WireReader::new(bytes);
     let table = reader.delimited();
     let rest = reader.remainder();
-    parts(table, bytes, rest)
+    payload_parts(table, bytes, rest)
 }

@@ -4,6 +4,7 @@ use mathlib.Core.Path.{◌≡◌, refl, ap, sym, ◌∙◌, subst}
 use mathlib.Core.Bool.{Bool, true, false}
 use mathlib.Core.List.{List, [], ◌∷◌}
 use mathlib.Core.Option.{Option, none, some}
+use Rattle.std.specs.declared.option.Option as rust
 use Prim.Native.Nat.{ℕ, zero, suc, ◌≤◌, ◌<◌, ◌%◌, ◌^◌}
 use native.Mathlib.Omega.{arith}
 use borrow.Author.Tests.{eq-eqb, ne_eqb, eqb-true, eqb-false}
@@ -22,10 +23,6 @@ use Rattle.wire.specs.declared.WireError.{WireError}
 use Rattle.wire.specs.declared.WireValue.{WireValue}
 use Rattle.wire.specs.declared.FieldStep.{FieldStep}
 use Rattle.wire.specs.declared.FieldStep.TheVariants as step
-use Rattle.messages.specs.declared.Found.{Found}
-use Rattle.messages.specs.declared.Found.TheVariants as found
-use Rattle.messages.specs.declared.Indexed.{Indexed}
-use Rattle.messages.specs.declared.Indexed.TheVariants as indexed
 use Rattle.messages.specs.declared.repeated.Two.{Two}
 use Rattle.messages.specs.declared.repeated.Two.TheVariants.{Neither, One, Both}
 use Rattle.wire.proofs.WalkLaws.{field_is, Leads, leads-start, leads-next, leads-never, leads-end, values-found, values-passed}
@@ -34,46 +31,39 @@ use Rattle.names.specs.Records.{served, two_of, record_of}
 use Rattle.names.specs.told.RecordTold.{first_seen, with_field, FirstsTold, operation_in, both_numbers, RecordTold}
 use Rattle.names.specs.declared.records.Firsts.{Firsts}
 use Rattle.names.specs.declared.records.Record.{Record}
-
--- a field that isn't asked for changes nothing, and of one that is the first counts
-pub first_other : (k : ℕ) (f : Found) (n : ℕ) (v : WireValue) → (n ≡ k → ⊥) → f ≡ first_seen k f n v
-first_other k (found.Value w) n v h = refl
-first_other k found.Nothing n v h = rw (ne_eqb n k h)
-
-pub first_new : (k : ℕ) (f : Found) (n : ℕ) (v : WireValue) → n ≡ k → f ≡ found.Nothing → found.Value v ≡ first_seen k f n v
-first_new k f n v h e = rw (e, eq-eqb n k h)
+use Rattle.std.specs.Prelude.{Some, None}
 
 -- What was seen of field k before a place, and the rest from there, say what the whole message does.
 module _ (k base : ℕ) (s : List ℕ) where
-  pub Known : Found → Message → Message → Type 0
+  pub Known : rust.Option WireValue → Message → Message → Type 0
   Known f m rest = value k m ≡ or_else (found_told base s f) (value k rest)
 
-  known_next : (f : Found) (n : ℕ) (v : WireValue) (m rest : Message) → Known f m (field n (value_of base s v) ∷ rest) → Known (first_seen k f n v) m rest
+  known_next : (f : rust.Option WireValue) (n : ℕ) (v : WireValue) (m rest : Message) → Known f m (field n (value_of base s v) ∷ rest) → Known (first_seen k f n v) m rest
   unfolding Known
-  known_next (found.Value w) n v m rest e = e
-  known_next found.Nothing n v m rest e = go (eqb n k) refl
+  known_next (Some w) n v m rest e = e
+  known_next None n v m rest e = go (eqb n k) refl
     where
-      go : (t : Bool) → eqb n k ≡ t → value k m ≡ or_else (found_told base s (if t then found.Value v else found.Nothing)) (value k rest)
+      go : (t : Bool) → eqb n k ≡ t → value k m ≡ or_else (found_told base s (if t then Some v else None)) (value k rest)
       go true q = e ∙ ap first_of (values-found k (value_of base s v) rest (eqb-true n k q))
       go false q = e ∙ ap first_of (values-passed k (value_of base s v) rest (eqb-false n k q))
 
-  inside-next : (f : Found) (n : ℕ) (v : WireValue) → FoundInside s f → Inside s v → FoundInside s (first_seen k f n v)
-  inside-next (found.Value w) n v h i = h
-  inside-next found.Nothing n v h i = go (eqb n k)
+  inside-next : (f : rust.Option WireValue) (n : ℕ) (v : WireValue) → FoundInside s f → Inside s v → FoundInside s (first_seen k f n v)
+  inside-next (Some w) n v h i = h
+  inside-next None n v h i = go (eqb n k)
     where
-      go : (t : Bool) → FoundInside s (if t then found.Value v else found.Nothing)
+      go : (t : Bool) → FoundInside s (if t then Some v else None)
       go true = i
       go false = tt
 
-  pub record Seen (at : ℕ) (f : Found) : Type 0 where
+  pub record Seen (at : ℕ) (f : rust.Option WireValue) : Type 0 where
     pub leads : Leads (Known f) (◌from◌ base s) (rest_of base s at)
     pub inside : FoundInside s f
 
-  seen_start : Seen 0 found.Nothing
+  seen_start : Seen 0 None
   unfolding Known
-  seen_start = record { leads = leads-start (Known found.Nothing) base s (λ m. refl); inside = tt }
+  seen_start = record { leads = leads-start (Known None) base s (λ m. refl); inside = tt }
 
-  module _ (at : ℕ) (f : Found) (i : Seen at f) where
+  module _ (at : ℕ) (f : rust.Option WireValue) (i : Seen at f) where
     seen_end : length s ≤ at → FoundTold base s k f
     unfolding Known values
     seen_end h = record { is = λ m w. leads-end (Known f) (◌from◌ base s) base s at i.leads h m w ∙ go (found_told base s f); inside = i.inside }
@@ -102,7 +92,7 @@ pub record AllSeen (base : ℕ) (s : List ℕ) (at : ℕ) (f : Firsts) : Type 0 
   pub string : Seen Record-string base s at f.string
 
 abbrev pub none_seen : Firsts
-none_seen = record { range = found.Nothing; predefined = found.Nothing; operation = found.Nothing; substring = found.Nothing; replaced = found.Nothing; string = found.Nothing }
+none_seen = record { range = None; predefined = None; operation = None; substring = None; replaced = None; string = None }
 
 module _ (base : ℕ) (s : List ℕ) where
   pub all_start : AllSeen base s 0 none_seen
@@ -116,7 +106,7 @@ module _ (base : ℕ) (s : List ℕ) where
   }
 
   module _ (at : ℕ) (f : Firsts) (i : AllSeen base s at f) where
-    abbrev told : ((k : ℕ) (x : Found) → Seen k base s at x → FoundTold base s k x) → FirstsTold base s f
+    abbrev told : ((k : ℕ) (x : rust.Option WireValue) → Seen k base s at x → FoundTold base s k x) → FirstsTold base s f
     told t = record {
       range = t Record-range f.range i.range;
       predefined = t Record-predefined_index f.predefined i.predefined;
@@ -147,7 +137,7 @@ module _ (base : ℕ) (s : List ℕ) where
 -- What is made of a first occurrence.
 module _ (base : ℕ) (s : List ℕ) (k : ℕ) (m : Message) (w : cut (◌from◌ base s) ≡ ok m) where
   -- a field that isn't there has no numbers
-  pub two_none : FoundTold base s k found.Nothing → two_of (varints k m) ≡ none
+  pub two_none : FoundTold base s k None → two_of (varints k m) ≡ none
   unfolding varints joined
   two_none t = go (values k m) (t.is m w)
     where
@@ -155,25 +145,9 @@ module _ (base : ℕ) (s : List ℕ) (k : ℕ) (m : Message) (w : cut (◌from�
       go [] e = refl
       go (v ∷ vs) e = let z : ◌≡◌ {A = ℕ} 0 1 = cc in absurd (omega arith)
 
--- a step's two numbers, as the wire tells them
-pub two_is : (r : Res (List ℕ)) {t : Two} → first_two_of r ≡ ok t → two_of r ≡ both_numbers t
-two_is (ok []) {t} e = let q : Neither ≡ t = cc in rw (← q)
-two_is (ok (a ∷ [])) {t} e = let q : One (a % 2 ^ 32) ≡ t = cc in rw (← q)
-two_is (ok (a ∷ b ∷ ns)) {t} e = let q : Both (a % 2 ^ 32) (b % 2 ^ 32) ≡ t = cc in rw (← q)
-two_is (refused c p) e = let z : ◌≡◌ {A = ℕ} 0 1 = cc in absurd (omega arith)
-
--- how many indices
-pub served_some : {o : Indexed} {n : ℕ} → o ≡ indexed.At n → (n ≡ 0 → ⊥) → n ≡ served (index_told o)
-served_some {n = zero} e h = absurd (h refl)
-served_some {n = suc n} e h = rw e
-
-pub two_refused : (r : Res (List ℕ)) (e : WireError) → first_two_of r ≡ wire_refused e → two_of r ≡ none
-two_refused (ok ns) e q = let z : ◌≡◌ {A = ℕ} 0 1 = cc in absurd (omega arith)
-two_refused (refused c p) e q = refl
-
 -- the record, from what each field comes to
 pub record_is : (base : ℕ) (s : List ℕ) (f : Firsts) (r : Record) → FirstsTold base s f
-    → (range : Indexed) → index_told range ≡ index_in f.range → r.range ≡ served (index_told range)
+    → (range : rust.Option ℕ) → index_told range ≡ index_in f.range → r.range ≡ served (index_told range)
     → r.string ≡ piece_in f.string → index_told r.predefined ≡ index_in f.predefined → r.operation ≡ operation_in f.operation
     → (FoundTold base s Record-substring_index f.substring → (m : Message) → cut (◌from◌ base s) ≡ ok m → two_of (varints Record-substring_index m) ≡ both_numbers r.substring)
     → (FoundTold base s Record-replace_char f.replaced → (m : Message) → cut (◌from◌ base s) ≡ ok m → two_of (varints Record-replace_char m) ≡ both_numbers r.replaced)

@@ -14,32 +14,38 @@ use fields::{
     RECORD_OPERATION, RECORD_PREDEFINED_INDEX, RECORD_RANGE, RECORD_REPLACE_CHAR, RECORD_STRING,
     RECORD_SUBSTRING_INDEX, STRING_TABLE_TYPES_LOCAL_NAME, STRING_TABLE_TYPES_RECORD,
 };
-use messages::repeated::{FirstTwo, Two, check_varints, first_two};
-use messages::{Checked, Found, Indexed, check, index, next_body};
-use wire::{FieldStep, Number, Piece, WireError, WireValue, field_at};
+use foundation::Span;
+use messages::repeated::{Two, check_varints, first_two};
+use messages::{check, index, index_in, next_body, number_in, piece_in};
+use wire::{FieldStep, WireError, WireValue, field_at};
 
 // The first occurrence of each field of a record.
 #[derive(Clone, Copy)]
 struct Firsts {
-    range: Found,
-    predefined: Found,
-    operation: Found,
-    substring: Found,
-    replaced: Found,
-    string: Found,
+    range: Option<WireValue>,
+    predefined: Option<WireValue>,
+    operation: Option<WireValue>,
+    substring: Option<WireValue>,
+    replaced: Option<WireValue>,
+    string: Option<WireValue>,
 }
 
 // The first occurrence of a field that is asked for, after one more field.
-fn first_seen(asked: u32, seen: Found, number: u32, value: WireValue) -> Found
+fn first_seen(
+    asked: u32,
+    seen: Option<WireValue>,
+    number: u32,
+    value: WireValue,
+) -> Option<WireValue>
     ensures { result ≡ first_seen asked seen number value }
 {
     if number != asked {
         return seen;
     }
-    let Found::Nothing = seen else {
+    if seen.is_some() {
         return seen;
-    };
-    Found::Value { value }
+    }
+    Some(value)
 }
 
 impl Firsts {
@@ -68,16 +74,16 @@ fn firsts_in(s: &[u8], base: u32) -> Firsts
     ensures { FirstsTold base s.now result }
 {
     let mut firsts = Firsts {
-        range: Found::Nothing,
-        predefined: Found::Nothing,
-        operation: Found::Nothing,
-        substring: Found::Nothing,
-        replaced: Found::Nothing,
-        string: Found::Nothing,
+        range: None,
+        predefined: None,
+        operation: None,
+        substring: None,
+        replaced: None,
+        string: None,
     };
     let mut at = 0;
     while at < s.len() {
-        let step = field_at(&*s, base, at);
+        let step = field_at(s, base, at);
         let FieldStep::Field {
             number,
             value,
@@ -93,48 +99,37 @@ fn firsts_in(s: &[u8], base: u32) -> Firsts
 }
 
 // How many indices a record serves: range 0 counts as 1, and so does no range.
-fn served(range: Indexed) -> u32
+fn served(range: Option<u32>) -> u32
     ensures { result ≡ served (index_told range) }
 {
-    let Indexed::At { index } = range else {
-        return 1;
-    };
-    if index == 0 {
-        return 1;
+    match range {
+        None | Some(0) => 1,
+        Some(index) => index,
     }
-    index
 }
 
-fn operation_in(found: Found) -> u64
+fn operation_in(found: Option<WireValue>) -> u64
     ensures { result ≡ operation_in found }
 {
-    let number = found.varint();
-    let Number::Value { value } = number else {
-        return 0;
-    };
-    value
+    number_in(found).unwrap_or(0)
 }
 
 // A step's two numbers. Errors in its values, or fewer than two of them, mean that the step isn't taken.
-fn two_in(s: &[u8], base: u32, number: u32, found: Found) -> Two
+fn two_in(s: &[u8], base: u32, number: u32, found: Option<WireValue>) -> Two
     ensures { FoundTold base s.now number found → (m : Message) → cut (◌from◌ base s.now) ≡ ok m → two_of (varints number m) ≡ both_numbers result }
 {
-    let Found::Value { value: _ } = found else {
-        return Two::Neither;
-    };
-    let numbers = first_two(&*s, base, number);
-    let FirstTwo::Numbers { two } = numbers else {
-        return Two::Neither;
-    };
-    two
+    match found {
+        None => Two::Neither,
+        Some(_) => first_two(s, base, number).unwrap_or(Two::Neither),
+    }
 }
 
 #[derive(Clone, Copy)]
 pub struct Record {
     pub range: u32,
     // its place in the slice that was read
-    pub string: Piece,
-    pub predefined: Indexed,
+    pub string: Option<Span>,
+    pub predefined: Option<u32>,
     pub operation: u64,
     // the step is taken if both numbers are there
     pub substring: Two,
@@ -145,7 +140,7 @@ pub struct Record {
 pub fn record_in(s: &[u8], base: u32) -> Record
     ensures { RecordTold base s.now result }
 {
-    let firsts = firsts_in(&*s, base);
+    let firsts = firsts_in(s, base);
     let range = firsts.range;
     let predefined = firsts.predefined;
     let operation = firsts.operation;
@@ -153,12 +148,12 @@ pub fn record_in(s: &[u8], base: u32) -> Record
     let replaced = firsts.replaced;
     let string = firsts.string;
     Record {
-        range: served(range.index()),
-        string: string.bytes(),
-        predefined: predefined.index(),
+        range: served(index_in(range)),
+        string: piece_in(string),
+        predefined: index_in(predefined),
         operation: operation_in(operation),
-        substring: two_in(&*s, base, RECORD_SUBSTRING_INDEX, substring),
-        replaced: two_in(&*s, base, RECORD_REPLACE_CHAR, replaced),
+        substring: two_in(s, base, RECORD_SUBSTRING_INDEX, substring),
+        replaced: two_in(s, base, RECORD_REPLACE_CHAR, replaced),
     }
 }
 
@@ -202,24 +197,22 @@ fn note_records(bytes: &[u8], at: usize, notes: &mut [u64]) -> RecordIndex
     let mut count: usize = 0;
     let mut i = at;
     while i < bytes.len() {
-        let piece = next_body(&*bytes, 0, STRING_TABLE_TYPES_RECORD, i);
-        let Piece::Body { start, end } = piece else {
+        let Some(record) = next_body(bytes, 0, STRING_TABLE_TYPES_RECORD, i) else {
             return RecordIndex::Records { count };
         };
-        let checked = check(&bytes[start..end], start as u32);
-        let Checked::Whole = checked else {
-            return RecordIndex::Refused {
-                error: checked.error(),
-            };
-        };
+        let message = &bytes[record.start..record.end];
+        let base = record.start as u32;
+        if let Err(error) = check(message, base) {
+            return RecordIndex::Refused { error };
+        }
         if room <= count {
             return RecordIndex::NoRoom;
         }
-        let range = served(index(&bytes[start..end], start as u32, RECORD_RANGE));
+        let range = served(index(message, base, RECORD_RANGE));
         total += range as u64;
-        put_entry(notes, count, start as u32, end as u32, total);
+        put_entry(notes, count, base, record.end as u32, total);
         count += 1;
-        i = end;
+        i = record.end;
     }
     RecordIndex::Records { count }
 }
@@ -235,15 +228,12 @@ pub fn index_records(bytes: &[u8], at: usize, notes: &mut [u64]) -> RecordIndex
     if 4294967295 < at {
         return RecordIndex::NoRoom;
     }
-    let noted = note_records(&*bytes, at, notes);
+    let noted = note_records(bytes, at, notes);
     let RecordIndex::Records { count } = noted else {
         return noted;
     };
-    let checked = check_varints(&bytes[at..], at as u32, STRING_TABLE_TYPES_LOCAL_NAME);
-    let Checked::Whole = checked else {
-        return RecordIndex::Refused {
-            error: checked.error(),
-        };
-    };
-    RecordIndex::Records { count }
+    match check_varints(&bytes[at..], at as u32, STRING_TABLE_TYPES_LOCAL_NAME) {
+        Ok(()) => RecordIndex::Records { count },
+        Err(error) => RecordIndex::Refused { error },
+    }
 }

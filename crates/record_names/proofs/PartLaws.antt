@@ -4,6 +4,7 @@ use mathlib.Core.Path.{◌≡◌, refl, ap, sym, ◌∙◌, subst}
 use mathlib.Core.Bool.{Bool, true, false, ◌&&◌, ◌||◌}
 use mathlib.Core.List.{List, [], ◌∷◌}
 use mathlib.Core.Option.{Option, none, some}
+use Rattle.std.specs.declared.option.Option as rust
 use Prim.Native.Nat.{ℕ, ◌+◌, ◌-◌, ◌^◌, ◌≤◌, ◌<◌}
 use native.Mathlib.Omega.{arith}
 use borrow.Author.Tests.{eq-eqb, ne_eqb, lt-ltb, le-ltb, le-leb, eqb-true, ltb-true, leb-true}
@@ -14,10 +15,6 @@ use Rattle.foundation.specs.Choices.{if_some, is_some, map_option, IfSome}
 use Rattle.foundation.specs.Texts.{Text}
 use Rattle.foundation.proofs.ChoiceLaws.{and_left, and_right}
 use Rattle.messages.specs.told.Asked.{piece_told, PieceInside, index_told}
-use Rattle.wire.specs.declared.Piece.{Piece}
-use Rattle.wire.specs.declared.Piece.TheVariants as piece
-use Rattle.messages.specs.declared.Indexed.{Indexed}
-use Rattle.messages.specs.declared.Indexed.TheVariants as indexed
 use Rattle.messages.specs.declared.repeated.Two.{Two}
 use Rattle.messages.specs.declared.repeated.Two.TheVariants.{Neither, One, Both}
 use Rattle.characters.specs.Characters.{is_scalar, from_utf8}
@@ -42,10 +39,11 @@ use Rattle.names.specs.declared.name.PredefinedPart.TheVariants as listed
 use Rattle.record_names.specs.declared.Extent.TheVariants as extent
 use Rattle.record_names.specs.told.Ends.{EndsTold}
 use Rattle.record_names.proofs.EndsLaws.{steps_dropped}
-use Rattle.record_names.specs.declared.steps.Span.{Span}
 use Rattle.record_names.specs.declared.steps.Base.{Base}
 use Rattle.record_names.specs.declared.steps.Base.TheVariants as base
 use Rattle.names.proofs.NameLaws.{source-bytes}
+use Rattle.std.specs.Prelude.{Some, None}
+use Rattle.foundation.specs.declared.Span.{Span}
 
 -- Tests of numbers.
 module _ (c : ℕ) where
@@ -131,21 +129,21 @@ module _ (s : List ℕ) (first last : ℕ) where
               }
 
 -- What a record's text is made of.
-module _ (from : ℕ) (index : Indexed) {string : Piece} where
-  pub base-string : {a b : ℕ} → string ≡ piece.Body a b → BaseTold from string index (base.Part 1 (from + a) (from + b))
+module _ (from : ℕ) (index : rust.Option ℕ) {string : rust.Option Span} where
+  pub base-string : {p : Span} → string ≡ Some p → BaseTold from string index (base.Part 1 (from + p.start) (from + p.end))
   unfolding source_text
-  base-string {a} {b} g = record {
+  base-string {p} g = record {
     bytes = (omega arith, omega arith);
     is = λ payload d2 end h.
         let i = subst (PieceInside (part_from from end payload)) g h in
-        rw g (ap (λ (l : List ℕ). some (from_utf8 l)) (part-part payload from end a b i.0 i.1));
+        rw g (ap (λ (l : List ℕ). some (from_utf8 l)) (part-part payload from end p.start p.end i.0 i.1));
   }
 
-  module _ (g : string ≡ piece.Nothing) where
-    pub base-nothing : index ≡ indexed.Nothing → BaseTold from string index base.Nothing
+  module _ (g : string ≡ None) where
+    pub base-nothing : index ≡ None → BaseTold from string index base.Nothing
     base-nothing i = record { bytes = tt; is = λ payload d2 end h. rw (g, i) }
 
-    module _ {n : ℕ} (i : index ≡ indexed.At n) (r : PredefinedPart) (e : listed_text r ≡ predefined_text n) where
+    module _ {n : ℕ} (i : index ≡ Some n) (r : PredefinedPart) (e : listed_text r ≡ predefined_text n) where
       pub base-past : r ≡ listed.Nothing → BaseTold from string index base.Nothing
       base-past q = record { bytes = tt; is = λ payload d2 end h. rw (g, i, ← e, q) }
 
@@ -344,15 +342,7 @@ module _ (payload : List ℕ) (from : ℕ) (read : Record) (x : Base) (t : BaseT
           ∙ sym (steps_dropped told.replaced told.operation (source_text payload d2 (plain of a b)))
           ∙ sym (text-is told ∙ ap (with_steps told.replaced told.operation) (part-is ∙ ap (text_in payload d2) q))
 
--- Whether a record decides.
-module _ (string : Piece) (index : Indexed) (from : ℕ) (s : List ℕ) where
-  pub decides-string : {a b : ℕ} → string ≡ piece.Body a b → true ≡ is_some (piece_told from s string) || is_some (index_told index)
-  decides-string e = rw e
-
-  pub decides-index : {b : Bool} → string ≡ piece.Nothing → b ≡ is_some (index_told index) → b ≡ is_some (piece_told from s string) || is_some (index_told index)
-  decides-index e g = rw e g
-
 -- A piece of a part of some bytes has places among them.
-pub piece-fits : (bytes : List ℕ) (start end : ℕ) → start ≤ end → end < 2 ^ 64 → (p : Piece) → PieceInside (part_from start end bytes) p → PieceFits start p
-piece-fits bytes start end h l (piece.Body a b) i = (i.0, omega (arith, i.1, part-short bytes start end))
-piece-fits bytes start end h l piece.Nothing i = tt
+pub piece-fits : (bytes : List ℕ) (start end : ℕ) → start ≤ end → end < 2 ^ 64 → (p : rust.Option Span) → PieceInside (part_from start end bytes) p → PieceFits start p
+piece-fits bytes start end h l (Some p) i = (i.0, omega (arith, i.1, part-short bytes start end))
+piece-fits bytes start end h l None i = tt

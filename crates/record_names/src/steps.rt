@@ -13,12 +13,10 @@ ghost use Rattle.record_names.specs.told.Steps.{known, SubstringTold, PieceFits,
 use crate::Extent;
 use crate::ends::without_ends;
 use characters::{Place, find_place};
-use foundation::wide;
-use messages::Indexed;
+use foundation::{Span, wide};
 use messages::repeated::Two;
 use names::name::{Name, PREDEFINED, PredefinedPart, absent, base_part, predefined};
 use names::records::Record;
-use wire::Piece;
 
 // The part of some bytes that gives the substring of their text by byte places.
 fn substring(s: &[u8], first: usize, last: usize) -> Extent
@@ -53,18 +51,18 @@ enum Base {
 }
 
 // What the text of a record is made of whose message begins at `from`.
-fn base_of(string: Piece, index: Indexed, from: usize) -> Base
+fn base_of(string: Option<Span>, index: Option<u32>, from: usize) -> Base
     requires { PieceFits from string }
     ensures { BaseTold from string index result }
 {
-    if let Piece::Body { start, end } = string {
+    if let Some(part) = string {
         return Base::Part {
             source: 1,
-            start: from + start,
-            end: from + end,
+            start: from + part.start,
+            end: from + part.end,
         };
     }
-    let Indexed::At { index: i } = index else {
+    let Some(i) = index else {
         return Base::Nothing;
     };
     let listed = predefined(i);
@@ -174,13 +172,6 @@ fn substring_of(payload: &[u8], source: u8, start: usize, end: usize, numbers: T
     }
 }
 
-// Two places in a source.
-#[derive(Clone, Copy)]
-struct Span {
-    start: usize,
-    end: usize,
-}
-
 // The part of a part that is left of its text without the first and the last character, if it has two or more.
 fn inner_part(payload: &[u8], source: u8, start: usize, end: usize) -> Span
     requires { (0 < source) × (source ≤ 2) }
@@ -236,21 +227,9 @@ pub(crate) fn record_name(payload: &[u8], from: usize, read: Record) -> Name
     with_steps(of, left.start, left.end, replaced, read.operation)
 }
 
-fn is_index(index: Indexed) -> bool
-    ensures { result ≡ is_some (index_told index) }
-{
-    match index {
-        Indexed::At { index: _ } => true,
-        Indexed::Nothing => false,
-    }
-}
-
 // A record with a string or a predefined index decides its indices, even if its text can't be built.
-pub(crate) fn decides(string: Piece, index: Indexed) -> bool
+pub(crate) fn decides(string: Option<Span>, index: Option<u32>) -> bool
     ensures { (base : ℕ) (s : List ℕ) → result ≡ is_some (piece_told base s string) || is_some (index_told index) }
 {
-    match string {
-        Piece::Body { start: _, end: _ } => true,
-        Piece::Nothing => is_index(index),
-    }
+    string.is_some() || index.is_some()
 }

@@ -8,6 +8,8 @@ ghost use Rattle.foundation.specs.Digits.{number};
 ghost use Rattle.wire.specs.Wire.{group, read_varint, read_fixed, read_value, is_field_number, read_field, varint, body};
 ghost use Rattle.wire.specs.told.WireTold.{rest_of, value_number, piece_of, GroupsTold, varint_told, VarintAt, DelimitedTold, DelimitedAt, ValueTold, FieldTold, FieldAt, ShortTold, ShortField, SkipTold};
 
+use foundation::Span;
+
 // The refusals of a reading. Each tells the offset, among the decoded bytes, of what was being read.
 #[derive(Clone, Copy)]
 pub enum WireError {
@@ -206,43 +208,24 @@ pub enum WireValue {
     Body { start: usize, end: usize },
 }
 
-#[derive(Clone, Copy)]
-pub enum Number {
-    Value { value: u64 },
-    Nothing,
-}
-
-// The bytes `&s[start..end]`.
-#[derive(Clone, Copy)]
-pub enum Piece {
-    Body { start: usize, end: usize },
-    Nothing,
-}
-
 impl WireValue {
-    pub fn varint(self) -> Number
+    // The value, if it is a varint.
+    pub fn varint(self) -> Option<u64>
         ensures { result ≡ value_number self }
     {
         match self {
-            WireValue::Varint { value } => Number::Value { value },
-            WireValue::Fixed {
-                width: _,
-                number: _,
-            } => Number::Nothing,
-            WireValue::Body { start: _, end: _ } => Number::Nothing,
+            WireValue::Varint { value } => Some(value),
+            _ => None,
         }
     }
 
-    pub fn bytes(self) -> Piece
+    // The bytes, if it is length-delimited.
+    pub fn bytes(self) -> Option<Span>
         ensures { result ≡ piece_of self }
     {
         match self {
-            WireValue::Varint { value: _ } => Piece::Nothing,
-            WireValue::Fixed {
-                width: _,
-                number: _,
-            } => Piece::Nothing,
-            WireValue::Body { start, end } => Piece::Body { start, end },
+            WireValue::Body { start, end } => Some(Span { start, end }),
+            _ => None,
         }
     }
 }

@@ -1,4 +1,3 @@
-use native.Mathlib.Omega.{arith}
 use Rattle.characters.specs.Characters.{utf8, utf8_of}
 use Rattle.erasure.specs.told.ErasureTold.{row_at, listed_name}
 use Rattle.erasure.proofs.ListedLaws.{hashed, row_with, too_short, too_long, no_kotlin, can_be}
@@ -13,15 +12,6 @@ returns-then-n-gt36 c = too_long c.if-n-gt36.true
 pub returns-then-name-ne107 : goal.returns-then-name-ne107
 returns-then-name-ne107 c = no_kotlin c.if-name-ne107.true
 
-pub overflow_add-hash : goal.overflow_add-hash
-overflow_add-hash c = omega arith
-
-pub overflow_mul-hash : goal.overflow_mul-hash
-overflow_mul-hash c = omega arith
-
-pub overflow_add-hash-2 : goal.overflow_add-hash-2
-overflow_add-hash-2 c = omega arith
-
 pub returns : goal.returns
 unfolding hashed row_with row_at listed_name utf8 utf8_of
-returns c = can_be c.args.name.now c.wide.ensures.0 c.wide-2.ensures.0 c.wide-3.ensures.0
+returns c = can_be c.args.name.now c.from.ensures c.from-2.ensures c.from-3.ensures

@@ -1,6 +1,8 @@
 -- What the code's answers tell, in the definitions' words: primitives, classes and fixed parts by their numbers.
 -- Assumes nothing.
 use Rattle.std.specs.Prelude.{◌≡◌, Bool, true, false, ◌||◌, List, [], ◌∷◌, ◌++◌, map, ℕ, ◌+◌, ◌<◌, length, get_or}
+use Rattle.std.specs.Prelude as std
+use Rattle.std.specs.Prelude.{Some, None}
 use Rattle.std.proofs.Math.Option.{Option, none, some}
 use Prim.Native.String.{String}
 use Rattle.std.proofs.lemmas.List.Edits.{sets}
@@ -138,11 +140,11 @@ abbrev pub PutPart : ℕ → ℕ → ℕ → List ℕ → List ℕ → Type 0
 PutPart k = PutSized (print_returned (fixed_part k))
 
 -- What the code says is printed of a type: its class is named n, and inner is its first kept argument as an element.
-abbrev pub printed_told : Text → Option Erased → Printed → Option Returned
-printed_told n inner (prints.Fixed k) = some (fixed_part k)
-printed_told n inner prints.ThroughArray = map_option (λ e. of_type (array_of e)) inner
-printed_told n inner prints.ClassItself = some (of_type (class n))
-printed_told n inner prints.Nothing = none
+abbrev pub printed_told : Text → Option Erased → std.Option Printed → Option Returned
+printed_told n inner (Some (prints.Fixed k)) = some (fixed_part k)
+printed_told n inner (Some prints.ThroughArray) = map_option (λ e. of_type (array_of e)) inner
+printed_told n inner (Some prints.ClassItself) = some (of_type (class n))
+printed_told n inner None = none
 
 -- The erasure of a type at its position, by its meaning.
 abbrev pub part_at : Position → Bool → Option Erased → erasure.Meaning → Option Returned
@@ -151,7 +153,7 @@ part_at Element nullable inner m = map_option of_type (erased_as (nullable || tr
 part_at Return nullable inner m = returned_as m (erased_as (nullable || false) inner m)
 
 -- The answer is right of a type with this meaning, whatever its name and its arguments.
-abbrev pub PrintsAs : answer.Meaning → Bool → Position → Printed → Type 0
+abbrev pub PrintsAs : answer.Meaning → Bool → Position → std.Option Printed → Type 0
 PrintsAs m nullable position r = (n : Text) (inner : Option Erased) → part_at position nullable inner (meaning_told n m) ≡ printed_told n inner r
 
 -- whether a primitive is boxed there

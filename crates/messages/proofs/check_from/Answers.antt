@@ -1,6 +1,6 @@
 use mathlib.Core.List.{[]}
 use native.Mathlib.Omega.{arith}
-use Rattle.messages.specs.declared.Checked.TheVariants as checked
+use Rattle.std.specs.Prelude.{Ok, Err}
 use Rattle.wire.proofs.WalkLaws.{field-inside, cut-end, cut-refused}
 use Rattle.messages.proofs.CheckLaws.{checked-field, skip-checked}
 use Rattle.messages.proofs.check_from.Goals as goal
@@ -12,7 +12,7 @@ pub returns-in_default : goal.returns-in_default
 returns-in_default c =
     let a = c.args in
     let l = c.loop-i in
-    l.invariant (checked.Refused c.error.result) (cut-refused a.base a.s.now l.i (c.field_at-step.ensures.inside (omega arith)) c.loop-i-test.true c.in_default.is (c.error.ensures _ c.in_default.is))
+    l.invariant (Err c.error.result) (cut-refused a.base a.s.now l.i (c.field_at-step.ensures.inside (omega arith)) c.loop-i-test.true c.in_default.is (c.error.ensures _ c.in_default.is))
 
 pub loop-i-smaller : goal.loop-i-smaller
 loop-i-smaller c =
@@ -31,4 +31,4 @@ pub returns : goal.returns
 returns c =
     let a = c.args in
     let l = c.loop-i in
-    l.invariant checked.Whole ([], cut-end a.base a.s.now l.i c.loop-i-test.false)
+    l.invariant (Ok tt) ([], cut-end a.base a.s.now l.i c.loop-i-test.false)

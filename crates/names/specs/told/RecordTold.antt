@@ -2,25 +2,25 @@
 -- Assumes nothing.
 use Rattle.std.specs.Prelude.{◌≡◌, List, ℕ, eqb, if◌then◌else◌}
 use Rattle.std.proofs.Math.Option.{Option, none, some}
+use Rattle.std.specs.declared.option.Option as rust
 use Rattle.foundation.specs.Choices.{if_some}
 use Rattle.foundation.specs.Results.{ok, ◌from◌}
 use Rattle.fields.specs.Fields.{Record-range, Record-predefined_index, Record-operation, Record-substring_index, Record-replace_char, Record-string}
 use Rattle.wire.specs.Wire.{Message, cut}
 use Rattle.messages.specs.told.Asked.{FoundTold, number_told, piece_told, PieceInside, index_told, number_in}
 use Rattle.wire.specs.declared.WireValue.{WireValue}
-use Rattle.messages.specs.declared.Found.{Found}
-use Rattle.messages.specs.declared.Found.TheVariants as found
 use Rattle.messages.specs.declared.repeated.Two.{Two}
 use Rattle.messages.specs.declared.repeated.Two.TheVariants.{Neither, One, Both}
 use Rattle.names.specs.Records.{record_of}
 use Rattle.names.specs.Records as definition
 use Rattle.names.specs.declared.records.Firsts.{Firsts}
 use Rattle.names.specs.declared.records.Record.{Record}
+use Rattle.std.specs.Prelude.{Some, None}
 
 -- the first occurrence of field k, after one more field
-abbrev pub first_seen : ℕ → Found → ℕ → WireValue → Found
-first_seen k (found.Value v) n w = found.Value v
-first_seen k found.Nothing n w = if eqb n k then found.Value w else found.Nothing
+abbrev pub first_seen : ℕ → rust.Option WireValue → ℕ → WireValue → rust.Option WireValue
+first_seen k (Some v) n w = Some v
+first_seen k None n w = if eqb n k then Some w else None
 
 unfoldable pub with_field : Firsts → ℕ → WireValue → Firsts
 with_field f n v = record {
@@ -41,7 +41,7 @@ pub record FirstsTold (base : ℕ) (s : List ℕ) (f : Firsts) : Type 0 where
   pub replaced : FoundTold base s Record-replace_char f.replaced
   pub string : FoundTold base s Record-string f.string
 
-abbrev pub operation_in : Found → ℕ
+abbrev pub operation_in : rust.Option WireValue → ℕ
 operation_in f = if_some (number_told (number_in f)) 0 λ n. n
 
 abbrev pub both_numbers : Two → Option (ℕ × ℕ)

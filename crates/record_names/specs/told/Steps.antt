@@ -2,12 +2,10 @@
 -- Assumes nothing.
 use Rattle.std.specs.Prelude.{◌≡◌, false, List, ℕ, ◌+◌, ◌^◌, ◌≤◌, ◌<◌, eqb, length, if◌then◌else◌}
 use Rattle.std.proofs.Math.Option.{Option, none, some}
+use Rattle.std.specs.declared.option.Option as rust
 use Rattle.foundation.specs.Choices.{if_some, map_option}
 use Rattle.foundation.specs.Texts.{Text}
 use Rattle.messages.specs.told.Asked.{piece_told, PieceInside, index_told}
-use Rattle.wire.specs.declared.Piece.{Piece}
-use Rattle.wire.specs.declared.Piece.TheVariants as piece
-use Rattle.messages.specs.declared.Indexed.{Indexed}
 use Rattle.characters.specs.Characters.{from_utf8}
 use Rattle.characters.specs.told.Places.{part_from}
 use Rattle.characters.specs.Splits.{substring_of}
@@ -18,9 +16,10 @@ use Rattle.names.specs.declared.records.Record.{Record}
 use Rattle.names.specs.declared.name.Name.{Name}
 use Rattle.record_names.specs.declared.Extent.{Extent}
 use Rattle.record_names.specs.declared.Extent.TheVariants as extent
-use Rattle.record_names.specs.declared.steps.Span.{Span}
 use Rattle.record_names.specs.declared.steps.Base.{Base}
 use Rattle.record_names.specs.declared.steps.Base.TheVariants as base
+use Rattle.std.specs.Prelude.{Some, None}
+use Rattle.foundation.specs.declared.Span.{Span}
 
 abbrev pub extent_of : List ℕ → Extent → Option (List ℕ)
 extent_of s (extent.Part start end) = some (part_from start end s)
@@ -36,9 +35,9 @@ pub record SubstringTold (s : List ℕ) (first last : ℕ) (r : Extent) : Type 0
   pub inside : ExtentInside s r
 
 -- a piece of a message that begins at `from` has places
-abbrev pub PieceFits : ℕ → Piece → Type 0
-PieceFits from (piece.Body start end) = (start ≤ end) × (from + end < 2 ^ 64)
-PieceFits from piece.Nothing = Unit {0}
+abbrev pub PieceFits : ℕ → rust.Option Span → Type 0
+PieceFits from (Some p) = (p.start ≤ p.end) × (from + p.end < 2 ^ 64)
+PieceFits from None = Unit {0}
 
 abbrev pub text_in : List ℕ → List ℕ → Base → Option Text
 text_in payload d2 (base.Part source start end) = source_text payload d2 (plain source start end)
@@ -50,7 +49,7 @@ OfBytes (base.Part source start end) = (0 < source) × (source ≤ 2)
 OfBytes base.Nothing = Unit {0}
 
 -- what a record's text is made of, whose message begins at `from`: its string or its predefined string
-pub record BaseTold (from : ℕ) (string : Piece) (index : Indexed) (r : Base) : Type 0 where
+pub record BaseTold (from : ℕ) (string : rust.Option Span) (index : rust.Option ℕ) (r : Base) : Type 0 where
   pub bytes : OfBytes r
   pub is : (payload d2 : List ℕ) (end : ℕ) → PieceInside (part_from from end payload) string
       → if_some (piece_told from (part_from from end payload) string) (if_some (index_told index) none predefined_text) (λ p. some (from_utf8 p.bytes))

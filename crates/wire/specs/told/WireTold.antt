@@ -1,6 +1,7 @@
 -- What the code's answers tell, in the definitions' words.
 -- Assumes nothing.
-use Rattle.std.specs.Prelude.{◌≡◌, List, [], ◌++◌, ℕ, ◌+◌, ◌-◌, ◌^◌, ◌≤◌, ◌<◌, length, take, drop}
+use Rattle.std.specs.Prelude.{◌≡◌, List, [], ◌++◌, ℕ, ◌+◌, ◌-◌, ◌^◌, ◌≤◌, ◌<◌, length, take, drop, Option, Some, None}
+use Rattle.foundation.specs.declared.Span.{Span}
 use Rattle.foundation.specs.Results.{Res, ok, refused, ◌>>=◌, Cause, varint_cut_short, past_its_message, field_too_large, forbidden_field, wire_type, oversized_varint, Part, ◌from◌, Got, got}
 use Rattle.wire.specs.Wire.{Value, varint, fixed, body, Field, field, read_groups, read_varint, read_delimited, read_field, Message, cut}
 use Rattle.wire.specs.Messages.{values}
@@ -13,10 +14,6 @@ use Rattle.wire.specs.declared.Groups.TheVariants as groups
 use Rattle.wire.specs.declared.ShortVarint.{ShortVarint}
 use Rattle.wire.specs.declared.WireValue.{WireValue}
 use Rattle.wire.specs.declared.WireValue.TheVariants as value
-use Rattle.wire.specs.declared.Number.{Number}
-use Rattle.wire.specs.declared.Number.TheVariants as number
-use Rattle.wire.specs.declared.Piece.{Piece}
-use Rattle.wire.specs.declared.Piece.TheVariants as piece
 use Rattle.wire.specs.declared.ValueStep.{ValueStep}
 use Rattle.wire.specs.declared.ValueStep.TheVariants as value_step
 use Rattle.wire.specs.declared.Delimited.{Delimited}
@@ -88,15 +85,15 @@ Inside s (value.Varint n) = Unit {0}
 Inside s (value.Fixed width n) = Unit {0}
 Inside s (value.Body start end) = (start ≤ end) × (end ≤ length s) × (0 < start)
 
-abbrev pub value_number : WireValue → Number
-value_number (value.Varint n) = number.Value n
-value_number (value.Fixed width n) = number.Nothing
-value_number (value.Body start end) = number.Nothing
+abbrev pub value_number : WireValue → Option ℕ
+value_number (value.Varint n) = Some n
+value_number (value.Fixed width n) = None
+value_number (value.Body start end) = None
 
-abbrev pub piece_of : WireValue → Piece
-piece_of (value.Varint n) = piece.Nothing
-piece_of (value.Fixed width n) = piece.Nothing
-piece_of (value.Body start end) = piece.Body start end
+abbrev pub piece_of : WireValue → Option Span
+piece_of (value.Varint n) = None
+piece_of (value.Fixed width n) = None
+piece_of (value.Body start end) = Some record { start = start; end = end }
 
 abbrev pub ValueTold : ℕ → List ℕ → Res (Got Value) → ValueStep → Type 0
 ValueTold base s r (value_step.Value v next) = (r ≡ got (value_of base s v) (rest_of base s next)) × Inside s v
