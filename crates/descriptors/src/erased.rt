@@ -8,9 +8,9 @@ ghost use Rattle.descriptors.specs.told.ErasedTold.{PrintedPut, TypePartTold};
 ghost use Rattle.descriptors.specs.told.DefaultsTold.{ErasedTold};
 ghost use Rattle.erasure.specs.declared.Meaning.TheVariants.{Other};
 
-use characters::{Character, utf16_at};
+use characters::utf16_at;
 use erasure::{Meaning, Position, Printed, meaning_of, printed_as, put_part};
-use names::name::{Name, change_of, character_of, is_there};
+use names::name::{Name, change_of, character_of, is_there, part_of};
 use names::stream::put_name;
 use schema::Tables;
 use schema::head::type_head;
@@ -44,11 +44,10 @@ fn may_be_listed(payload: &[u8], d2: &[u16], name: Name) -> bool
     if source != 3 {
         return true;
     }
-    let character = utf16_at(d2, name.start, name.end);
-    let Character::Read { code, next: _ } = character else {
+    let Some(character) = utf16_at(part_of(d2, name.start, name.end), 0) else {
         return true;
     };
-    character_of(change_of(name, true), code) == 0x6b
+    character_of(change_of(name, true), character.value) == 0x6b
 }
 
 // What a name, dots turned into slashes, means. No listed name is longer than 36 bytes.

@@ -3,8 +3,7 @@
 use mathlib.Core.Path.{◌≡◌, refl, ap, sym, ◌∙◌, subst}
 use mathlib.Core.Bool.{Bool, true, false}
 use mathlib.Core.List.{List, [], ◌∷◌}
-use mathlib.Core.Option.{Option, some}
-use Rattle.std.specs.declared.option.Option as rust
+use mathlib.Core.Option.{some}
 use Prim.Native.Nat.{ℕ, ◌+◌, ◌-◌, ◌%◌, ◌/◌, ◌≤◌, ◌<◌}
 use native.Mathlib.Nat.{zero-add}
 use native.Mathlib.Omega.{arith}
@@ -38,7 +37,7 @@ use Rattle.wire.specs.Wire.{
   cut,
 }
 use Rattle.wire.specs.Messages.{values, cut_option, message, bodies_of, cut_all, messages}
-use Rattle.wire.specs.told.WireTold.{wire_refused, rest_of, part_between, value_of, FieldTold, piece_of}
+use Rattle.wire.specs.told.WireTold.{rest_of, part_between, value_of, FieldTold, piece_of}
 use Rattle.messages.specs.told.Asked.{
   CheckedTold,
   FoundAt,
@@ -54,15 +53,15 @@ use Rattle.messages.specs.told.Asked.{
   NextIs,
   NextBodyTold,
 }
-use Rattle.std.specs.Prelude.{Some, None, Result, Ok, Err}
+use Rattle.std.specs.Prelude.{Option, Some, None, Result, Ok, Err}
 use Rattle.foundation.specs.declared.Span.{Span}
 use Rattle.wire.specs.declared.WireError.{WireError}
 use Rattle.wire.specs.declared.WireValue.{WireValue}
 use Rattle.wire.specs.declared.WireValue.TheVariants as wire
-use Rattle.wire.specs.declared.FieldStep.{FieldStep}
-use Rattle.wire.specs.declared.FieldStep.TheVariants as step
+use Rattle.wire.specs.declared.Field as code
+use Rattle.foundation.specs.declared.Read.{Read}
 use Rattle.wire.proofs.Later.{Later, gives_any, field-later}
-use Rattle.wire.proofs.WalkLaws.{whole, field_is, field-inside, Leads, leads-next, leads-never, leads-end, values-found, values-passed}
+use Rattle.wire.proofs.WalkLaws.{whole, field-inside, Leads, leads-next, leads-never, leads-end, values-found, values-passed}
 
 -- where a body ends the field ends
 abbrev Ends : Value → Part → Type 0
@@ -102,32 +101,40 @@ field_end p =
     let P : Got Field → Type 0 = λ g. Ends g.0.value g.1 in
     if_ind (Gives P) (is_field_number (a.0 / 8)) (λ t. gives-map P (field (a.0 / 8)) value (value-end p.at (a.0 % 8) a.1)) λ t. tt
 
-pub body_next : (base : ℕ) (s : List ℕ) (at : ℕ) {r : FieldStep} → FieldTold base s (read_field (rest_of base s at)) r
-    → {n a b : ℕ} (next : ℕ) → r ≡ step.Field n (wire.Body a b) next → b ≡ next
-body_next base s at e {n} {a} {b} next g =
-    let f = field_is base s at e g in
-    let ends = gives-ok (λ q. Ends q.0.value q.1) f.0 (field_end (rest_of base s at)) in
-    let fits : b - a ≤ length (drop a s) = rw length-drop (omega (arith, f.1.0, f.1.1)) in
-    let same : base + next ≡ base + a + (b - a) = ends ∙ ap (λ (n : ℕ). base + a + n) (length-take-le (b - a) (drop a s) fits) in
-    omega (arith, f.1.0)
+module _ (base : ℕ) (s : List ℕ) (at : ℕ) (x : Read code.Field) (e : FieldTold base s (read_field (rest_of base s at)) (Ok x)) {p : Span}
+    (g : x.value.value ≡ wire.Body p) where
+  -- the field, with its body
+  bodied : FieldTold base s (read_field (rest_of base s at)) (Ok (record { value = record { number = x.value.number; value = wire.Body p }; next = x.next }))
+  bodied =
+      subst
+      (λ (v : WireValue). FieldTold base s (read_field (rest_of base s at)) (Ok (record { value = record { number = x.value.number; value = v }; next = x.next })))
+      g
+      e
 
--- a body begins after the place where its field does
-body-later : (base : ℕ) (s : List ℕ) (at : ℕ) {r : FieldStep} → FieldTold base s (read_field (rest_of base s at)) r
-    → {n a b next : ℕ} → r ≡ step.Field n (wire.Body a b) next → at < a
-body-later base s at e g =
-    let h = gives-ok (λ q. Later (base + at) q.0.value) (field_is base s at e g).0 (field-later (rest_of base s at)) in
-    omega arith
+  pub body_next : p.end ≡ x.next
+  body_next =
+      let ends = gives-ok (λ q. Ends q.0.value q.1) bodied.0 (field_end (rest_of base s at)) in
+      let fits : p.end - p.start ≤ length (drop p.start s) = rw length-drop (omega (arith, bodied.1.0, bodied.1.1)) in
+      let same : base + x.next ≡ base + p.start + (p.end - p.start) = ends
+      ∙ ap (λ (n : ℕ). base + p.start + n) (length-take-le (p.end - p.start) (drop p.start s) fits) in
+      omega (arith, bodied.1.0)
+
+  -- a body begins after the place where its field does
+  body-later : at < p.start
+  body-later =
+      let h = gives-ok (λ q. Later (base + at) q.0.value) bodied.0 (field-later (rest_of base s at)) in
+      omega arith
 
 -- what the code makes of a field
-of-value : (v : WireValue) {p : Span} → piece_of v ≡ Some p → v ≡ wire.Body p.start p.end
+of-value : (v : WireValue) {p : Span} → piece_of v ≡ Some p → v ≡ wire.Body p
 of-value (wire.Varint n) e = cc
 of-value (wire.Fixed w n) e = cc
-of-value (wire.Body c d) {p} e = let q : ◌≡◌ {A = Span} record { start = c; end = d } p = cc in ap (λ (p : Span). wire.Body p.start p.end) q
+of-value (wire.Body x) {p} e = let q : x ≡ p = cc in ap wire.Body q
 
-piece-found : (k n : ℕ) (v : WireValue) {p : Span} → piece_if k n v ≡ Some p → (n ≡ k) × (v ≡ wire.Body p.start p.end)
+piece-found : (k n : ℕ) (v : WireValue) {p : Span} → piece_if k n v ≡ Some p → (n ≡ k) × (v ≡ wire.Body p)
 piece-found k n v {p} = go (eqb n k) refl
   where
-    go : (t : Bool) → eqb n k ≡ t → (if t then piece_of v else None) ≡ Some p → (n ≡ k) × (v ≡ wire.Body p.start p.end)
+    go : (t : Bool) → eqb n k ≡ t → (if t then piece_of v else None) ≡ Some p → (n ≡ k) × (v ≡ wire.Body p)
     go true t e = (eqb-true n k t, of-value v e)
     go false t e = let z : ◌≡◌ {A = ℕ} 0 1 = cc in absurd (omega arith)
 
@@ -140,7 +147,7 @@ no_body : (base : ℕ) (s : List ℕ) (v : WireValue) (vs : List Value) → piec
 unfolding bodies_of
 no_body base s (wire.Varint n) vs e = refl
 no_body base s (wire.Fixed w n) vs e = refl
-no_body base s (wire.Body a b) vs e = let z : ◌≡◌ {A = ℕ} 0 1 = cc in absurd (omega arith)
+no_body base s (wire.Body x) vs e = let z : ◌≡◌ {A = ℕ} 0 1 = cc in absurd (omega arith)
 
 bodies-passed : (base : ℕ) (s : List ℕ) (k n : ℕ) (v : WireValue) (rest : Message) → piece_if k n v ≡ None
     → bodies k (field n (value_of base s v) ∷ rest) ≡ bodies k rest
@@ -164,52 +171,54 @@ module _ (k base : ℕ) (s : List ℕ) (at : ℕ) where
     unfolding bodies_of values
     bodies-end h = record { is = leads-end (λ m rest. bodies k m ≡ bodies k rest) (rest_of base s at) base s i o h; inside = tt; later = tt; begins = tt }
 
-    module _ {r : FieldStep} (e : FieldTold base s (read_field (rest_of base s i)) r) (h : i < length s) where
-      pub bodies-never : {error : WireError} → r ≡ step.Refused error → NextBodyTold base s k at None
-      bodies-never g = record {
-        is = λ m w. leads-never (rest_of base s at) base s i e h (λ m rest. bodies k m ≡ bodies k rest) o g m w;
+    module _ (error : WireError) (e : FieldTold base s (read_field (rest_of base s i)) (Err error)) (h : i < length s) where
+      pub bodies-never : NextBodyTold base s k at None
+      bodies-never = record {
+        is = λ m w. leads-never (rest_of base s at) base s i error e h (λ m rest. bodies k m ≡ bodies k rest) o m w;
         inside = tt;
         later = tt;
         begins = tt;
       }
 
-      module _ {n : ℕ} {v : WireValue} (next : ℕ) (g : r ≡ step.Field n v next) {x : rust.Option Span} (q : x ≡ piece_if k n v) where
-        pub bodies-on : x ≡ None → Bodies k base s at next
-        bodies-on z =
-            leads-next (rest_of base s at) base s i e h (λ m rest. bodies k m ≡ bodies k rest) (λ m rest. bodies k m ≡ bodies k rest) o next g
-            λ m rest c. c ∙ bodies-passed base s k n v rest (sym q ∙ z)
+    module _ (x : Read code.Field) (e : FieldTold base s (read_field (rest_of base s i)) (Ok x)) (h : i < length s) {r : Option Span}
+        (q : r ≡ piece_if k x.value.number x.value.value) where
+      pub bodies-on : r ≡ None → Bodies k base s at x.next
+      bodies-on z =
+          leads-next (rest_of base s at) base s i x e h (λ m rest. bodies k m ≡ bodies k rest) (λ m rest. bodies k m ≡ bodies k rest) o
+          λ m rest c. c ∙ bodies-passed base s k x.value.number x.value.value rest (sym q ∙ z)
 
-        pub bodies-here : {p : Span} → at ≤ i → x ≡ Some p → NextBodyTold base s k at (Some p)
-        bodies-here {p} l z =
-            let f = piece-found k n v (sym q ∙ z) in
-            let g' : r ≡ step.Field n (wire.Body p.start p.end) next = g ∙ ap (λ (u : WireValue). step.Field n u next) f.1 in
-            let last = body_next base s i e next g' in
-            let to = field-inside base s i e (omega arith) g in
-            let R : Message → Message → Type 0 = λ m rest. bodies k m ≡ bodies k rest in
-            let S : Message → Message → Type 0 = λ m rest. bodies k m ≡ part_between base s p.start p.end ∷ bodies k rest in
-            let on = leads-next (rest_of base s at) base s i e h R S o next g' λ m rest c. c ∙ bodies-found k (part_between base s p.start p.end) rest f.0 in
-            record {
-              is = subst (λ (u : ℕ). Leads S (rest_of base s at) (rest_of base s u)) (sym last) on;
-              inside = (field_is base s i e g').1;
-              later = omega arith;
-              begins = omega (arith, body-later base s i e g');
-            }
+      pub bodies-here : {p : Span} → at ≤ i → r ≡ Some p → NextBodyTold base s k at (Some p)
+      bodies-here {p} l z =
+          let f = piece-found k x.value.number x.value.value (sym q ∙ z) in
+          let last = body_next base s i x e f.1 in
+          let to = field-inside base s i x e (omega arith) in
+          let R : Message → Message → Type 0 = λ m rest. bodies k m ≡ bodies k rest in
+          let S : Message → Message → Type 0 = λ m rest. bodies k m ≡ part_between base s p.start p.end ∷ bodies k rest in
+          let on = leads-next (rest_of base s at) base s i x e h R S o λ m rest c.
+          c ∙ ap (λ (v : WireValue). bodies k (field x.value.number (value_of base s v) ∷ rest)) f.1
+          ∙ bodies-found k (part_between base s p.start p.end) rest f.0 in
+          record {
+            is = subst (λ (u : ℕ). Leads S (rest_of base s at) (rest_of base s u)) (sym last) on;
+            inside = (bodied base s i x e f.1).1;
+            later = omega arith;
+            begins = omega (arith, body-later base s i x e f.1);
+          }
 
 -- of a piece by the places asked from
-next_is : (k base : ℕ) (s : List ℕ) (m rest : Message) → bodies k m ≡ bodies k rest → (r : rust.Option Span) → NextIs base s k rest r → NextIs base s k m r
+next_is : (k base : ℕ) (s : List ℕ) (m rest : Message) → bodies k m ≡ bodies k rest → (r : Option Span) → NextIs base s k rest r → NextIs base s k m r
 next_is k base s m rest e (Some p) n = (n.0, n.1, e ∙ n.2)
 next_is k base s m rest e None n = e ∙ n
 
-after_earlier : (at i : ℕ) → at ≤ i → (r : rust.Option Span) → PieceAfter i r → PieceAfter at r
+after_earlier : (at i : ℕ) → at ≤ i → (r : Option Span) → PieceAfter i r → PieceAfter at r
 after_earlier at i h (Some q) p = omega arith
 after_earlier at i h None p = tt
 
-begins_earlier : (at i : ℕ) → at ≤ i → (r : rust.Option Span) → PieceBegins i r → PieceBegins at r
+begins_earlier : (at i : ℕ) → at ≤ i → (r : Option Span) → PieceBegins i r → PieceBegins at r
 begins_earlier at i h (Some q) p = omega arith
 begins_earlier at i h None p = tt
 
 module _ (k base : ℕ) (s : List ℕ) where
-  pub next-on : (at i : ℕ) → at ≤ i → Bodies k base s at i → {r : rust.Option Span} → NextBodyTold base s k i r → NextBodyTold base s k at r
+  pub next-on : (at i : ℕ) → at ≤ i → Bodies k base s at i → {r : Option Span} → NextBodyTold base s k i r → NextBodyTold base s k at r
   next-on at i h o {r} t = record {
     is = λ m w. next_is k base s m (o m w).0 (o m w).2 r (t.is (o m w).0 (o m w).1);
     inside = t.inside;
@@ -218,10 +227,12 @@ module _ (k base : ℕ) (s : List ℕ) where
   }
 
   -- the piece in what was found at the place
-  pub next_here : (i : ℕ) (f : rust.Option WireValue) → FoundAt s k i f → {x : rust.Option Span} {p : Span} → x ≡ piece_in f → x ≡ Some p → NextBodyTold base s k i (Some p)
-  next_here i (Some v) (h, next, e) q z =
-      bodies-here k base s i i (bodies-start k base s i) {r = step.Field k v next} (e base) h {n = k} {v = v} next refl
-      (q ∙ ap (λ (t : Bool). if t then piece_of v else None) (sym (eq-eqb k k refl))) (omega arith) z
+  pub next_here : (i : ℕ) (f : Option WireValue) → FoundAt s k i f → {x : Option Span} {p : Span} → x ≡ piece_in f → x ≡ Some p → NextBodyTold base s k i (Some p)
+  next_here i (Some v) (y, f, n, e) q z =
+      let here : eqb y.value.number k ≡ true = eq-eqb y.value.number k n in
+      let is : piece_of v ≡ piece_if k y.value.number y.value.value = ap piece_of (sym e)
+      ∙ ap (λ (t : Bool). if t then piece_of y.value.value else None) (sym here) in
+      bodies-here k base s i i (bodies-start k base s i) y (f.is base) (omega (arith, f.later, f.inside)) (q ∙ is) (omega arith) z
   next_here i None t q z = let z : ◌≡◌ {A = ℕ} 0 1 = cc in absurd (omega arith)
 
 -- a part of a slice from its start to an end, from a place on
@@ -263,8 +274,8 @@ module _ (k base : ℕ) (s : List ℕ) where
     unfolding values bodies_of cut_all
     cutting-end h m w = leads-end _ (◌from◌ base s) base s at o h m w (Ok tt) ([], refl)
 
-    module _ {x : rust.Option Span} (t : NextBodyTold base s k at x) where
-      here : {y : rust.Option Span} → x ≡ y → (m : Message) → cut (rest_of base s at) ≡ ok m → NextIs base s k m y
+    module _ {x : Option Span} (t : NextBodyTold base s k at x) where
+      here : {y : Option Span} → x ≡ y → (m : Message) → cut (rest_of base s at) ≡ ok m → NextIs base s k m y
       here g m w = subst (NextIs base s k m) g (t.is m w)
 
       pub piece-in : {p : Span} → x ≡ Some p → (p.start ≤ p.end) × (p.end ≤ length s) × (0 < p.start) × (at < p.end)
@@ -291,7 +302,7 @@ module _ (k base : ℕ) (s : List ℕ) where
             (n.0, n.1, λ c h. l.2 c (subst (λ (ps : List Part). CheckedTold (cut_all ps) c) (sym n.2) (cut-one (part_between base s p.start p.end) (bodies k n.0) c inner.1 h)))
 
 -- the message in a field
-module _ (k base : ℕ) (s : List ℕ) {x : rust.Option Span} (t : BytesTold base s k x) where
+module _ (k base : ℕ) (s : List ℕ) {x : Option Span} (t : BytesTold base s k x) where
   pub message_none : x ≡ None → EmbeddedTold base s k (Ok None)
   unfolding message
   message_none g = record { is = λ m w. ap cut_option (t.is m w ∙ ap (piece_told base s) g); inside = tt }

@@ -21,9 +21,10 @@ use Rattle.foundation.specs.declared.Span.{Span}
 use Rattle.wire.specs.declared.WireError.{WireError}
 use Rattle.wire.specs.declared.WireValue.{WireValue}
 use Rattle.wire.specs.declared.WireValue.TheVariants as wire
-use Rattle.wire.specs.declared.FieldStep.{FieldStep}
-use Rattle.wire.specs.declared.FieldStep.TheVariants as step
-use Rattle.wire.proofs.WalkLaws.{whole, field_is, Leads, leads-next, leads-never, leads-end, values-found, values-passed}
+use Rattle.wire.specs.declared.Field as code
+use Rattle.foundation.specs.declared.Read.{Read}
+use Rattle.std.specs.Prelude.{Ok, Err}
+use Rattle.wire.proofs.WalkLaws.{whole, Leads, leads-next, leads-never, leads-end, values-found, values-passed}
 
 -- from a place on the occurrences of field k are those from the place `start` on
 abbrev pub Occur : ℕ → ℕ → List ℕ → ℕ → ℕ → Type 0
@@ -44,22 +45,24 @@ module _ (k base : ℕ) (s : List ℕ) (start : ℕ) where
     pub find-on : {r : rust.Option WireValue} → FoundFrom base s k at r → FoundFrom base s k start r
     find-on t = record { is = λ m w. ap first_of (o m w).2 ∙ t.is (o m w).0 (o m w).1; inside = t.inside }
 
-    module _ {r : FieldStep} (e : FieldTold base s (read_field (rest_of base s at)) r) (h : at < length s) where
-      pub find-never : {error : WireError} → r ≡ step.Refused error → FoundFrom base s k start None
+    module _ (error : WireError) (e : FieldTold base s (read_field (rest_of base s at)) (Err error)) (h : at < length s) where
+      pub find-never : FoundFrom base s k start None
       unfolding Same
-      find-never g = record { is = λ m w. leads-never (rest_of base s start) base s at e h Same o g m w; inside = tt }
+      find-never = record { is = λ m w. leads-never (rest_of base s start) base s at error e h Same o m w; inside = tt }
 
-      pub find-found : {n : ℕ} {v : WireValue} {next : ℕ} → r ≡ step.Field n v next → n ≡ k → FoundFrom base s k start (Some v)
+    module _ (x : Read code.Field) (e : FieldTold base s (read_field (rest_of base s at)) (Ok x)) (h : at < length s) where
+      pub find-found : x.value.number ≡ k → FoundFrom base s k start (Some x.value.value)
       unfolding Same
-      find-found {n} {v} {next} g q =
-          let Here : Message → Message → Type 0 = λ m rest. values k m ≡ value_of base s v ∷ values k rest in
-          let l = leads-next (rest_of base s start) base s at e h Same Here o next g λ m rest c. c ∙ values-found k (value_of base s v) rest q in
-          record { is = λ m w. ap first_of (l m w).2; inside = (field_is base s at e g).1 }
+      find-found q =
+          let v = value_of base s x.value.value in
+          let Here : Message → Message → Type 0 = λ m rest. values k m ≡ v ∷ values k rest in
+          let l = leads-next (rest_of base s start) base s at x e h Same Here o λ m rest c. c ∙ values-found k v rest q in
+          record { is = λ m w. ap first_of (l m w).2; inside = e.1 }
 
-      pub find-passed : {n : ℕ} {v : WireValue} (next : ℕ) → r ≡ step.Field n v next → (n ≡ k → ⊥) → Occur k base s start next
+      pub find-passed : (x.value.number ≡ k → ⊥) → Occur k base s start x.next
       unfolding Same
-      find-passed {n} {v} next g q =
-          leads-next (rest_of base s start) base s at e h Same Same o next g λ m rest c. c ∙ values-passed k (value_of base s v) rest q
+      find-passed q =
+          leads-next (rest_of base s start) base s at x e h Same Same o λ m rest c. c ∙ values-passed k (value_of base s x.value.value) rest q
 
   pub find_none : length s ≤ start → FoundFrom base s k start None
   find_none = find-end start find-start
@@ -67,7 +70,8 @@ module _ (k base : ℕ) (s : List ℕ) (start : ℕ) where
   pub find-here : {r : rust.Option WireValue} → FoundAt s k start r → {v : WireValue} → r ≡ Some v → FoundFrom base s k start (Some v)
   find-here t {v} g =
       let f : FoundAt s k start (Some v) = subst (FoundAt s k start) g t in
-      find-found start find-start {r = step.Field k v f.1} (f.2 base) f.0 {n = k} {v = v} {next = f.1} refl refl
+      let here = find-found start find-start f.0 (f.1.is base) (omega (arith, f.1.later, f.1.inside)) f.2 in
+      subst (λ (v : WireValue). FoundFrom base s k start (Some v)) f.3 here
 
   pub find-whole : {r : rust.Option WireValue} → start ≡ 0 → FoundFrom base s k start r → FoundTold base s k r
   find-whole z t = record {
@@ -91,17 +95,17 @@ found_inside k base s t g = subst (FoundInside s) g t.inside
 pub as_number : (base : ℕ) (s : List ℕ) (v : WireValue) → as_varint (value_of base s v) ≡ number_told (value_number v)
 as_number base s (wire.Varint n) = refl
 as_number base s (wire.Fixed w n) = refl
-as_number base s (wire.Body a e) = refl
+as_number base s (wire.Body x) = refl
 
 pub as_piece : (base : ℕ) (s : List ℕ) (v : WireValue) → as_body (value_of base s v) ≡ piece_told base s (piece_of v)
 as_piece base s (wire.Varint n) = refl
 as_piece base s (wire.Fixed w n) = refl
-as_piece base s (wire.Body a e) = refl
+as_piece base s (wire.Body x) = refl
 
 pub piece_inside : (s : List ℕ) (v : WireValue) → Inside s v → PieceInside s (piece_of v)
 piece_inside s (wire.Varint n) h = tt
 piece_inside s (wire.Fixed w n) h = tt
-piece_inside s (wire.Body a e) h = h
+piece_inside s (wire.Body x) h = h
 
 module _ (k base : ℕ) (s : List ℕ) {r : rust.Option WireValue} (t : FoundTold base s k r) {v : WireValue} (g : r ≡ Some v) where
   pub varint-found : {x : rust.Option ℕ} → x ≡ value_number v → (m : Message) → cut (◌from◌ base s) ≡ ok m → varint_of k m ≡ number_told x

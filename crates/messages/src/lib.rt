@@ -2,7 +2,7 @@
 // where the slice can be cut, and is safe on any. The definitions: wire's specs/Messages.antt; how the answers tell them: specs/told/Asked.antt.
 #![tactic(auto)]
 
-ghost use Rattle.std.specs.Prelude.{◌≡◌, ◌≤◌, length};
+ghost use Rattle.std.specs.Prelude.{◌≡◌, ℕ, ◌≤◌, ◌<◌, length, get_or, None};
 ghost use Rattle.foundation.specs.Results.{ok, ◌from◌};
 ghost use Rattle.wire.specs.Wire.{cut, Message};
 ghost use Rattle.wire.specs.Messages.{varint_of, index, messages};
@@ -13,7 +13,7 @@ pub mod repeated; // repeated.rt: repeated numbers, single and packed
 pub mod reader; // reader.rt: a reader over a message
 
 use foundation::Span;
-use wire::{FieldStep, WireError, WireValue, field_at, short_varint, skip_fields, skip_two};
+use wire::{Field, WireError, WireValue, field_at, short_field, skip_fields, skip_two};
 
 // No field whose tag has one or two bytes has this number.
 const NO_NUMBER: u32 = u32::MAX;
@@ -24,16 +24,8 @@ pub fn check_from(s: &[u8], base: u32, at: usize) -> Result<(), WireError>
 {
     let mut i = skip_fields(s, NO_NUMBER, at);
     while i < s.len() {
-        let step = field_at(s, base, i);
-        let FieldStep::Field {
-            number: _,
-            value: _,
-            next,
-        } = step
-        else {
-            return Err(step.error());
-        };
-        i = skip_fields(s, NO_NUMBER, next);
+        let read = field_at(s, base, i)?;
+        i = skip_fields(s, NO_NUMBER, read.next);
     }
     Ok(())
 }
@@ -57,40 +49,15 @@ fn check_part(s: &[u8], base: u32, part: Span) -> Result<(), WireError>
     }
 }
 
-// The value of the field at a place, if it has the number `number`, and its tag and the varint after it have one or two bytes each. A tag below
-// 8 is field 0, which is forbidden.
+// The value of the field at a place, if it is a short field with the number `number`.
 fn short_found(s: &[u8], number: u32, at: usize) -> Option<WireValue>
     ensures { FoundAt s.now number at result }
 {
-    let tag = short_varint(s, at);
-    if tag.size == 0 {
+    let field = short_field(s, at)?.value;
+    if field.number != number {
         return None;
     }
-    if tag.value < 8 {
-        return None;
-    }
-    if tag.value / 8 != number as u64 {
-        return None;
-    }
-    let next = at + tag.size;
-    let first = short_varint(s, next);
-    if first.size == 0 {
-        return None;
-    }
-    let start = next + first.size;
-    let kind = tag.value % 8;
-    if kind == 0 {
-        return Some(WireValue::Varint { value: first.value });
-    }
-    if kind != 2 {
-        return None;
-    }
-    let left = (s.len() - start) as u64;
-    if left < first.value {
-        return None;
-    }
-    let end = start + first.value as usize;
-    Some(WireValue::Body { start, end })
+    Some(field.value)
 }
 
 // The first occurrence of a field from a place on, field by field.
@@ -99,19 +66,13 @@ fn long_find(s: &[u8], base: u32, number: u32, at: usize) -> Option<WireValue>
 {
     let mut i = at;
     while i < s.len() {
-        let step = field_at(s, base, i);
-        let FieldStep::Field {
-            number: n,
-            value,
-            next,
-        } = step
-        else {
+        let Ok(read) = field_at(s, base, i) else {
             return None;
         };
-        if n == number {
-            return Some(value);
+        if read.value.number == number {
+            return Some(read.value.value);
         }
-        i = skip_fields(s, number, next);
+        i = skip_fields(s, number, read.next);
     }
     None
 }
@@ -172,54 +133,45 @@ pub fn find_two(s: &[u8], base: u32, first: u32, second: u32) -> TwoFound
     }
 }
 
-#[derive(Clone, Copy)]
-pub struct ThreeFound {
-    pub first: Option<WireValue>,
-    pub second: Option<WireValue>,
-    pub third: Option<WireValue>,
-}
-
 // What was found of a field before a place, if it was found, and else its value, if the field at the place is the one that is asked for.
-fn found_or(seen: Option<WireValue>, asked: u32, number: u32, value: WireValue) -> Option<WireValue>
-    ensures { result ≡ found_or seen asked number value }
+fn found_or(seen: Option<WireValue>, asked: u32, field: Field) -> Option<WireValue>
+    ensures { result ≡ found_or seen asked field.number field.value }
 {
-    if seen.is_some() {
+    if seen.is_some() || field.number != asked {
         return seen;
     }
-    if number != asked {
-        return None;
-    }
-    Some(value)
+    Some(field.value)
 }
 
-// The first occurrences of three fields, by one walk.
-pub fn find_three(s: &[u8], base: u32, first: u32, second: u32, third: u32) -> ThreeFound
-    ensures { FoundTold base s.now first result.first × FoundTold base s.now second result.second × FoundTold base s.now third result.third }
+// The same of several fields that are asked for.
+fn each_found_or<const N: usize>(
+    seen: [Option<WireValue>; N],
+    numbers: [u32; N],
+    field: Field,
+) -> [Option<WireValue>; N]
+    ensures { (i : ℕ) → i < N → get_or result i None ≡ found_or (get_or seen.entry i None) (get_or numbers.entry i 0) field.number field.value }
 {
-    let mut one = None;
-    let mut two = None;
-    let mut three = None;
+    let mut found = seen;
+    for i in 0..N {
+        found[i] = found_or(seen[i], numbers[i], field);
+    }
+    found
+}
+
+// The first occurrences of several fields, by one walk.
+pub fn find_each<const N: usize>(s: &[u8], base: u32, numbers: [u32; N]) -> [Option<WireValue>; N]
+    ensures { (i : ℕ) → i < N → FoundTold base s.now (get_or numbers.entry i 0) (get_or result i None) }
+{
+    let mut found = [None; N];
     let mut at = 0;
     while at < s.len() {
-        let step = field_at(s, base, at);
-        let FieldStep::Field {
-            number,
-            value,
-            next,
-        } = step
-        else {
+        let Ok(read) = field_at(s, base, at) else {
             break;
         };
-        one = found_or(one, first, number, value);
-        two = found_or(two, second, number, value);
-        three = found_or(three, third, number, value);
-        at = next;
+        found = each_found_or(found, numbers, read.value);
+        at = read.next;
     }
-    ThreeFound {
-        first: one,
-        second: two,
-        third: three,
-    }
+    found
 }
 
 // What was found, as a number.
@@ -274,13 +226,13 @@ pub fn message(s: &[u8], base: u32, number: u32) -> Result<Option<Span>, WireErr
 }
 
 // The body of a field, if its number is the one that is asked for.
-fn body_of(asked: u32, number: u32, value: WireValue) -> Option<Span>
-    ensures { result ≡ piece_if asked number value }
+fn body_of(asked: u32, field: Field) -> Option<Span>
+    ensures { result ≡ piece_if asked field.number field.value }
 {
-    if number != asked {
+    if field.number != asked {
         return None;
     }
-    value.bytes()
+    field.value.bytes()
 }
 
 // The next length-delimited occurrence of a field from a place on, field by field.
@@ -289,19 +241,13 @@ fn long_next_body(s: &[u8], base: u32, number: u32, at: usize) -> Option<Span>
 {
     let mut i = at;
     while i < s.len() {
-        let step = field_at(s, base, i);
-        let FieldStep::Field {
-            number: n,
-            value,
-            next,
-        } = step
-        else {
+        let Ok(read) = field_at(s, base, i) else {
             return None;
         };
-        if let Some(body) = body_of(number, n, value) {
+        if let Some(body) = body_of(number, read.value) {
             return Some(body);
         }
-        i = skip_fields(s, number, next);
+        i = skip_fields(s, number, read.next);
     }
     None
 }

@@ -7,7 +7,7 @@ ghost use Rattle.wire.specs.told.WireTold.{rest_of, value_of, Inside};
 ghost use Rattle.messages.specs.told.Asked.{CheckedTold};
 ghost use Rattle.messages.specs.told.Repeated.{pushed, pushed_to, first_two_of, two_told};
 
-use wire::{FieldStep, Varint, WireError, WireValue, field_at, varint_at};
+use wire::{WireError, WireValue, field_at, varint_at};
 
 // The first two numbers of a list, mod 2^32, as far as it has them.
 #[derive(Clone, Copy)]
@@ -35,12 +35,9 @@ fn push_packed(s: &[u8], base: u32, at: usize, two: Two) -> Result<Two, WireErro
     let mut i = at;
     let mut have = two;
     while i < s.len() {
-        let step = varint_at(s, base, i);
-        let Varint::Read { value, next } = step else {
-            return Err(step.error());
-        };
-        have = push(have, value);
-        i = next;
+        let read = varint_at(s, base, i)?;
+        have = push(have, read.value);
+        i = read.next;
     }
     Ok(have)
 }
@@ -50,12 +47,12 @@ fn push_value(s: &[u8], base: u32, value: WireValue, two: Two) -> Result<Two, Wi
     ensures { pushed_to two (varints_in (value_of base s.now value)) ≡ two_told result }
 {
     match value {
-        WireValue::Varint { value: number } => Ok(push(two, number)),
+        WireValue::Varint(number) => Ok(push(two, number)),
         WireValue::Fixed {
             width: _,
             number: _,
         } => Ok(two),
-        WireValue::Body { start, end } => push_packed(&s[..end], base, start, two),
+        WireValue::Body(body) => push_packed(&s[..body.end], base, body.start, two),
     }
 }
 
@@ -66,18 +63,12 @@ pub fn first_two(s: &[u8], base: u32, number: u32) -> Result<Two, WireError>
     let mut at = 0;
     let mut two = Two::Neither;
     while at < s.len() {
-        let step = field_at(s, base, at);
-        let FieldStep::Field {
-            number: n,
-            value,
-            next,
-        } = step
-        else {
+        let Ok(read) = field_at(s, base, at) else {
             return Ok(two);
         };
-        at = next;
-        if n == number {
-            two = push_value(s, base, value, two)?;
+        at = read.next;
+        if read.value.number == number {
+            two = push_value(s, base, read.value.value, two)?;
         }
     }
     Ok(two)

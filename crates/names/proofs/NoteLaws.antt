@@ -22,10 +22,10 @@ use Rattle.messages.proofs.BodyLaws.{checked_at}
 use Rattle.characters.specs.told.Places.{part_from}
 use Rattle.names.specs.Records.{Record, record_of, served}
 use Rattle.names.specs.Names.{records_of}
-use Rattle.names.specs.told.Index.{sums_from, ranges_of, packed_places, start_of, end_of, served_from, Sums, RecordAt, IndexOf, NotedTold, IndexTold}
-use Rattle.names.specs.declared.records.RecordIndex.{RecordIndex}
-use Rattle.names.specs.declared.records.RecordIndex.TheVariants.{Records, NoRoom, Refused}
+use Rattle.names.specs.told.Index.{sums_from, ranges_of, packed_places, start_of, end_of, served_from, Sums, RecordAt, IndexOf, RecordIndex, NotedTold, IndexTold}
 use Rattle.std.specs.Prelude.{Option, Some, None, Result, Ok, Err}
+use Rattle.names.specs.declared.records.IndexError.{IndexError}
+use Rattle.names.specs.declared.records.IndexError.TheVariants.{NoRoom, Wire}
 use Rattle.foundation.specs.declared.Span.{Span}
 
 -- One more at the end of a list.
@@ -221,13 +221,13 @@ noting_start bytes at notes m w = record {
 module _ (bytes : List ℕ) (start : ℕ) (notes : List ℕ) (total count at : ℕ) (i : Noting bytes start notes total count at) where
   -- none is left
   noting-done : (m : Message) (w : cut (rest_of 0 bytes start) ≡ ok m) → bodies StringTableTypes-record (i m w).rest ≡ []
-      → NotedTold bytes start m notes (Records count)
+      → NotedTold bytes start m notes (Ok count)
   unfolding cut_all
   noting-done m w e =
       let n = i m w in
       (n.before, n.whole ∙ rw e (ap ok (append-nil n.before)), n.noted)
 
-  pub noting-end : length bytes ≤ at → (m : Message) → cut (rest_of 0 bytes start) ≡ ok m → NotedTold bytes start m notes (Records count)
+  pub noting-end : length bytes ≤ at → (m : Message) → cut (rest_of 0 bytes start) ≡ ok m → NotedTold bytes start m notes (Ok count)
   unfolding values bodies_of
   noting-end h m w =
       let n = i m w in
@@ -235,7 +235,7 @@ module _ (bytes : List ℕ) (start : ℕ) (notes : List ℕ) (total count at : �
       noting-done m w (ap (λ (r : Message). bodies StringTableTypes-record r) e)
 
   module _ {r : Option Span} (t : NextBodyTold 0 bytes StringTableTypes-record at r) where
-    pub noting-none : r ≡ None → (m : Message) → cut (rest_of 0 bytes start) ≡ ok m → NotedTold bytes start m notes (Records count)
+    pub noting-none : r ≡ None → (m : Message) → cut (rest_of 0 bytes start) ≡ ok m → NotedTold bytes start m notes (Ok count)
     noting-none g m w = let n = i m w in noting-done m w ((subst (NextBodyTold 0 bytes StringTableTypes-record at) g t).is n.rest n.cuts)
 
     module _ {part : Span} (g : r ≡ Some part) where
@@ -246,7 +246,7 @@ module _ (bytes : List ℕ) (start : ℕ) (notes : List ℕ) (total count at : �
       body-in = (next.inside.0, next.inside.1, next.later)
 
       pub noting-refused : {c : Result Unit WireError} → CheckedTold (cut (◌from◌ part.start (part_from part.start part.end bytes))) c → {error : WireError} → c ≡ Err error
-          → (m : Message) → cut (rest_of 0 bytes start) ≡ ok m → NotedTold bytes start m notes (Refused error)
+          → (m : Message) → cut (rest_of 0 bytes start) ≡ ok m → NotedTold bytes start m notes (Err (Wire error))
       noting-refused {c} k {error} q m w =
           let n = i m w in
           let b = next.is n.rest n.cuts in
@@ -257,7 +257,7 @@ module _ (bytes : List ℕ) (start : ℕ) (notes : List ℕ) (total count at : �
           ∙ after-refused n.before (part_between 0 bytes part.start part.end) (bodies StringTableTypes-record b.0) error f
 
       pub noting-full : {room : ℕ} → room ≡ length notes / 3 → room ≤ count
-          → (m : Message) → cut (rest_of 0 bytes start) ≡ ok m → NotedTold bytes start m notes NoRoom
+          → (m : Message) → cut (rest_of 0 bytes start) ≡ ok m → NotedTold bytes start m notes (Err NoRoom)
       noting-full h l m w room =
           let n = i m w in
           let b = next.is n.rest n.cuts in
@@ -310,27 +310,29 @@ module _ (bytes : List ℕ) (start : ℕ) (m : Message) (w : cut (rest_of 0 byte
       let e : part_from start (length bytes) bytes ≡ drop start bytes = take_all (length bytes - start) (drop start bytes) (rw length-drop (le_refl (length bytes - start))) in
       ap (λ (bs : List ℕ). cut (◌from◌ start bs)) e ∙ ap (λ (n : ℕ). cut (◌from◌ n (drop start bytes))) (sym (zero-add start)) ∙ w
 
-  module _ {count : ℕ} (g : r ≡ Records count) where
-    noted : NotedTold bytes start m notes (Records count)
+  module _ {count : ℕ} (g : r ≡ Ok count) where
+    noted : NotedTold bytes start m notes (Ok count)
     noted = subst (NotedTold bytes start m notes) g t
 
     module _ (c : Result Unit WireError) (k : (m : Message) → cut (◌from◌ start (part_from start (length bytes) bytes)) ≡ ok m → CheckedTold (varints StringTableTypes-local_name m) c) where
-      pub index-whole : c ≡ Ok tt → IndexTold bytes start m notes (Records count)
+      pub index-whole : c ≡ Ok tt → IndexTold bytes start m notes (Ok count)
       unfolding records_of
       index-whole q =
           let l = subst (CheckedTold (varints StringTableTypes-local_name m)) q (k m from_start) in
           (map record_of noted.0, rw (noted.1, l.1), noted.2)
 
-      pub index-locals : {error : WireError} → c ≡ Err error → IndexTold bytes start m notes (Refused error)
+      pub index-locals : {error : WireError} → c ≡ Err error → IndexTold bytes start m notes (Err (Wire error))
       unfolding records_of
       index-locals {error} q =
           let l : varints StringTableTypes-local_name m ≡ wire_refused error = subst (CheckedTold (varints StringTableTypes-local_name m)) q (k m from_start) in
           rw (noted.1, l)
 
 -- Where not all records are noted, that is the answer.
-pub index_stopped : (bytes : List ℕ) (start : ℕ) (m : Message) (notes : List ℕ) (r : RecordIndex) → ((count : ℕ) → r ≡ Records count → ⊥)
-    → NotedTold bytes start m notes r → IndexTold bytes start m notes r
+pub index_stopped : (bytes : List ℕ) (start : ℕ) (m : Message) (notes : List ℕ) {r : RecordIndex} {error : IndexError} → r ≡ Err error
+    → NotedTold bytes start m notes r → IndexTold bytes start m notes (Err error)
 unfolding records_of
-index_stopped bytes start m notes (Records count) k t = absurd (k count refl)
-index_stopped bytes start m notes NoRoom k t = t
-index_stopped bytes start m notes (Refused error) k t = let l : messages StringTableTypes-record m ≡ wire_refused error = t in rw l
+index_stopped bytes start m notes {r} {error} e t = go error (subst (NotedTold bytes start m notes) e t)
+  where
+    go : (error : IndexError) → NotedTold bytes start m notes (Err error) → IndexTold bytes start m notes (Err error)
+    go NoRoom t = t
+    go (Wire error) t = let l : messages StringTableTypes-record m ≡ wire_refused error = t in rw l

@@ -6,9 +6,10 @@ ghost use Rattle.wire.specs.Wire.{cut, Message};
 ghost use Rattle.wire.specs.Messages.{varints};
 ghost use Rattle.messages.specs.told.Asked.{FoundTold, index_told};
 ghost use Rattle.wire.specs.told.WireTold.{rest_of};
+ghost use Rattle.names.specs.declared.records.IndexError.TheVariants.{Wire};
 ghost use Rattle.names.specs.Records.{served, two_of};
 ghost use Rattle.names.specs.told.Index.{packed_places, NotedTold, IndexTold};
-ghost use Rattle.names.specs.told.RecordTold.{first_seen, with_field, FirstsTold, operation_in, both_numbers, RecordTold};
+ghost use Rattle.names.specs.told.RecordTold.{operation_in, both_numbers, RecordTold};
 
 use fields::{
     RECORD_OPERATION, RECORD_PREDEFINED_INDEX, RECORD_RANGE, RECORD_REPLACE_CHAR, RECORD_STRING,
@@ -16,87 +17,8 @@ use fields::{
 };
 use foundation::Span;
 use messages::repeated::{Two, check_varints, first_two};
-use messages::{check, index, index_in, next_body, number_in, piece_in};
-use wire::{FieldStep, WireError, WireValue, field_at};
-
-// The first occurrence of each field of a record.
-#[derive(Clone, Copy)]
-struct Firsts {
-    range: Option<WireValue>,
-    predefined: Option<WireValue>,
-    operation: Option<WireValue>,
-    substring: Option<WireValue>,
-    replaced: Option<WireValue>,
-    string: Option<WireValue>,
-}
-
-// The first occurrence of a field that is asked for, after one more field.
-fn first_seen(
-    asked: u32,
-    seen: Option<WireValue>,
-    number: u32,
-    value: WireValue,
-) -> Option<WireValue>
-    ensures { result ≡ first_seen asked seen number value }
-{
-    if number != asked {
-        return seen;
-    }
-    if seen.is_some() {
-        return seen;
-    }
-    Some(value)
-}
-
-impl Firsts {
-    fn with_field(self, number: u32, value: WireValue) -> Firsts
-        ensures { result ≡ with_field self number value }
-    {
-        let range = self.range;
-        let predefined = self.predefined;
-        let operation = self.operation;
-        let substring = self.substring;
-        let replaced = self.replaced;
-        let string = self.string;
-        Firsts {
-            range: first_seen(RECORD_RANGE, range, number, value),
-            predefined: first_seen(RECORD_PREDEFINED_INDEX, predefined, number, value),
-            operation: first_seen(RECORD_OPERATION, operation, number, value),
-            substring: first_seen(RECORD_SUBSTRING_INDEX, substring, number, value),
-            replaced: first_seen(RECORD_REPLACE_CHAR, replaced, number, value),
-            string: first_seen(RECORD_STRING, string, number, value),
-        }
-    }
-}
-
-// One walk of a record's message.
-fn firsts_in(s: &[u8], base: u32) -> Firsts
-    ensures { FirstsTold base s.now result }
-{
-    let mut firsts = Firsts {
-        range: None,
-        predefined: None,
-        operation: None,
-        substring: None,
-        replaced: None,
-        string: None,
-    };
-    let mut at = 0;
-    while at < s.len() {
-        let step = field_at(s, base, at);
-        let FieldStep::Field {
-            number,
-            value,
-            next,
-        } = step
-        else {
-            return firsts;
-        };
-        firsts = firsts.with_field(number, value);
-        at = next;
-    }
-    firsts
-}
+use messages::{check, find_each, index, index_in, next_body, number_in, piece_in};
+use wire::{WireError, WireValue};
 
 // How many indices a record serves: range 0 counts as 1, and so does no range.
 fn served(range: Option<u32>) -> u32
@@ -136,17 +58,22 @@ pub struct Record {
     pub replaced: Two,
 }
 
-// The record of a message that is cut.
+// The record of a message that is cut: one walk finds the first occurrence of each of its fields.
 pub fn record_in(s: &[u8], base: u32) -> Record
     ensures { RecordTold base s.now result }
 {
-    let firsts = firsts_in(s, base);
-    let range = firsts.range;
-    let predefined = firsts.predefined;
-    let operation = firsts.operation;
-    let substring = firsts.substring;
-    let replaced = firsts.replaced;
-    let string = firsts.string;
+    let [range, predefined, operation, substring, replaced, string] = find_each(
+        s,
+        base,
+        [
+            RECORD_RANGE,
+            RECORD_PREDEFINED_INDEX,
+            RECORD_OPERATION,
+            RECORD_SUBSTRING_INDEX,
+            RECORD_REPLACE_CHAR,
+            RECORD_STRING,
+        ],
+    );
     Record {
         range: served(index_in(range)),
         string: piece_in(string),
@@ -157,11 +84,19 @@ pub fn record_in(s: &[u8], base: u32) -> Record
     }
 }
 
+// Why there is no index: the lent notes have no room for it, or the messages are refused.
 #[derive(Clone, Copy)]
-pub enum RecordIndex {
-    Records { count: usize },
+pub enum IndexError {
     NoRoom,
-    Refused { error: WireError },
+    Wire(WireError),
+}
+
+impl From<WireError> for IndexError {
+    ghost from_gives = { λ error made. made ≡ Wire error };
+
+    fn from(error: WireError) -> IndexError {
+        IndexError::Wire(error)
+    }
 }
 
 // Two places in one number.
@@ -185,12 +120,13 @@ fn put_entry(notes: &mut [u64], count: usize, start: u32, end: u32, next: u64)
     notes[at + 2] = next;
 }
 
-// Cuts the records of the name table in `bytes` from `at` on, and notes for each where it stands and the first index that it serves.
-fn note_records(bytes: &[u8], at: usize, notes: &mut [u64]) -> RecordIndex
+// Cuts the records of the name table in `bytes` from `at` on, and notes for each where it stands and the first index that it serves. How
+// many there are.
+fn note_records(bytes: &[u8], at: usize, notes: &mut [u64]) -> Result<usize, IndexError>
     ensures { (m : Message) → cut (rest_of 0 bytes.now at) ≡ ok m → NotedTold bytes.now at m notes.new result }
 {
     if 4294967295 < bytes.len() {
-        return RecordIndex::NoRoom;
+        return Err(IndexError::NoRoom);
     }
     let room = notes.len() / RECORD_WORDS;
     let mut total: u64 = 0;
@@ -198,15 +134,13 @@ fn note_records(bytes: &[u8], at: usize, notes: &mut [u64]) -> RecordIndex
     let mut i = at;
     while i < bytes.len() {
         let Some(record) = next_body(bytes, 0, STRING_TABLE_TYPES_RECORD, i) else {
-            return RecordIndex::Records { count };
+            return Ok(count);
         };
         let message = &bytes[record.start..record.end];
         let base = record.start as u32;
-        if let Err(error) = check(message, base) {
-            return RecordIndex::Refused { error };
-        }
+        check(message, base)?;
         if room <= count {
-            return RecordIndex::NoRoom;
+            return Err(IndexError::NoRoom);
         }
         let range = served(index(message, base, RECORD_RANGE));
         total += range as u64;
@@ -214,26 +148,21 @@ fn note_records(bytes: &[u8], at: usize, notes: &mut [u64]) -> RecordIndex
         count += 1;
         i = record.end;
     }
-    RecordIndex::Records { count }
+    Ok(count)
 }
 
-// The index of a name table: `bytes` are the decoded ones up to its end, and it begins at `at`. An error in the local names refuses after
+// The index of a name table, and how many records it has: `bytes` are the decoded ones up to its end, and it begins at `at`. An error in the local names refuses after
 // all records are cut.
-pub fn index_records(bytes: &[u8], at: usize, notes: &mut [u64]) -> RecordIndex
+pub fn index_records(bytes: &[u8], at: usize, notes: &mut [u64]) -> Result<usize, IndexError>
     ensures { (m : Message) → cut (rest_of 0 bytes.now at) ≡ ok m → IndexTold bytes.now at m notes.new result }
 {
     if bytes.len() < at {
-        return RecordIndex::NoRoom;
+        return Err(IndexError::NoRoom);
     }
     if 4294967295 < at {
-        return RecordIndex::NoRoom;
+        return Err(IndexError::NoRoom);
     }
-    let noted = note_records(bytes, at, notes);
-    let RecordIndex::Records { count } = noted else {
-        return noted;
-    };
-    match check_varints(&bytes[at..], at as u32, STRING_TABLE_TYPES_LOCAL_NAME) {
-        Ok(()) => RecordIndex::Records { count },
-        Err(error) => RecordIndex::Refused { error },
-    }
+    let count = note_records(bytes, at, notes)?;
+    check_varints(&bytes[at..], at as u32, STRING_TABLE_TYPES_LOCAL_NAME)?;
+    Ok(count)
 }

@@ -15,10 +15,8 @@ use Rattle.declaration_rows.specs.told.Written.{head_cells}
 use Rattle.schema.specs.Reading.{Scope}
 use Rattle.schema.specs.Members.{Head, head, list_in, alias_in, head_in, constructors_in, alias_field, lists_in, after_table}
 use Rattle.schema.specs.told.SchemaTold.{Lent, NamesOf, Scoped, stop_refused}
-use Rattle.schema.specs.told.MembersTold.{Within, ListedWithin, ListedTold}
+use Rattle.schema.specs.told.MembersTold.{Listed, Within, ListedWithin, ListedTold}
 use Rattle.schema.specs.declared.Stop.{Stop}
-use Rattle.schema.specs.declared.Listed.{Listed}
-use Rattle.schema.specs.declared.Listed.TheVariants as listed
 use Rattle.descriptors.specs.Defaults.{closed_constructor, closed_function}
 use Rattle.members.specs.Lists.{section_rows}
 use Rattle.members.specs.declared.list.Member.TheVariants as member
@@ -59,9 +57,9 @@ pub record ConstructorsTold (class : Bool) (e : Lent) (msg : List ℕ) (base : �
 
 -- The aliases after their count.
 abbrev pub AliasesAre : Res (List Alias × ℕ) → State → Listed → (S S' T T' : List ℕ) → Type 0
-AliasesAre r s (listed.Done s' count) S S' T T' =
-    (xs : List Alias) × (b : ℕ) × (r ≡ ok (xs, b)) × (count ≡ length xs) × PutRows (aliases_rows xs) b s s' S S' T T'
-AliasesAre r s (listed.Refused stop) S S' T T' = r ≡ stop_refused stop
+AliasesAre r s (Ok x) S S' T T' =
+    (xs : List Alias) × (b : ℕ) × (r ≡ ok (xs, b)) × (x.count ≡ length xs) × PutRows (aliases_rows xs) b s x.state S S' T T'
+AliasesAre r s (Err stop) S S' T T' = r ≡ stop_refused stop
 
 pub record AliasesTold (class : Bool) (e : Lent) (msg : List ℕ) (base : ℕ) (s : State) (r : Listed) (S S' T T' : List ℕ) : Type 0 where
   pub spends : ListedWithin (aliases_cost (length msg)) s r

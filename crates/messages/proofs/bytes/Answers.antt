@@ -1,4 +1,3 @@
-use mathlib.Core.Path.{refl}
 use Rattle.messages.proofs.FindLaws.{piece_is}
 use Rattle.messages.proofs.bytes.Goals as goal
 

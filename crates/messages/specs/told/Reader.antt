@@ -1,26 +1,20 @@
 -- What a reader over a payload tells, in the definitions' words. It holds a slice s whose first byte has the offset 0, and stands at a place in it.
 -- Assumes nothing.
 use Rattle.std.specs.Prelude.{◌≡◌, List, ℕ, ◌≤◌, ◌<◌, length, Result, Ok, Err}
+use Rattle.foundation.specs.declared.Span.{Span}
 use Rattle.foundation.specs.Results.{Res, Part, Got, got}
 use Rattle.wire.specs.told.WireTold.{wire_refused, rest_of, part_between, DelimitedAt}
 use Rattle.wire.specs.declared.WireError.{WireError}
-use Rattle.wire.specs.declared.Delimited.{Delimited}
-use Rattle.wire.specs.declared.Delimited.TheVariants as delimited
 use Rattle.messages.specs.declared.reader.Parts.{Parts}
 
 -- Where a reader stands after a reading: after the last byte that was read, and where it stood before one that is refused.
-abbrev pub after_delimited : ℕ → Delimited → ℕ
-after_delimited at (delimited.Body start end) = end
-after_delimited at (delimited.Refused error) = at
+abbrev pub after_delimited : ℕ → Result Span WireError → ℕ
+after_delimited at (Ok x) = x.end
+after_delimited at (Err error) = at
 
 -- A reader that stood at `at` gave r and stands at at'.
-abbrev pub DelimitedRead : List ℕ → ℕ → Delimited → ℕ → Type 0
+abbrev pub DelimitedRead : List ℕ → ℕ → Result Span WireError → ℕ → Type 0
 DelimitedRead s at r at' = (at' ≡ after_delimited at r) × DelimitedAt 0 s at r
-
--- a payload's parts, by the answer to its name table and the place after it
-abbrev pub parts_of : Delimited → ℕ → Result Parts WireError
-parts_of (delimited.Body start end) rest = Ok record { table = record { start = start; end = end }; rest = rest }
-parts_of (delimited.Refused error) rest = Err error
 
 abbrev pub SplitTold : List ℕ → Res (Got Part) → Result Parts WireError → Type 0
 SplitTold s r (Ok p) =
