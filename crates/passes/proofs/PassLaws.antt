@@ -20,8 +20,8 @@ use Rattle.schema.specs.declared.Stop.{Stop}
 use Rattle.declarations.specs.Payload.{payload}
 use Rattle.declarations.specs.told.PayloadTold.{LentRoom, LentTold}
 use Rattle.std.proofs.Common.{Option, Some, None, Result, Ok, Err}
-use Rattle.declarations.specs.declared.payload.IndexError.{IndexError}
-use Rattle.declarations.specs.declared.payload.IndexError.TheVariants as index
+use Rattle.names.specs.declared.records.IndexError.{IndexError}
+use Rattle.names.specs.declared.records.IndexError.TheVariants as index
 use Rattle.inputs.specs.told.OutcomesTold.{RefusedAs}
 use Rattle.inputs.specs.declared.outcome.Outcome.{Outcome}
 use Rattle.passes.specs.told.AreaTold.{strings, InLimits}

@@ -16,7 +16,7 @@ ghost use Rattle.passes.specs.told.PassTold.{of_index, FirstTold, PassedTold, Fr
 
 use areas::write_in;
 use declarations::body::{Section, Sections, body_in};
-use declarations::payload::{IndexError, open_lent};
+use declarations::payload::open_lent;
 use encoding::{DecodeError, decode};
 use inputs::outcome::{Outcome, refused, stop_refusal};
 use schema::{ALLOWANCE, Stop, Tables};
@@ -53,7 +53,7 @@ impl From<IndexError> for PassError {
     fn from(error: IndexError) -> PassError {
         match error {
             IndexError::NoRoom => PassError::NoRoom,
-            IndexError::Wire(error) => PassError::Refused(Stop::Wire { error }),
+            IndexError::Wire(error) => PassError::Refused(Stop::Wire(error)),
         }
     }
 }

@@ -10,8 +10,8 @@ use Rattle.schema.specs.declared.Stop.TheVariants as stop
 use Rattle.inputs.specs.Inputs.{carries_declarations}
 use Rattle.declarations.specs.Payload.{payload}
 use Rattle.declarations.specs.told.PayloadTold.{LentRoom}
-use Rattle.declarations.specs.declared.payload.IndexError.{IndexError}
-use Rattle.declarations.specs.declared.payload.IndexError.TheVariants as index
+use Rattle.names.specs.declared.records.IndexError.{IndexError}
+use Rattle.names.specs.declared.records.IndexError.TheVariants as index
 use Rattle.passes.specs.Answered.{nothing_read}
 use Rattle.passes.specs.told.AreaTold.{strings, MeasuredAt}
 use Rattle.passes.specs.told.TaskTold.{TaskTold}
