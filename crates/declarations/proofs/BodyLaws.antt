@@ -24,7 +24,7 @@ use Rattle.sheet.specs.told.Put.{PutHead, PutRows, past}
 use Rattle.sheet.specs.declared.State.{State}
 use Rattle.sheet.proofs.RowLaws.{sheet-append, texts-append}
 use Rattle.sheet.proofs.PutLaws.{put-sheet, put-text, put-types, put_none, rows_then}
-use Rattle.declaration_rows.specs.Declarations.{Constructor, Declarations}
+use Rattle.declaration_rows.specs.Declarations.{Declarations}
 use Rattle.declaration_rows.specs.Rows.{property_rows, alias_rows, aliases_rows}
 use Rattle.declaration_rows.specs.told.Written.{head_cells, head_counts}
 use Rattle.declaration_rows.proofs.WrittenLaws.{head_small}
@@ -32,7 +32,7 @@ use Rattle.declaration_rows.proofs.RecordLaws.{head-put, aliases-put}
 use Rattle.schema.specs.Reading.{Scope, class_name_in}
 use Rattle.schema.specs.Members.{flags_in, list_in, constructor_in, function_in, property_in, alias_in, head, constructors_in, function_field, property_field, alias_field, lists_in, after_table}
 use Rattle.schema.specs.told.SchemaTold.{Lent, NamesOf, Scoped}
-use Rattle.schema.specs.told.MembersTold.{Listed, section, Affords, Within, ListedWithin, ListedTold, ListTold}
+use Rattle.schema.specs.told.MembersTold.{Listed, section, Affords, Within, ListedTold, ListTold}
 use Rattle.schema.specs.declared.Section.{Section}
 use Rattle.schema.specs.declared.Stop.{Stop}
 use Rattle.schema.proofs.CountLaws.{within_none, within_less, within_then, past-within, affords-less, affords-after, affords-places, head-within}
@@ -40,9 +40,9 @@ use Rattle.descriptors.specs.Defaults.{closed_constructor, closed_function}
 use Rattle.members.specs.Lists.{section_rows}
 use Rattle.members.specs.declared.list.Member.TheVariants as member
 use Rattle.declarations.specs.Payload.{head_row, declaration_rows}
-use Rattle.declarations.specs.told.BodyTold.{head_cost, list_cost, aliases_cost, lists_cost, body_cost, BodyHead, ConstructorsTold, AliasesAre, AliasesTold, Reached, ListsAre, ListsTold, BodyWalked}
+use Rattle.declarations.specs.told.BodyTold.{head_cost, list_cost, aliases_cost, lists_cost, body_cost, BodyHead, ConstructorsTold, AliasesAre, AliasesTold, Reached, ListsTold, BodyWalked}
 use Rattle.declarations.specs.declared.body.Sections.{Sections}
-use Rattle.std.proofs.Common.{Result, Ok, Err}
+use Rattle.std.proofs.Common.{Ok, Err}
 
 pub no_name : (payload d2 : List ℕ) → name_text payload d2 absent_name ≡ none
 unfolding name_text source_text
@@ -272,8 +272,8 @@ module _ (kind : ℕ) (e : Lent) (msg : List ℕ) (base : ℕ) (class : Bool) (k
       unfolding after_table
       after-head = rw (h.is c w.names m f s.types, ← k, put-types h.put)
 
-    pub body-stops : {stop : Stop} {S₂ T₂ : List ℕ} → ListsTold class e msg base (past 6 s₁) (Err stop) S₁ S₂ T₁ T₂ → BodyWalked kind e msg base s (Err stop) S S₂ T T₂
-    body-stops t c w m f = after-head c w m f ∙ t c w m f (head h.name h.flags)
+    pub body-stops : (stop : Stop) (S₂ T₂ : List ℕ) → ListsTold class e msg base (past 6 s₁) (Err stop) S₁ S₂ T₁ T₂ → BodyWalked kind e msg base s (Err stop) S S₂ T T₂
+    body-stops stop S₂ T₂ t c w m f = after-head c w m f ∙ t c w m f (head h.name h.flags)
 
     head-reached : (i j l : ℕ) → Reached (row 1 (head_cells kind h.name h.flags ++ head_counts i j l) ∷ []) s (past 6 s₁)
     unfolding body_bytes sheet_from texts

@@ -78,8 +78,8 @@ module _ (bytes : List ℕ) (at count : ℕ) (entries : List ℕ) where
 
     pub body_unnoted : (error : IndexError) → ((t : Message) → cut (◌from◌ at (drop at bytes)) ≡ ok t → TypeIndexTold bytes at Class-type_table t entries (Err error))
         → BodyOpened bytes at count entries (Err error)
-    body_unnoted (index.Wire error) h kind names = rw cuts (table-refuses names m allowance (eqb kind 1) error (h m cuts allowance))
-    body_unnoted index.NoRoom h room =
+    body_unnoted (index.Wire error) h = λ kind names. rw cuts (table-refuses names m allowance (eqb kind 1) error (h m cuts allowance))
+    body_unnoted index.NoRoom h = λ room.
         h m cuts (record {
           inside = room.inside;
           short = room.short;
@@ -151,8 +151,8 @@ module _ (bytes : List ℕ) (parts : Parts) (d : SplitTold bytes (read_delimited
     pub records_unnoted : (error : IndexError)
         → ((t : Message) → cut (rest_of 0 (take end bytes) start) ≡ ok t → IndexTold (take end bytes) start t before (Err error)) → OpenedTold bytes before (Err error)
     unfolding payload
-    records_unnoted (index.Wire error) h kind d2 = rw (d.0, placed e, h m stands)
-    records_unnoted index.NoRoom h room =
+    records_unnoted (index.Wire error) h = λ kind d2. rw (d.0, placed e, h m stands)
+    records_unnoted index.NoRoom h = λ room.
         let l = length-take end bytes in
         h m stands (record {
           inside = omega (arith, d.2, d.3, d.4);

@@ -16,8 +16,8 @@ members_in-requires c = (second-affords (length c.args.msg.now) c.requires.0 c.i
 pub returns-in_err-functions : goal.returns-in_err-functions
 returns-in_err-functions c = rw (handed_on c.from_residual-in_err-functions.result c.from_residual-in_err-functions.ensures.1) (functions-refused (lent c.args.payload.now c.args.d2.now c.args.ends.now c.args.notes.now c.args.tables) c.args.msg.now c.args.base c.args.class c.args.head c.in_ok-constructors.ensures c.function_field.result c.function_field.ensures c.in_err-functions.ensures)
 
-pub members_in-2-requires : goal.members_in-2-requires
-members_in-2-requires c = (third-affords (length c.args.msg.now) c.requires.0 c.in_ok-constructors.ensures.spends c.in_ok-functions.ensures.spends, c.requires.1)
+pub members_in-requires-2 : goal.members_in-requires-2
+members_in-requires-2 c = (third-affords (length c.args.msg.now) c.requires.0 c.in_ok-constructors.ensures.spends c.in_ok-functions.ensures.spends, c.requires.1)
 
 pub returns-in_err-properties : goal.returns-in_err-properties
 returns-in_err-properties c = rw (handed_on c.from_residual-in_err-properties.result c.from_residual-in_err-properties.ensures.1) (properties-refused (lent c.args.payload.now c.args.d2.now c.args.ends.now c.args.notes.now c.args.tables) c.args.msg.now c.args.base c.args.class c.args.head c.in_ok-constructors.ensures c.function_field.result c.function_field.ensures c.in_ok-functions.ensures c.property_field.result c.property_field.ensures c.in_err-properties.ensures)
