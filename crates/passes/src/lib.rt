@@ -15,11 +15,12 @@ ghost use Rattle.passes.specs.declared.PassError.TheVariants.{Refused};
 ghost use Rattle.passes.specs.told.PassTold.{of_index, FirstTold, PassedTold, FrameRoom, reading_of};
 
 use areas::write_in;
-use declarations::body::{Section, Sections, body_in};
+use declarations::body::{Sections, body_in};
 use declarations::payload::open_lent;
 use encoding::{DecodeError, decode};
 use inputs::outcome::{Outcome, refused, stop_refusal};
-use schema::{ALLOWANCE, Stop, Tables};
+use names::records::IndexError;
+use schema::{ALLOWANCE, Section, Stop, Tables};
 use sheet::State;
 
 mod areas; // areas.rt: what was measured, written into both areas
