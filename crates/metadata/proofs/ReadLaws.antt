@@ -40,8 +40,7 @@ use Rattle.inputs.specs.Inputs.{Input, kind_of, carries_declarations, string_lim
 use Rattle.inputs.specs.told.OutcomesTold.{fault_cause, fault_told, told}
 use Rattle.inputs.specs.Outcomes as definition
 use Rattle.inputs.specs.declared.Fault.{Fault}
-use Rattle.inputs.specs.declared.Inspected.{Inspected}
-use Rattle.inputs.specs.declared.Inspected.TheVariants as inspected
+use Rattle.std.specs.Prelude.{Result, Ok, Err}
 use Rattle.inputs.specs.declared.outcome.Outcome.{Outcome}
 use Rattle.passes.specs.Answered as answers
 use Rattle.passes.specs.Answered.{head_alone, nothing_read, sheet_written, answered}
@@ -111,12 +110,12 @@ pub read_by : (S T : List ℕ) (i : Input) → read S T i ≡ answered S T (kind
 unfolding read
 read_by S T i = refl
 
-module _ (k : ℤ) (mv : List ℤ) (d1 d2 ends : List ℕ) (f : Inspected) (e : fault_of (input k mv d1 d2 ends) ≡ fault_told f) where
-  pub reading-fault : {fault : Fault} → f ≡ inspected.Faulty fault → reading (input k mv d1 d2 ends) ≡ refused (fault_cause fault) 0
+module _ (k : ℤ) (mv : List ℤ) (d1 d2 ends : List ℕ) (f : Result (Unit {0}) Fault) (e : fault_of (input k mv d1 d2 ends) ≡ fault_told f) where
+  pub reading-fault : {fault : Fault} → f ≡ Err fault → reading (input k mv d1 d2 ends) ≡ refused (fault_cause fault) 0
   unfolding reading
   reading-fault g = rw (e ∙ ap fault_told g)
 
-  module _ (g : f ≡ inspected.Sound) where
+  module _ {u : Unit {0}} (g : f ≡ Ok u) where
     no-fault-is : fault_of (input k mv d1 d2 ends) ≡ none
     no-fault-is = e ∙ ap fault_told g
 

@@ -16,7 +16,7 @@ ghost use Rattle.metadata.specs.told.ReadTold.{told_by};
 use declaration_rows::{put_aliases, put_count, put_head, put_head_counts};
 use fields::OMITTED_FLAGS;
 use inputs::outcome::{Outcome, fault_refusal, refused};
-use inputs::{Inspected, fault_of, kind_of};
+use inputs::{fault_of, kind_of};
 use names::name::absent;
 use passes::{Asked, Passed, Reply, Task, decode_in, start, without_lists};
 use sheet::State;
@@ -306,17 +306,14 @@ fn reply_to(
 ) -> Reply
     ensures { TaskTold (record { task = task; kind = kind_of k }) (reading (input k version d1.now d2.now ends.now)) result sheet.old sheet.new text.old text.new }
 {
-    let inspected = fault_of(&*d1, &*d2, &*ends, version);
-    match inspected {
-        Inspected::Faulty { fault } => without_lists(fault_refusal(fault)),
-        Inspected::Sound => {
-            let asked = Asked {
-                task,
-                kind: kind_of(k),
-            };
-            of_kind(asked, &*d1, &*d2, &*ends, sheet, text)
-        }
+    if let Err(fault) = fault_of(d1, d2, ends, version) {
+        return without_lists(fault_refusal(fault));
     }
+    let asked = Asked {
+        task,
+        kind: kind_of(k),
+    };
+    of_kind(asked, d1, d2, ends, sheet, text)
 }
 
 // The answer with the version as it came.

@@ -11,9 +11,9 @@ use Rattle.foundation.specs.Results.{Res, ok, refused, Cause}
 use Rattle.foundation.proofs.ResultLaws.{gives-ok}
 use Rattle.encoding.specs.Encoding.{decoded}
 use Rattle.encoding.specs.told.Outcome as encoding
-use Rattle.encoding.specs.told.Outcome.{DecodeTold}
-use Rattle.encoding.specs.declared.Decoded.{Decoded}
-use Rattle.encoding.specs.declared.Decoded.TheVariants as bytes_of
+use Rattle.encoding.specs.told.Outcome.{Decoded, DecodeTold}
+use Rattle.encoding.specs.declared.DecodeError.TheVariants as not_decoded
+use Rattle.std.specs.Prelude.{Ok, Err}
 use Rattle.encoding.proofs.OutcomeLaws.{limited-within, limited-arm, told-inside, told-room}
 use Rattle.encoding.proofs.EncodingLaws.{decoded-length}
 use Rattle.wire.specs.declared.WireError.{WireError}
@@ -61,12 +61,12 @@ module _ (asked : Asked) (d1 d2 ends before after : List ℕ) (answer : Decoded)
   arm_is : (arm : Decoded) {x : Res (List ℕ)} → answer ≡ arm → encoding.tells arm after ≡ some x → decoded d1 ≡ x
   arm_is arm e f = sym (limited-within d1 k.bytes-short) ∙ limited-arm d1 before after answer t arm e f
 
-  pub decoded-inside : {n : ℕ} → answer ≡ bytes_of.Bytes n → n ≤ length after
+  pub decoded-inside : {n : ℕ} → answer ≡ Ok n → n ≤ length after
   decoded-inside e = told-inside (encoding.limited d1) before after t e
 
-  module _ {n : ℕ} (e : answer ≡ bytes_of.Bytes n) where
+  module _ {n : ℕ} (e : answer ≡ Ok n) where
     bytes-are : decoded d1 ≡ ok (take n after)
-    bytes-are = arm_is (bytes_of.Bytes n) e refl
+    bytes-are = arm_is (Ok n) e refl
 
     bytes-few : length (take n after) ≤ length d1
     bytes-few = gives-ok (λ (bytes : List ℕ). length bytes ≤ length d1) bytes-are (decoded-length d1)
@@ -94,7 +94,7 @@ module _ (asked : Asked) (d1 d2 ends before after : List ℕ) (answer : Decoded)
       subst (λ (x : Res (List ℕ)). TaskTold asked (Results.◌>>=◌ x (payload asked.kind (strings d2 ends))) r S S T T) (sym (arm_is arm e f))
       (reply_refused asked (refused c 0) c 0 S T r refl h g)
 
-  pub decode-no-room : answer ≡ bytes_of.NoRoom → length after ≡ length before → (notes S T : List ℕ)
+  pub decode-no-room : answer ≡ Err not_decoded.NoRoom → length after ≡ length before → (notes S T : List ℕ)
       → PassedTold asked (reading_of asked.kind d1 d2 ends) (FrameRoom d1 after notes) passed.NoRoom S S T T
   decode-no-room e l notes S T =
       ((λ room. told-room d1 before after answer t (omega (arith, room.bytes-long)) e), refl, refl)

@@ -16,7 +16,7 @@ ghost use Rattle.passes.specs.told.PassTold.{FirstTold, PassedTold, FrameRoom, r
 use areas::write_in;
 use declarations::body::{Body, Section, Sections, body_in};
 use declarations::payload::{Opened, open_lent};
-use encoding::{Decoded, decode};
+use encoding::{DecodeError, decode};
 use inputs::outcome::{Outcome, refused, stop_refusal};
 use schema::{ALLOWANCE, Stop, Tables};
 use sheet::State;
@@ -266,9 +266,8 @@ pub fn decode_in(
     requires { InLimits d1.now d2.now ends.now }
     ensures { PassedTold asked (reading_of asked.kind d1.now d2.now ends.now) (FrameRoom d1.now bytes.new notes.new) result sheet.old sheet.new text.old text.new }
 {
-    let decoded = decode(&*d1, bytes);
-    match decoded {
-        Decoded::Bytes { length } => read_in(
+    match decode(d1, bytes) {
+        Ok(length) => read_in(
             asked,
             &bytes[..length],
             &*d2,
@@ -279,15 +278,15 @@ pub fn decode_in(
             sheet,
             text,
         ),
-        Decoded::TooLong => Passed::Answered {
+        Err(DecodeError::TooLong) => Passed::Answered {
             reply: without_lists(refused(1, 0)),
         },
-        Decoded::Empty => Passed::Answered {
+        Err(DecodeError::Empty) => Passed::Answered {
             reply: without_lists(refused(5, 0)),
         },
-        Decoded::NotAByte { unit } => Passed::Answered {
-            reply: without_lists(refused(6, unit as u64)),
+        Err(DecodeError::NotAByte { unit }) => Passed::Answered {
+            reply: without_lists(refused(6, u64::from(unit))),
         },
-        Decoded::NoRoom => Passed::NoRoom,
+        Err(DecodeError::NoRoom) => Passed::NoRoom,
     }
 }

@@ -21,8 +21,9 @@ use Rattle.wire.specs.told.WireTold.{rest_of, value_of, FieldTold, value_number,
 use Rattle.messages.specs.told.Asked.{number_told, piece_told, index_told, bodies}
 use Rattle.wire.specs.declared.WireError.{WireError}
 use Rattle.wire.specs.declared.WireValue.{WireValue}
-use Rattle.wire.specs.declared.FieldStep.{FieldStep}
-use Rattle.wire.specs.declared.FieldStep.TheVariants as step
+use Rattle.wire.specs.declared.Field as code
+use Rattle.foundation.specs.declared.Read.{Read}
+use Rattle.std.specs.Prelude.{Ok, Err}
 use Rattle.wire.proofs.WalkLaws.{Leads, leads-start, leads-next, leads-never, leads-end, values-found, values-passed}
 use Rattle.messages.proofs.FindLaws.{as_number, as_piece}
 use Rattle.schema.specs.told.HeadTold.{is_body, any_of, NameKnown, FlagKnown, ArgumentsKnown, Known, HeadTold}
@@ -226,13 +227,15 @@ module _ (base : ℕ) (s : List ℕ) where
     pub seeing-end : length s ≤ at → (m : Message) → cut (◌from◌ base s) ≡ ok m → Known x m []
     seeing-end h = leads-end (Known x) (◌from◌ base s) base s at l h
 
-    module _ {r : FieldStep} (e : FieldTold base s (read_field (rest_of base s at)) r) (h : at < length s) where
-      pub seeing-never : {error : WireError} → r ≡ step.Refused error → (m : Message) → cut (◌from◌ base s) ≡ ok m → Known x m []
-      seeing-never g m w = leads-never (◌from◌ base s) base s at e h (Known x) l g m w
+    module _ (h : at < length s) where
+      pub seeing-never : (error : WireError) → FieldTold base s (read_field (rest_of base s at)) (Err error)
+          → (m : Message) → cut (◌from◌ base s) ≡ ok m → Known x m []
+      seeing-never error e m w = leads-never (◌from◌ base s) base s at error e h (Known x) l m w
 
-      pub seeing-next : {n : ℕ} {v : WireValue} (next : ℕ) → r ≡ step.Field n v next → (y : Seen)
-          → ((base : ℕ) (s : List ℕ) (m rest : Message) → Known x m (field n (value_of base s v) ∷ rest) → Known y m rest) → Seeing base s next y
-      seeing-next next g y t = leads-next (◌from◌ base s) base s at e h (Known x) (Known y) l next g (t base s)
+      pub seeing-next : (r : Read code.Field) → FieldTold base s (read_field (rest_of base s at)) (Ok r) → (y : Seen)
+          → ((base : ℕ) (s : List ℕ) (m rest : Message) → Known x m (field r.value.number (value_of base s r.value.value) ∷ rest) → Known y m rest)
+          → Seeing base s r.next y
+      seeing-next r e y t = leads-next (◌from◌ base s) base s at r e h (Known x) (Known y) l (t base s)
 
   pub head-told : (x : Seen) → ((m : Message) → cut (◌from◌ base s) ≡ ok m → Known x m [])
       → HeadTold base s (record { name = option_flatten x.name; nullable = unwrap_or x.nullable false; arguments = x.arguments })

@@ -10,7 +10,7 @@ ghost use Rattle.schema.specs.told.HeadTold.{Known, HeadTold};
 
 use fields::{TYPE_ARGUMENT, TYPE_CLASS_NAME, TYPE_NULLABLE};
 use messages::index_in;
-use wire::{FieldStep, WireValue, field_at};
+use wire::{WireValue, field_at};
 
 // The index of its class name, whether it says that it is nullable, and whether it has an argument.
 #[derive(Clone, Copy)]
@@ -102,17 +102,11 @@ fn seen_in(msg: &[u8], base: u32) -> Seen
     };
     let mut at = 0;
     while at < msg.len() {
-        let step = field_at(msg, base, at);
-        let FieldStep::Field {
-            number,
-            value,
-            next,
-        } = step
-        else {
+        let Ok(read) = field_at(msg, base, at) else {
             return seen;
         };
-        seen = seen.with_field(number, value);
-        at = next;
+        seen = seen.with_field(read.value.number, read.value.value);
+        at = read.next;
     }
     seen
 }

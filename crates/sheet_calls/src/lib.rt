@@ -1,7 +1,7 @@
 // The functions that the static library exports: a slice is a pointer and a length.
 #![tactic(auto)]
 
-ghost use Rattle.std.specs.Prelude.{◌≡◌, [], ◌∷◌, ◌+◌, ◌≤◌, T, length, get_or};
+ghost use Rattle.std.specs.Prelude.{◌≡◌, ℕ, List, [], ◌∷◌, ◌+◌, ◌≤◌, T, length, get_or};
 ghost use Rattle.characters.specs.WellFormed.{Units};
 ghost use Rattle.inputs.specs.Inputs.{input};
 ghost use Rattle.metadata.specs.Read.{read};
@@ -10,10 +10,11 @@ ghost use Rattle.room.specs.Room.{room};
 ghost use Rattle.room.specs.Exact.{RoomExact};
 ghost use Rattle.strings.specs.Unused.{UnusedStrings};
 ghost use Rattle.converter.specs.Conversions.{old_to_new, new_to_old};
+ghost use Rattle.converter.specs.told.ConversionTold.{converted_by};
 ghost use Rattle.converter.specs.Statements.{OldToNewNumber, NewToOldNumber, AnswerKept, old_bytes_limit, longest_new, longest_old, written_units, ComesBackNew, ComesBackOld};
 ghost use Rattle.sheet_calls.specs.Calls.{told_in, DemandWithAny, room_in, UnusedInRoom, converted_in, SameSheets};
 
-use converter::{new_to_old, old_to_new};
+use converter::{ConvertFault, new_to_old, old_to_new};
 use metadata::read;
 use room::room;
 
@@ -101,6 +102,19 @@ pub extern "C" fn sheet_room(
     ];
 }
 
+// A conversion's answer as number, detail and length in units: a refusal's length is 0.
+fn conversion_answer(converted: Result<usize, ConvertFault>) -> [u64; 3]
+    ensures { (units : List ℕ) → converted_by converted units ≡ converted_in result units }
+{
+    match converted {
+        Ok(length) => [0, 0, length as u64],
+        Err(fault) => {
+            let (number, detail) = fault.numbered();
+            [number, detail, 0]
+        }
+    }
+}
+
 // `old_to_new`, with the answer's number, detail and length in units in this order: an old d1 to its form with the marker. Each refusal is given
 // exactly when its cause is the first that applies; an area of 28,673 units is always enough. What is converted is read alike in both forms, and
 // comes back from `sheet_new_to_old` if it was as packing makes it. Nothing is asked of what is handed in.
@@ -113,8 +127,7 @@ pub extern "C" fn sheet_old_to_new(d1: &[u16], units: &mut [u16], answer: &mut [
     ensures back { get_or answer.new 0 0 ≡ 0 → ComesBackOld d1.now (converted_in answer.new units.new) }
     ensures sheets { get_or answer.new 0 0 ≡ 0 → SameSheets d1.now (written_units (converted_in answer.new units.new)) }
 {
-    let r = old_to_new(&*d1, units);
-    *answer = [r.number, r.detail, r.length as u64];
+    *answer = conversion_answer(old_to_new(d1, units));
 }
 
 // `new_to_old`, with the same answer: a d1 with its marker to the old form. An area of 37,448 units is always enough. What is converted comes back from
@@ -128,6 +141,5 @@ pub extern "C" fn sheet_new_to_old(d1: &[u16], units: &mut [u16], answer: &mut [
     ensures back { get_or answer.new 0 0 ≡ 0 → ComesBackNew d1.now (converted_in answer.new units.new) }
     ensures sheets { get_or answer.new 0 0 ≡ 0 → length d1.now ≤ 1 + old_bytes_limit → SameSheets d1.now (written_units (converted_in answer.new units.new)) }
 {
-    let r = new_to_old(&*d1, units);
-    *answer = [r.number, r.detail, r.length as u64];
+    *answer = conversion_answer(new_to_old(d1, units));
 }

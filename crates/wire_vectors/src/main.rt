@@ -4,7 +4,7 @@
 
 use messages::repeated::Two;
 use std::io;
-use wire::{FieldStep, Varint, WireError, WireValue};
+use wire::{WireError, WireValue};
 
 fn print_refusal(rt: &impl Print, error: WireError) -> io::Result<()> {
     match error {
@@ -19,12 +19,12 @@ fn print_refusal(rt: &impl Print, error: WireError) -> io::Result<()> {
 
 fn print_value(rt: &impl Print, value: WireValue) -> io::Result<()> {
     match value {
-        WireValue::Varint { value: n } => println!(rt; " varint {n}"),
+        WireValue::Varint(n) => println!(rt; " varint {n}"),
         WireValue::Fixed { width, number } => {
             let bits = 8 * (width as u64 % 16);
             println!(rt; " fixed{bits} {number}")
         }
-        WireValue::Body { start, end } => println!(rt; " body {start}..{end}"),
+        WireValue::Body(body) => println!(rt; " body {}..{}", body.start, body.end),
     }
 }
 
@@ -35,17 +35,14 @@ fn show(rt: &impl Print, name: &str, s: &[u8], base: u32) -> io::Result<()> {
     while at < s.len() {
         let step = wire::field_at(s, base, at);
         print!(rt; "  ")?;
-        let FieldStep::Field {
-            number,
-            value,
-            next,
-        } = step
-        else {
-            return print_refusal(rt, step.error());
-        };
-        print!(rt; "field {number}")?;
-        print_value(rt, value)?;
-        at = next;
+        match step {
+            Err(error) => return print_refusal(rt, error),
+            Ok(read) => {
+                print!(rt; "field {}", read.value.number)?;
+                print_value(rt, read.value.value)?;
+                at = read.next;
+            }
+        }
     }
     Ok(())
 }
@@ -57,11 +54,13 @@ fn show_packed(rt: &impl Print, name: &str, s: &[u8], base: u32) -> io::Result<(
     while at < s.len() {
         let step = wire::varint_at(s, base, at);
         print!(rt; " ")?;
-        let Varint::Read { value, next } = step else {
-            return print_refusal(rt, step.error());
-        };
-        print!(rt; "{value}")?;
-        at = next;
+        match step {
+            Err(error) => return print_refusal(rt, error),
+            Ok(read) => {
+                print!(rt; "{}", read.value)?;
+                at = read.next;
+            }
+        }
     }
     println!(rt)
 }

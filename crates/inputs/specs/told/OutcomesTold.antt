@@ -3,10 +3,8 @@
 use Rattle.std.proofs.Math.Option.{Option, none, some}
 use Rattle.foundation.specs.Results.{Cause, d1_too_long, d2_too_long, string_ends, newer_version}
 use Rattle.inputs.specs.declared.Fault.{Fault}
-use Rattle.inputs.specs.declared.Inspected.{Inspected}
 use Rattle.inputs.specs.declared.Fault.TheVariants as fault
-use Rattle.inputs.specs.declared.Inspected.TheVariants as inspected
-use Rattle.std.specs.Prelude.{◌≡◌, List, ℕ}
+use Rattle.std.specs.Prelude.{◌≡◌, List, ℕ, Result, Ok, Err}
 use Rattle.inputs.specs.declared.outcome.Outcome.{Outcome}
 use Rattle.inputs.specs.Outcomes.{Answer, refusal}
 
@@ -17,9 +15,9 @@ fault_cause fault.D2TooLong = d2_too_long
 fault_cause fault.StringEnds = string_ends
 fault_cause fault.NewerVersion = newer_version
 
-abbrev pub fault_told : Inspected → Option Cause
-fault_told (inspected.Faulty f) = some (fault_cause f)
-fault_told inspected.Sound = none
+abbrev pub fault_told : Result (Unit {0}) Fault → Option Cause
+fault_told (Err f) = some (fault_cause f)
+fault_told (Ok u) = none
 
 -- an answer, and what both areas hold afterwards
 abbrev pub told : Outcome → List ℕ → List ℕ → Answer
