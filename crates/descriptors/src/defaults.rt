@@ -13,7 +13,7 @@ ghost use Rattle.descriptors.specs.told.DefaultsTold.{part_cost, PartWithin, Par
 ghost use Rattle.descriptors.specs.told.PartsTold.{PartRoom, PartOf, TypeGiven, type_part, FunctionGiven, receiver_part, before_part, after_part};
 
 use crate::erased::{Placement, put_erased};
-use erasure::{CONTINUATION, OBJECT, Position, put_part};
+use erasure::{Class, Part, Position, put_part};
 use fields::{
     CONSTRUCTOR_VALUE_PARAMETER, FUNCTION_FLAGS, FUNCTION_RECEIVER_TYPE, FUNCTION_RECEIVER_TYPE_ID,
     FUNCTION_RETURN_TYPE, FUNCTION_RETURN_TYPE_ID, FUNCTION_VALUE_PARAMETER, OMITTED_FLAGS,
@@ -23,9 +23,8 @@ use messages::next_body;
 use schema::flags::flags_in;
 use schema::places::declared_place;
 use schema::receiver::has_receiver;
-use schema::{FoundType, Tables, TypeSlot};
+use schema::{Tables, TypeSlot};
 use sheet::{put, put_all};
-use wire::Piece;
 
 // A declaration's own type at its position. A type that isn't there has no descriptor. The slot's role is not looked at.
 fn type_part(
@@ -44,24 +43,15 @@ fn type_part(
     requires { PartRoom payload.now d2.now msg.now base part_cost at }
     ensures { PartOf (TypeGiven slot.inline slot.indexed) (type_part position) part_cost (lent payload.now d2.now ends.now notes.now tables) base (base + length msg.now) at result area.old area.new }
 {
-    let found = declared_place(msg, base, slot, payload, notes, tables);
-    let FoundType::Type {
-        start: from,
-        end: to,
-        nullable,
-        left,
-    } = found
-    else {
-        return None;
-    };
+    let found = declared_place(msg, base, slot, payload, notes, tables)?;
     let placed = Placement {
-        nullable,
-        left,
+        nullable: found.nullable,
+        left: found.left,
         position,
     };
     put_erased(
-        &payload[from..to],
-        from as u32,
+        &payload[found.start..found.end],
+        found.start as u32,
         placed,
         payload,
         d2,
@@ -91,15 +81,11 @@ fn parameter_parts(
 {
     let mut from = 0;
     let mut size = 0;
-    loop {
-        let piece = next_body(msg, base, number, from);
-        let Piece::Body { start, end } = piece else {
-            return Some(size);
-        };
-        from = end;
+    while let Some(parameter) = next_body(msg, base, number, from) {
+        from = parameter.end;
         size += type_part(
-            &msg[start..end],
-            base + start as u32,
+            &msg[parameter.start..parameter.end],
+            base + parameter.start as u32,
             TypeSlot {
                 inline: VALUE_PARAMETER_TYPE,
                 indexed: VALUE_PARAMETER_TYPE_ID,
@@ -115,6 +101,7 @@ fn parameter_parts(
             at + size,
         )?;
     }
+    Some(size)
 }
 
 // The default descriptor of a constructor, which returns V.
@@ -231,9 +218,9 @@ fn put_suspended(area: &mut [u8], at: usize) -> usize
     requires { at ≤ 2 ^ 61 }
     ensures { PutSized (print continuation_class ++ (0x29 ∷ print object)) at result area.old area.new }
 {
-    let first = put_part(area, at, CONTINUATION);
+    let first = put_part(area, at, Part::Continuation);
     put(area, at + first, b')');
-    let last = put_part(area, at + first + 1, OBJECT);
+    let last = put_part(area, at + first + 1, Part::Class(Class::Object));
     first + 1 + last
 }
 
