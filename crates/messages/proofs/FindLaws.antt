@@ -15,7 +15,7 @@ use Rattle.foundation.specs.Results.{ok, ◌from◌}
 use Rattle.wire.specs.Wire.{Value, read_field, Message, cut}
 use Rattle.wire.specs.Messages.{values, first_of, value, as_varint, as_body, varint_of, as32, index, flag, bytes_of}
 use Rattle.wire.specs.told.WireTold.{rest_of, value_of, Inside, FieldTold, value_number, piece_of}
-use Rattle.messages.specs.told.Asked.{found_told, FoundInside, FoundTold, FoundFrom, FoundAt, number_told, number_in, piece_in, piece_told, PieceInside, BytesTold, index_in}
+use Rattle.messages.specs.told.Asked.{found_told, FoundInside, FoundTold, FoundFrom, number_told, number_in, piece_in, piece_told, PieceInside, BytesTold, index_in}
 use Rattle.std.specs.Prelude.{Some, None}
 use Rattle.foundation.specs.declared.Span.{Span}
 use Rattle.wire.specs.declared.WireError.{WireError}
@@ -42,9 +42,6 @@ module _ (k base : ℕ) (s : List ℕ) (start : ℕ) where
     unfolding Same values
     find-end h = record { is = λ m w. ap first_of (leads-end Same (rest_of base s start) base s at o h m w); inside = tt }
 
-    pub find-on : {r : rust.Option WireValue} → FoundFrom base s k at r → FoundFrom base s k start r
-    find-on t = record { is = λ m w. ap first_of (o m w).2 ∙ t.is (o m w).0 (o m w).1; inside = t.inside }
-
     module _ (error : WireError) (e : FieldTold base s (read_field (rest_of base s at)) (Err error)) (h : at < length s) where
       pub find-never : FoundFrom base s k start None
       unfolding Same
@@ -63,15 +60,6 @@ module _ (k base : ℕ) (s : List ℕ) (start : ℕ) where
       unfolding Same
       find-passed q =
           leads-next (rest_of base s start) base s at x e h Same Same o λ m rest c. c ∙ values-passed k (value_of base s x.value.value) rest q
-
-  pub find_none : length s ≤ start → FoundFrom base s k start None
-  find_none = find-end start find-start
-
-  pub find-here : {r : rust.Option WireValue} → FoundAt s k start r → {v : WireValue} → r ≡ Some v → FoundFrom base s k start (Some v)
-  find-here t {v} g =
-      let f : FoundAt s k start (Some v) = subst (FoundAt s k start) g t in
-      let here = find-found start find-start f.0 (f.1.is base) (omega (arith, f.1.later, f.1.inside)) f.2 in
-      subst (λ (v : WireValue). FoundFrom base s k start (Some v)) f.3 here
 
   pub find-whole : {r : rust.Option WireValue} → start ≡ 0 → FoundFrom base s k start r → FoundTold base s k r
   find-whole z t = record {

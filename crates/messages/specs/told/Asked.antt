@@ -41,12 +41,6 @@ pub record FoundFrom (base : ℕ) (s : List ℕ) (n at : ℕ) (r : rust.Option W
   pub is : (m : Message) → cut (rest_of base s at) ≡ ok m → value n m ≡ found_told base s r
   pub inside : FoundInside s r
 
--- a value that was found is that of the field at a place
-abbrev pub FoundAt : List ℕ → ℕ → ℕ → rust.Option WireValue → Type 0
-FoundAt s n at (Some v) =
-    (x : Read code.Field) × ShortField s at x × (x.value.number ≡ n) × (x.value.value ≡ v)
-FoundAt s n at None = Unit {0}
-
 -- what was found of field k before a field with the number n and the value v, or, of field k itself, that value
 abbrev pub found_or : rust.Option WireValue → ℕ → ℕ → WireValue → rust.Option WireValue
 found_or (Some x) k n v = Some x
