@@ -1,26 +1,25 @@
-use mathlib.Core.Path.{refl}
 use native.Mathlib.Omega.{arith}
 use Rattle.wire.proofs.WalkLaws.{field-inside}
-use Rattle.messages.proofs.FindLaws.{find-start, find-end, find-never, find-found, find-passed, find-whole}
+use Rattle.messages.proofs.FindLaws.{find-start, find-end, find-never, find-found, find-passed}
 use Rattle.messages.proofs.SkippedLaws.{occur-skipped}
 use Rattle.messages.proofs.find.Goals as goal
 
 pub loop-at-init : goal.loop-at-init
 loop-at-init c =
     let a = c.args in
-    occur-skipped a.base c.skip_fields-at.ensures 0 (omega arith) 0 (find-start a.number a.base a.s.now 0)
+    occur-skipped a.base c.skip_fields-at.ensures 0 (omega arith) (find-start a.number a.base a.s.now)
 
 pub returns-in_default : goal.returns-in_default
 returns-in_default c =
     let a = c.args in
     let l = c.loop-at in
-    find-whole a.number a.base a.s.now 0 refl (find-never a.number a.base a.s.now 0 l.at l.invariant _ (c.in_default.ensures.inside (omega arith)) c.loop-at-test.true)
+    find-never a.number a.base a.s.now l.at l.invariant _ (c.in_default.ensures.inside (omega arith)) c.loop-at-test.true
 
 pub returns-then-read-number : goal.returns-then-read-number
 returns-then-read-number c =
     let a = c.args in
     let l = c.loop-at in
-    find-whole a.number a.base a.s.now 0 refl (find-found a.number a.base a.s.now 0 l.at l.invariant c.in-Ok.read (c.in-Ok.ensures.inside (omega arith)) c.loop-at-test.true c.if-read-number.true)
+    find-found a.number a.base a.s.now l.at l.invariant c.in-Ok.read (c.in-Ok.ensures.inside (omega arith)) c.loop-at-test.true c.if-read-number.true
 
 pub loop-at-smaller : goal.loop-at-smaller
 loop-at-smaller c =
@@ -33,10 +32,10 @@ pub loop-at-preserved : goal.loop-at-preserved
 loop-at-preserved c =
     let a = c.args in
     let l = c.loop-at in
-    occur-skipped a.base c.skip_fields-at-in-loop-at.ensures 0 (omega arith) 0 (find-passed a.number a.base a.s.now 0 l.at l.invariant c.in-Ok.read (c.in-Ok.ensures.inside (omega arith)) c.loop-at-test.true c.if-read-number.false)
+    occur-skipped a.base c.skip_fields-at-in-loop-at.ensures 0 (omega arith) (find-passed a.number a.base a.s.now l.at l.invariant c.in-Ok.read (c.in-Ok.ensures.inside (omega arith)) c.loop-at-test.true c.if-read-number.false)
 
 pub returns : goal.returns
 returns c =
     let a = c.args in
     let l = c.loop-at in
-    find-whole a.number a.base a.s.now 0 refl (find-end a.number a.base a.s.now 0 l.at l.invariant c.loop-at-test.false)
+    find-end a.number a.base a.s.now l.at l.invariant c.loop-at-test.false

@@ -9,7 +9,7 @@ use Rattle.messages.proofs.SkippedLaws.{occur-skipped, seen-skipped}
 use Rattle.messages.proofs.find_each.Goals as goal
 
 pub loop-at-init : goal.loop-at-init
-loop-at-init g c = λ i h. rw (get_or-replicate {A = Option WireValue} g.row.N i None None h) (occur-skipped c.args.base c.skip_fields-at.ensures i (omega arith) 0 (seen_start (get_or c.args.numbers i 0) c.args.base c.args.s.now))
+loop-at-init g c = λ i h. rw (get_or-replicate {A = Option WireValue} g.row.N i None None h) (occur-skipped c.args.base c.skip_fields-at.ensures i (omega arith) (seen_start (get_or c.args.numbers i 0) c.args.base c.args.s.now))
 
 pub loop-at-smaller : goal.loop-at-smaller
 loop-at-smaller g c =
