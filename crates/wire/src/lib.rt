@@ -86,7 +86,7 @@ fn long_varint_at(s: &[u8], base: u32, at: usize) -> Result<Read<u64>, WireError
 
 // The varint at a place, if it has one or two bytes, as most have. These are the two steps for short varints: the continuation bit, which only
 // the first of two bytes has, is dropped; then the groups are joined, the last first.
-pub fn short_varint(s: &[u8], at: usize) -> Option<Read<u64>>
+fn short_varint(s: &[u8], at: usize) -> Option<Read<u64>>
     ensures { ShortTold s.now at result }
 {
     if s.len() <= at {
@@ -255,7 +255,7 @@ fn tagged_at(s: &[u8], base: u32, at: usize, tag: Read<u64>) -> Result<Read<Fiel
 // The field at a place, if its tag and the varint after it have one or two bytes each, and it is a varint or a body in the slice. A tag below 8
 // is field 0, which is forbidden; no such tag has a number that is too large.
 #[inline(always)]
-pub fn short_field(s: &[u8], at: usize) -> Option<Read<Field>>
+fn short_field(s: &[u8], at: usize) -> Option<Read<Field>>
     ensures { ShortFieldTold s.now at result }
 {
     let tag = short_varint(s, at)?;
