@@ -58,7 +58,7 @@ fn note_string(units: &[u16], ends: &[u32], index: u32, notes: &mut [u64], at: u
     if !is_long(part) || units.len() < part.end || 65535 < index || notes.len() <= at {
         return at;
     }
-    let size = utf8_size(units, part.start, part.end);
+    let size = utf8_size(&units[part.start..part.end]);
     notes[at] = u64::from(index) + 65536 * (size as u64);
     at + 1
 }

@@ -107,6 +107,6 @@ impl Encoded for &[u16] {
     }
 
     fn counted(self) -> Option<usize> {
-        Some(utf8_size(self, 0, self.len()))
+        Some(utf8_size(self))
     }
 }
