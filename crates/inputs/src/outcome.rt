@@ -49,7 +49,7 @@ pub fn stop_refusal(stop: Stop) -> Outcome
     ensures { RefusedAs (stop_cause stop) (stop_place stop) result }
 {
     match stop {
-        Stop::Wire { error } => wire_refusal(error),
+        Stop::Wire(error) => wire_refusal(error),
         Stop::TooManyTypes => refused(10, 0),
     }
 }

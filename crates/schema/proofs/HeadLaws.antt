@@ -230,7 +230,7 @@ module _ (base : ℕ) (s : List ℕ) where
     module _ (h : at < length s) where
       pub seeing-never : (error : WireError) → FieldTold base s (read_field (rest_of base s at)) (Err error)
           → (m : Message) → cut (◌from◌ base s) ≡ ok m → Known x m []
-      seeing-never error e = leads-never (◌from◌ base s) base s at error e h (Known x) l
+      seeing-never error e m w = leads-never (◌from◌ base s) base s at error e h (Known x) l m w
 
       pub seeing-next : (r : Read code.Field) → FieldTold base s (read_field (rest_of base s at)) (Ok r) → (y : Seen)
           → ((base : ℕ) (s : List ℕ) (m rest : Message) → Known x m (field r.value.number (value_of base s r.value.value) ∷ rest) → Known y m rest)

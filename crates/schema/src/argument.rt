@@ -6,7 +6,7 @@ ghost use Rattle.schema.specs.told.ArgumentTold.{ArgumentHeadTold};
 
 use fields::{TYPE_ARGUMENT_PROJECTION, TYPE_ARGUMENT_TYPE, TYPE_ARGUMENT_TYPE_ID};
 use foundation::Span;
-use messages::{find_three, index_in, number_in, piece_in};
+use messages::{find_each, index_in, number_in, piece_in};
 use wire::WireValue;
 
 // Projections, by the numbers of metadata.proto: 0 in, 1 out, 2 invariant, 3 star. A type that is no argument is invariant.
@@ -41,21 +41,23 @@ fn projection_of(found: Option<WireValue>) -> u8
 pub fn argument_head(msg: &[u8], base: u32) -> ArgumentHead
     ensures { ArgumentHeadTold base msg.now result }
 {
-    let found = find_three(
+    let [projection, inline, indexed] = find_each(
         msg,
         base,
-        TYPE_ARGUMENT_PROJECTION,
-        TYPE_ARGUMENT_TYPE,
-        TYPE_ARGUMENT_TYPE_ID,
+        [
+            TYPE_ARGUMENT_PROJECTION,
+            TYPE_ARGUMENT_TYPE,
+            TYPE_ARGUMENT_TYPE_ID,
+        ],
     );
-    let projection = projection_of(found.first);
+    let projection = projection_of(projection);
     if projection == STAR {
         return ArgumentHead::Star;
     }
-    if let Some(body) = piece_in(found.second) {
+    if let Some(body) = piece_in(inline) {
         return ArgumentHead::Inline { projection, body };
     }
-    match index_in(found.third) {
+    match index_in(indexed) {
         Some(index) => ArgumentHead::ByIndex { projection, index },
         None => ArgumentHead::Nothing,
     }
