@@ -25,7 +25,9 @@ fn noted_size(notes: &[u64], index: u32) -> usize
 }
 
 // Is a string of d2 that stands here long?
-fn is_long(part: Span) -> bool {
+fn is_long(part: Span) -> bool
+    ensures { result ≡ true → part.start ≤ part.end }
+{
     part.start <= part.end && LONG <= part.end - part.start
 }
 

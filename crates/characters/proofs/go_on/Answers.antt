@@ -35,7 +35,7 @@ loop-i-preserved c =
     let k = c.args.at + c.args.first.following - c.loop-i.i in
     let less = c.args.at + c.args.first.following - (c.loop-i.i + 1) in (
       sym (goes_on_lem c.args.s.now _ _ c.if-s-i.false c.from-byte.ensures k less _ _ (omega arith) (within _ _ _ c.if-byte-low.false c.if-high-byte.false))
-      ∙ c.loop-i.invariant.0,
+          ∙ c.loop-i.invariant.0,
       code_grows _ _ k less (omega arith) c.loop-i.invariant.1,
       omega arith,
     )
