@@ -15,8 +15,6 @@ use Rattle.wire.specs.Wire.{Message, cut}
 use Rattle.wire.specs.Messages.{cut_all, messages}
 use Rattle.wire.specs.told.WireTold.{rest_of, part_between}
 use Rattle.messages.specs.told.Asked.{bodies, NextIs, NextBodyTold, PieceInside, PieceAfter}
-use Rattle.wire.specs.declared.Piece.{Piece}
-use Rattle.wire.specs.declared.Piece.TheVariants as piece
 use Rattle.wire.proofs.WalkLaws.{whole, ok_same}
 use Rattle.characters.specs.told.Places.{part_from}
 use Rattle.declaration_rows.specs.Declarations.{Ty, Parameter}
@@ -25,9 +23,8 @@ use Rattle.schema.specs.Types.{max_depth}
 use Rattle.schema.specs.Members.{parameter_in, parameters_in}
 use Rattle.schema.specs.told.SchemaTold.{Lent, Scoped, EntryAt, Stands}
 use Rattle.schema.specs.told.TypesTold.{or_nullable}
-use Rattle.schema.specs.told.PlacesTold.{TableOf, TypeFound, FoundTypeTold, FoundTypeInside, FoundTypeFalls, DeclaredFound}
+use Rattle.schema.specs.told.PlacesTold.{found_type, TableOf, TypeFound, FoundTypeTold, FoundTypeInside, FoundTypeFalls, DeclaredFound}
 use Rattle.schema.specs.declared.FoundType.{FoundType}
-use Rattle.schema.specs.declared.FoundType.TheVariants as found
 use Rattle.schema.proofs.ListLaws.{First, cut-first}
 use Rattle.schema.proofs.StandsLaws.{part-ends, stands-cut, stands-entry, body-stands}
 use Rattle.erasure.specs.Erasure.{print_returned}
@@ -39,20 +36,22 @@ use Rattle.descriptors.specs.told.DefaultsTold.{erased_at, part_cost, PartWithin
 use Rattle.descriptors.specs.told.PartsTold.{PartRoom, Gave, PartOf, TypeGiven, type_part, preceded}
 use Rattle.descriptors.proofs.GivenLaws.{parameters-given, FirstGiven, first-given, none-given, parameter_type}
 use Rattle.descriptors.proofs.JoinLaws.{both, parameters_cons, text_none, text_then, told_then, told_absent, told_same, preceded-sum}
+use Rattle.foundation.specs.declared.Span.{Span}
+use Rattle.messages.specs.told.Asked.{span}
 
 -- A declaration's own type at its position, by the place of its message.
-module _ (e : Lent) (at : ℕ) (position : Position) {start end inline indexed : ℕ} {x : FoundType}
+module _ (e : Lent) (at : ℕ) (position : Position) {start end inline indexed : ℕ} {x : std.Option FoundType}
     (t : DeclaredFound e.payload e.notes e.tables start end inline indexed x) where
-  place : {y : FoundType} → x ≡ y → (c : Scope) → Scoped e c → (m : Message) → EntryAt e.payload start end m → (o : Option Ty)
+  place : {y : std.Option FoundType} → x ≡ y → (c : Scope) → Scoped e c → (m : Message) → EntryAt e.payload start end m → (o : Option Ty)
       → TypeGiven inline indexed c m o → FoundTypeTold e.payload c o y
   place g c s m k o h =
       let table : TableOf e.payload e.notes e.tables c = record { entries = s.entries; nullable = s.nullable } in
       subst (FoundTypeTold e.payload c o) g (t.is c table m k o h.before h.after h.is)
 
-  pub type-nowhere : x ≡ found.Nothing → {A A₁ : List ℕ} → PartOf (TypeGiven inline indexed) (type_part position) part_cost e start end at None A A₁
+  pub type-nowhere : x ≡ None → {A A₁ : List ℕ} → PartOf (TypeGiven inline indexed) (type_part position) part_cost e start end at None A A₁
   type-nowhere g = record { within = tt; is = λ c s m k o h. rw (place g c s m k o h) }
 
-  module _ {here to left : ℕ} {nullable : Bool} (g : x ≡ found.Type here to nullable left) where
+  module _ {here to left : ℕ} {nullable : Bool} (g : x ≡ Some (found_type here to nullable left)) where
     pub type-inside : (here ≤ to) × (to ≤ length e.payload) × (left ≤ max_depth)
     type-inside =
         let i = subst (FoundTypeInside e.payload) g t.inside in
@@ -111,12 +110,12 @@ parts-start e msg base number at A₀ st = record {
 }
 
 module _ {e : Lent} {msg : List ℕ} {base number at : ℕ} {A₀ : List ℕ} {here size : ℕ} {A : List ℕ} (p : Parting e msg base number at A₀ here size A)
-    {x : Piece} (t : NextBodyTold base msg number here x) where
-  next-is : {y : Piece} → x ≡ y → {c : Scope} {ps : List Parameter} (g : Rest c msg base number at ps A₀ here size A)
+    {x : std.Option Span} (t : NextBodyTold base msg number here x) where
+  next-is : {y : std.Option Span} → x ≡ y → {c : Scope} {ps : List Parameter} (g : Rest c msg base number at ps A₀ here size A)
       → NextIs base msg number g.rest y
   next-is q g = subst (NextIs base msg number g.rest) q (t.is g.rest g.cuts)
 
-  pub parts-end : x ≡ piece.Nothing → ParametersTold e base (base + length msg) number at (Some size) A₀ A
+  pub parts-end : x ≡ None → ParametersTold e base (base + length msg) number at (Some size) A₀ A
   unfolding cut_all
   parts-end q = record {
     within = omega (arith, p.few, p.inside);
@@ -129,7 +128,7 @@ module _ {e : Lent} {msg : List ℕ} {base number at : ℕ} {A₀ : List ℕ} {h
         subst (λ (n : ℕ). PartTold (parameters_part ps) at (Some n) A₀ A) (add-zero size) (g.told (Some 0) A last);
   }
 
-  module _ {a b : ℕ} (q : x ≡ piece.Body a b) where
+  module _ {a b : ℕ} (q : x ≡ Some (span a b)) where
     pub part_in : (a ≤ b) × (b ≤ length msg) × (here < b)
     part_in = let i = subst (PieceInside msg) q t.inside in (i.0, i.1, subst (PieceAfter here) q t.later)
 

@@ -17,9 +17,8 @@ use Rattle.schema.specs.Reading.{Scope}
 use Rattle.schema.specs.Types.{max_depth}
 use Rattle.schema.specs.told.SchemaTold.{Lent, Scoped, EntryAt}
 use Rattle.schema.specs.told.TypesTold.{or_nullable}
-use Rattle.schema.specs.told.PlacesTold.{TableOf, TypeFound, FoundTypeInside, reach, FoundTypeFalls, head_type, Unnamed, ElementTold, ArgumentFound}
+use Rattle.schema.specs.told.PlacesTold.{found_type, TableOf, TypeFound, FoundTypeInside, reach, FoundTypeFalls, head_type, Unnamed, ElementTold, ArgumentFound}
 use Rattle.schema.specs.declared.FoundType.{FoundType}
-use Rattle.schema.specs.declared.FoundType.TheVariants as found
 use Rattle.schema.proofs.StandsLaws.{part-ends}
 use Rattle.schema.proofs.GivenLaws.{Entered, type_entered}
 use Rattle.erasure.specs.Erasure.{Erased, first_erased, of_type, print, print_returned}
@@ -154,14 +153,14 @@ module _ {e : Lent} {start end : ℕ} {nullable : Bool} {left : ℕ} {position :
       is = λ c o t i. let u = w.rest c o t i in u.is ∙ ap (after u.front) (part-is c o u.type u.found q);
     }
 
-    module _ (q : r ≡ Some type_part.Bracket) {less : ℕ} (l : less ≡ deep - 1) {s : FoundType}
+    module _ (q : r ≡ Some type_part.Bracket) {less : ℕ} (l : less ≡ deep - 1) {s : std.Option FoundType}
         (a : ArgumentFound e.payload e.notes e.tables first (first + length (part_from first last e.payload)) less s) where
       -- the first kept argument of the type here
       module _ (c : Scope) (o : Scoped e c) (u : Ty) (f : TypeFound e.payload c first last deep u) where
         given : Entered c f.depth f.message u
         given = type_entered c f.depth f.message u f.before f.after f.given
 
-        argument_is : {y : FoundType} → s ≡ y → ElementTold e.payload c (head_type given.types) y
+        argument_is : {y : std.Option FoundType} → s ≡ y → ElementTold e.payload c (head_type given.types) y
         argument_is g =
             let table : TableOf e.payload e.notes e.tables c = record { entries = o.entries; nullable = o.nullable } in
             let deeper : less ≡ max_depth - (f.depth + 1) = omega (arith, f.deep) in
@@ -175,7 +174,7 @@ module _ {e : Lent} {start end : ℕ} {nullable : Bool} {left : ℕ} {position :
         text-is : text_at here said u ≡ map_option (λ e. 0x5b ∷ print e) (first_erased true (types_of given.types))
         text-is = (part-is c o u f q).0 ∙ ap (map_option (λ e. 0x5b ∷ print e)) inner-is
 
-      pub walking-empty : s ≡ found.Nothing → ErasedTold e start end left nullable position at None A₀ A₁
+      pub walking-empty : s ≡ None → ErasedTold e start end left nullable position at None A₀ A₁
       walking-empty g = record {
         within = tt;
         is = λ c o t i.
@@ -184,7 +183,7 @@ module _ {e : Lent} {start end : ℕ} {nullable : Bool} {left : ℕ} {position :
             u.is ∙ ap (after u.front) (text-is c o u.type u.found ∙ ap (map_option (λ e. 0x5b ∷ print e)) none_kept);
       }
 
-      module _ {start' end' left' : ℕ} {nullable' : Bool} (g : s ≡ found.Type start' end' nullable' left') where
+      module _ {start' end' left' : ℕ} {nullable' : Bool} (g : s ≡ Some (found_type start' end' nullable' left')) where
         falls : (left' ≤ less) × (reach left' start' end' < reach less first last)
         falls = subst (FoundTypeFalls less first last) g (subst (λ (n : ℕ). FoundTypeFalls less first n s) here-ends a.falls)
 

@@ -23,9 +23,8 @@ use messages::next_body;
 use schema::flags::flags_in;
 use schema::places::declared_place;
 use schema::receiver::has_receiver;
-use schema::{FoundType, Tables, TypeSlot};
+use schema::{Tables, TypeSlot};
 use sheet::{put, put_all};
-use wire::Piece;
 
 // A declaration's own type at its position. A type that isn't there has no descriptor. The slot's role is not looked at.
 fn type_part(
@@ -44,24 +43,15 @@ fn type_part(
     requires { PartRoom payload.now d2.now msg.now base part_cost at }
     ensures { PartOf (TypeGiven slot.inline slot.indexed) (type_part position) part_cost (lent payload.now d2.now ends.now notes.now tables) base (base + length msg.now) at result area.old area.new }
 {
-    let found = declared_place(msg, base, slot, payload, notes, tables);
-    let FoundType::Type {
-        start: from,
-        end: to,
-        nullable,
-        left,
-    } = found
-    else {
-        return None;
-    };
+    let found = declared_place(msg, base, slot, payload, notes, tables)?;
     let placed = Placement {
-        nullable,
-        left,
+        nullable: found.nullable,
+        left: found.left,
         position,
     };
     put_erased(
-        &payload[from..to],
-        from as u32,
+        &payload[found.start..found.end],
+        found.start as u32,
         placed,
         payload,
         d2,
@@ -92,14 +82,13 @@ fn parameter_parts(
     let mut from = 0;
     let mut size = 0;
     loop {
-        let piece = next_body(msg, base, number, from);
-        let Piece::Body { start, end } = piece else {
+        let Some(parameter) = next_body(msg, base, number, from) else {
             return Some(size);
         };
-        from = end;
+        from = parameter.end;
         size += type_part(
-            &msg[start..end],
-            base + start as u32,
+            &msg[parameter.start..parameter.end],
+            base + parameter.start as u32,
             TypeSlot {
                 inline: VALUE_PARAMETER_TYPE,
                 indexed: VALUE_PARAMETER_TYPE_ID,

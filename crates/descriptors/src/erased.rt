@@ -12,11 +12,10 @@ use characters::utf16_at;
 use erasure::{Meaning, Position, Printed, meaning_of, printed_as, put_part};
 use names::name::{Name, change_of, character_of, is_there, part_of};
 use names::stream::put_name;
+use schema::Tables;
 use schema::head::type_head;
 use schema::name::class_name_at;
 use schema::places::first_argument;
-use schema::types::{either, less};
-use schema::{FoundType, Tables};
 use sheet::put;
 
 // How a type is placed: whether it is nullable by its place in the type table, what is left of the depth there, and its position in the
@@ -121,13 +120,12 @@ fn put_type_part(
     ensures { TypePartTold (lent payload.now d2.now ends.now notes.now tables) base (base + length msg.now) placed.nullable placed.position at result area.old area.new }
 {
     let head = type_head(msg, base);
-    let found = head.name;
-    let name = class_name_at(found, payload, d2, ends, notes, tables.records);
+    let name = class_name_at(head.name, payload, d2, ends, notes, tables.records);
     if !is_there(name) {
         return None;
     }
     let meaning = name_meaning(payload, d2, name);
-    let nullable = either(placed.nullable, head.nullable);
+    let nullable = placed.nullable || head.nullable;
     let printed = printed_as(meaning, nullable, placed.position)?;
     Some(put_printed(printed, payload, d2, name, area, at))
 }
@@ -173,25 +171,16 @@ pub(crate) fn put_erased(
         let found = first_argument(
             &payload[start..end],
             start as u32,
-            less(here.left),
+            here.left.saturating_sub(1),
             payload,
             notes,
             tables,
-        );
-        let FoundType::Type {
-            start: first,
-            end: last,
-            nullable,
-            left,
-        } = found
-        else {
-            return None;
-        };
-        start = first;
-        end = last;
+        )?;
+        start = found.start;
+        end = found.end;
         here = Placement {
-            nullable,
-            left,
+            nullable: found.nullable,
+            left: found.left,
             position: Position::Element,
         };
         next += 1;

@@ -53,17 +53,17 @@ slice_bounds-first_argument-end c = c.loop-one.invariant.0.inside
 pub overflow_cast-start-in-loop-one-2 : goal.overflow_cast-start-in-loop-one-2
 overflow_cast-start-in-loop-one-2 c = omega (arith, c.loop-one.invariant.0.ordered, c.loop-one.invariant.0.inside, c.requires.2)
 
-pub first_argument-found-requires : goal.first_argument-found-requires
-first_argument-found-requires c = (part-stands c.args.payload.now c.loop-one.start c.loop-one.end c.loop-one.invariant.0.ordered c.loop-one.invariant.0.inside, c.requires.2)
+pub first_argument-requires : goal.first_argument-requires
+first_argument-requires c = (part-stands c.args.payload.now c.loop-one.start c.loop-one.end c.loop-one.invariant.0.ordered c.loop-one.invariant.0.inside, c.requires.2)
 
-pub returns-in_default : goal.returns-in_default
-returns-in_default c = walking-empty c.loop-one.invariant.0 c.put_type_part.ensures (c.in_ok-one.was ∙ ap Some c.in-Bracket.is) c.less.ensures c.first_argument-found.ensures c.in_default.is
+pub returns-in_err-found : goal.returns-in_err-found
+returns-in_err-found c = rw c.from_residual-in_err-found.ensures (walking-empty c.loop-one.invariant.0 c.put_type_part.ensures (c.in_ok-one.was ∙ ap Some c.in-Bracket.is) c.saturating_sub.ensures c.first_argument.ensures c.in_err-found.was)
 
 pub overflow_add-next : goal.overflow_add-next
 overflow_add-next c = let h = walking-few c.loop-one.invariant.0 c.requires.1 c.requires.0.inside c.requires.2 in omega (arith, c.requires.4)
 
 pub loop-one-smaller : goal.loop-one-smaller
-loop-one-smaller c = walking-less c.loop-one.invariant.0 c.put_type_part.ensures (c.in_ok-one.was ∙ ap Some c.in-Bracket.is) c.less.ensures c.first_argument-found.ensures c.in-Type.is
+loop-one-smaller c = walking-less c.loop-one.invariant.0 c.put_type_part.ensures (c.in_ok-one.was ∙ ap Some c.in-Bracket.is) c.saturating_sub.ensures c.first_argument.ensures c.in_ok-found.was
 
 pub loop-one-preserved : goal.loop-one-preserved
-loop-one-preserved c = (walking_on c.loop-one.invariant.0 c.put_type_part.ensures (c.in_ok-one.was ∙ ap Some c.in-Bracket.is) c.less.ensures c.first_argument-found.ensures c.in-Type.is, c.put_type_part.auto.area ∙ c.loop-one.invariant.1)
+loop-one-preserved c = (walking_on c.loop-one.invariant.0 c.put_type_part.ensures (c.in_ok-one.was ∙ ap Some c.in-Bracket.is) c.saturating_sub.ensures c.first_argument.ensures c.in_ok-found.was, c.put_type_part.auto.area ∙ c.loop-one.invariant.1)
