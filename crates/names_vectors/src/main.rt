@@ -130,7 +130,7 @@ fn print_name(rt: &impl Print, payload: &[u8], units: &[u16], name: Name) -> io:
     if source == 3 {
         return print_text(rt, part_of(units, start, end), change);
     }
-    let s = names::name::base_part(payload, &PREDEFINED, source, start, end);
+    let s = names::name::base_text(payload, &PREDEFINED, source, start, end);
     print_text(rt, s, change)
 }
 
