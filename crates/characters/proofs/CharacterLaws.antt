@@ -9,7 +9,7 @@ use lib.ListN.{length, drop, length-drop}
 use lib.Seq.{drop-nil, drop-drop}
 use Rattle.foundation.specs.Texts.{Text}
 use Rattle.characters.specs.Characters.{is_scalar, step, from_utf8_after, from_utf8}
-use Rattle.characters.specs.told.CharactersTold.{Character, read, utf8_at}
+use Rattle.characters.specs.told.CharactersTold.{Character, character_read, utf8_at}
 use Rattle.std.specs.declared.option.Option.TheVariants.{Some, None}
 use Rattle.characters.proofs.ScalarLaws.{step_scalar}
 use Rattle.characters.proofs.LengthLaws.{step_most}
@@ -35,7 +35,7 @@ abbrev next_of : Character → ℕ
 next_of (Some r) = r.next
 next_of None = 0
 
-pub read-parts : {code next code' next' : ℕ} → read code next ≡ read code' next' → (code ≡ code') × (next ≡ next')
+pub read-parts : {code next code' next' : ℕ} → character_read code next ≡ character_read code' next' → (code ≡ code') × (next ≡ next')
 read-parts e = (ap code_of e, ap next_of e)
 
 -- What a character of the bytes bs, which go on at `at`, says.
@@ -71,7 +71,7 @@ module _ (s : List ℕ) (at : ℕ) where
   unfolding from_utf8_after
   utf8-end e = ap from_utf8 (utf8-none e)
 
-  module _ {code next : ℕ} (e : utf8_at at (drop at s) ≡ read code next) where
+  module _ {code next : ℕ} (e : utf8_at at (drop at s) ≡ character_read code next) where
     told : Character8 at (drop at s) code next
     told = subst (Says at (drop at s)) e (says at (drop at s))
 

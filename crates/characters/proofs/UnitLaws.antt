@@ -14,7 +14,7 @@ use Rattle.foundation.proofs.ChoiceLaws.{if_ind}
 use Rattle.characters.specs.Characters.{is_scalar, is_high, is_low, lone, pair, replacement, from_utf16}
 use Rattle.characters.specs.told.Places.{part_from}
 use Rattle.characters.specs.WellFormed.{Units}
-use Rattle.characters.specs.told.CharactersTold.{Character, read, paired_at, utf16_at}
+use Rattle.characters.specs.told.CharactersTold.{Character, character_read, paired_at, utf16_at}
 use Rattle.std.specs.declared.option.Option.TheVariants.{Some, None}
 use Rattle.characters.proofs.TestLaws.{above, under}
 use Rattle.characters.proofs.ScalarLaws.{lone_scalar, pair_scalar, replacement_scalar}
@@ -29,7 +29,7 @@ module _ (s : List ℕ) (at end : ℕ) where
 
 -- What stands at a place: nothing past the end, or a unit.
 module _ (s : List ℕ) (at : ℕ) where
-  pub pair-missing : (high : ℕ) → length s ≤ at → read replacement at ≡ paired_at high at (drop at s)
+  pub pair-missing : (high : ℕ) → length s ≤ at → character_read replacement at ≡ paired_at high at (drop at s)
   unfolding paired_at
   pair-missing high h = rw (drop_of_length-le s h)
 
@@ -41,20 +41,20 @@ module _ (s : List ℕ) (at : ℕ) where
     there : drop at s ≡ u ∷ drop (at + 1) s
     there = drop-cons s at 0 h ∙ rw (i, add-one at)
 
-    pub pair-wrong : (high : ℕ) → is_low u ≡ false → read replacement at ≡ paired_at high at (drop at s)
+    pub pair-wrong : (high : ℕ) → is_low u ≡ false → character_read replacement at ≡ paired_at high at (drop at s)
     unfolding paired_at
     pair-wrong high l = rw (there, l)
 
-    pub pair-right : (high : ℕ) → is_low u ≡ true → read (pair high u) (at + 1) ≡ paired_at high at (drop at s)
+    pub pair-right : (high : ℕ) → is_low u ≡ true → character_read (pair high u) (at + 1) ≡ paired_at high at (drop at s)
     unfolding paired_at
     pair-right high l = rw (there, l)
 
-    pub unit-plain : (u < 0xd800) ⊎ ((0xd800 ≤ u) × (0xdfff < u)) → read u (at + 1) ≡ utf16_at at (drop at s)
+    pub unit-plain : (u < 0xd800) ⊎ ((0xd800 ≤ u) × (0xdfff < u)) → character_read u (at + 1) ≡ utf16_at at (drop at s)
     unfolding utf16_at
     unit-plain (inl k) = rw there (rw (under 0xd800 0xdbff u k, under 0xdc00 0xdfff u (omega arith)))
     unit-plain (inr k) = rw there (rw (above 0xd800 0xdbff u (omega arith), above 0xdc00 0xdfff u k.1))
 
-    pub unit-low : is_high u ≡ false → is_low u ≡ true → read replacement (at + 1) ≡ utf16_at at (drop at s)
+    pub unit-low : is_high u ≡ false → is_low u ≡ true → character_read replacement (at + 1) ≡ utf16_at at (drop at s)
     unfolding utf16_at
     unit-low k l = rw there (rw (k, l))
 
@@ -103,7 +103,7 @@ module _ (s : List ℕ) (at : ℕ) where
   unfolding from_utf16
   utf16-end e = ap from_utf16 (subst (Says at (drop at s)) e (says at (drop at s)))
 
-  module _ {code next : ℕ} (e : utf16_at at (drop at s) ≡ read code next) where
+  module _ {code next : ℕ} (e : utf16_at at (drop at s) ≡ character_read code next) where
     told : Character16 at (drop at s) code next
     told = subst (Says at (drop at s)) e (says at (drop at s))
 

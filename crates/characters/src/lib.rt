@@ -7,7 +7,7 @@ ghost use Rattle.std.proofs.lemmas.List.Edits.{sets};
 ghost use Rattle.std.proofs.Math.Option.{some};
 ghost use Rattle.characters.specs.Characters.{width};
 ghost use Rattle.characters.specs.told.Places.{place_of};
-ghost use Rattle.characters.specs.told.CharactersTold.{read, lead_byte, lead_byte_of, first_byte_told, ranges, go_on, utf8_at, paired_at, utf16_at, place_told, PutCharacter};
+ghost use Rattle.characters.specs.told.CharactersTold.{character_read, lead_byte, lead_byte_of, first_byte_told, ranges, go_on, utf8_at, paired_at, utf16_at, place_told, PutCharacter};
 
 use foundation::Read;
 
@@ -16,7 +16,7 @@ pub mod measure; // measure.rt: how long texts of 16-bit units are in UTF-8
 
 // U+FFFD for what is no character.
 fn replaced(next: usize) -> Option<Read<u32>>
-    ensures { result ≡ read 0xfffd next }
+    ensures { result ≡ character_read 0xfffd next }
 {
     Some(Read {
         value: 0xfffd,

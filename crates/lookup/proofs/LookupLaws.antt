@@ -19,7 +19,7 @@ use Rattle.names.specs.Records.{decides}
 use Rattle.names.specs.Names.{Names, record_at, strings_from, d2_string, string, qualified_name}
 use Rattle.names.specs.told.Name.{source_text, sized, turned, name_text, absent_name}
 use Rattle.names.specs.told.Index.{start_of, end_of, IndexOf}
-use Rattle.lookup.specs.told.Lookups.{found_in, FoundBelow, FindTold, NotesOf, WordsTold, DecidedIs, DecidedTold}
+use Rattle.lookup.specs.told.Lookups.{found_in, FoundBelow, FindTold, NotesOf, NotedWords, DecidedIs, DecidedTold}
 use Rattle.record_names.specs.told.Named.{NamedIs, ClassIs}
 use Rattle.record_names.specs.told.Note.{noted, noted_class}
 use Rattle.record_names.specs.told.Steps.{extent_of}
@@ -54,13 +54,13 @@ module _ (payload units ends : List ℕ) (index : ℕ) {r : rust.Option Span} (e
 
 -- The look-up: the words of the record that serves.
 module _ (notes : List ℕ) (count index : ℕ) {f : rust.Option ℕ} (t : FindTold notes count index f) where
-  pub words-none : f ≡ None → WordsTold notes count index None
+  pub words-none : f ≡ None → NotedWords notes count index None
   words-none g bytes records i = t.is records i.sums ∙ ap (found_in records) g
 
   pub words-inside : {k : ℕ} → f ≡ Some k → k < count
   words-inside g = subst (FoundBelow count) g t.below
 
-  pub words-some : {k : ℕ} → f ≡ Some k → WordsTold notes count index (Some record { place = get_or notes (3 * k) 0; steps = get_or notes (3 * k + 1) 0 })
+  pub words-some : {k : ℕ} → f ≡ Some k → NotedWords notes count index (Some record { place = get_or notes (3 * k) 0; steps = get_or notes (3 * k + 1) 0 })
   words-some {k} g bytes records i =
       let h : k < count = words-inside g in
       let one = elem_some records k (omega (arith, i.sums.many)) in
@@ -68,11 +68,11 @@ module _ (notes : List ℕ) (count index : ℕ) {f : rust.Option ℕ} (t : FindT
 
 -- What they say of its name, and of its class name.
 module _ (notes : List ℕ) (count index : ℕ) where
-  pub by-none : (class : Bool) → WordsTold notes count index None → DecidedTold notes count index class None
+  pub by-none : (class : Bool) → NotedWords notes count index None → DecidedTold notes count index class None
   unfolding string
   by-none class w bytes units records d2 i = rw (w bytes records i)
 
-  module _ {w : Words} (t : WordsTold notes count index (Some w)) where
+  module _ {w : Words} (t : NotedWords notes count index (Some w)) where
     named : (bytes units : List ℕ) (names : Names) (r : definition.Record) (d : rust.Option Name) → record_at index names.records ≡ some r
         → NamedIs bytes units r d → DecidedIs bytes units false names index d
     unfolding string

@@ -7,7 +7,7 @@ ghost use Rattle.names.specs.Records.{Record};
 ghost use Rattle.foundation.specs.Results.{ok};
 ghost use Rattle.names.specs.told.Name.{name_text};
 ghost use Rattle.names.specs.Names.{strings_from, ends_fit, d2_string, string};
-ghost use Rattle.lookup.specs.told.Lookups.{ServesTold, FindTold, PlaceTold, NotesOf, WordsTold, DecidedTold};
+ghost use Rattle.lookup.specs.told.Lookups.{ServesTold, FindTold, PlaceTold, NotesOf, NotedWords, DecidedTold};
 ghost use Rattle.names.specs.told.Index.{served_from};
 ghost use Rattle.record_names.specs.told.Steps.{extent_of};
 ghost use Rattle.lookup.specs.told.Strings.{SizesOf};
@@ -120,7 +120,7 @@ pub(crate) fn place_of(bytes: &[u8], notes: &[u64], at: usize) -> Option<Span>
 
 // What is noted of the record that serves an index.
 fn words_of(notes: &[u64], count: usize, index: u32) -> Option<Words>
-    ensures { WordsTold notes.now count index result }
+    ensures { NotedWords notes.now count index result }
 {
     let at = find_record(notes, count, index)?;
     Some(Words {

@@ -6,7 +6,7 @@ use Prim.Native.Nat.{ℕ, ◌<◌}
 use lib.ListN.{length}
 use Rattle.foundation.specs.Results.{Part, ◌from◌}
 use Rattle.wire.specs.Wire.{read_field, cut}
-use Rattle.wire.specs.told.WireTold.{rest_of, field_of, FieldTold, SkipTold}
+use Rattle.wire.specs.told.WireTold.{rest_of, told_field, FieldTold, SkipTold}
 use Rattle.std.specs.Prelude.{Result, Ok, Err}
 use Rattle.wire.specs.declared.WireError.{WireError}
 use Rattle.wire.specs.declared.Field as code
@@ -16,7 +16,7 @@ use Rattle.messages.specs.told.Asked.{CheckedTold}
 
 module _ (base : ℕ) (s : List ℕ) (at : ℕ) (x : Read code.Field) (e : FieldTold base s (read_field (rest_of base s at)) (Ok x)) (h : at < length s) where
   pub checked-field : (c : Result Unit WireError) → CheckedTold (cut (rest_of base s x.next)) c → CheckedTold (cut (rest_of base s at)) c
-  checked-field (Ok u) (m, w) = (field_of base s x.value ∷ m, cut_field base s at x e h ∙ rw w)
+  checked-field (Ok u) (m, w) = (told_field base s x.value ∷ m, cut_field base s at x e h ∙ rw w)
   checked-field (Err error) w = cut_field base s at x e h ∙ rw w
 
 pub checked_whole : (base : ℕ) (s : List ℕ) (c : Result Unit WireError) → CheckedTold (cut (rest_of base s 0)) c → CheckedTold (cut (◌from◌ base s)) c

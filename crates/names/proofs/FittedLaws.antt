@@ -15,7 +15,7 @@ use Rattle.foundation.specs.Texts.{Text}
 use Rattle.foundation.proofs.ChoiceLaws.{if_ind}
 use Rattle.foundation.proofs.OverlayLaws.{sets_out}
 use Rattle.characters.specs.Characters.{width, utf8_of, utf8}
-use Rattle.characters.specs.told.CharactersTold.{Character, read, PutCharacter}
+use Rattle.characters.specs.told.CharactersTold.{Character, character_read, PutCharacter}
 use Rattle.foundation.specs.declared.Read.{Read}
 use Rattle.std.specs.declared.option.Option.TheVariants.{Some, None}
 use Rattle.characters.proofs.LengthLaws.{width_most, bytes_cons}
@@ -128,7 +128,7 @@ module _ (h : Change) (left end : ℕ) (l : 0 < left) {r : Read ℕ} where
   unfolding fitted
   fitted-end rest rest' e f g = rw (g, e, f) (record { fits = rw zero-width l; is = zeros-step left l })
 
-  pub fitted-next : (rest : Text) (after : ℕ → Text) {code next : ℕ} → rest ≡ code ∷ after next → after end ≡ [] → r ≡ fitted_of h left end (read code next)
+  pub fitted-next : (rest : Text) (after : ℕ → Text) {code next : ℕ} → rest ≡ code ∷ after next → after end ≡ [] → r ≡ fitted_of h left end (character_read code next)
       → FittedStep left (map (changed h) rest) (map (changed h) (after r.next)) r
   fitted-next rest after {code} {next} e f g = rw (g, e) (go (leb (width (changed h code)) left) refl)
     where
@@ -201,7 +201,7 @@ module _ (h : Change) (left end : ℕ) {ch : Character} where
   pub fitted-of-end : ch ≡ None → ◌≡◌ {A = Read ℕ} (record { value = 0; next = end }) (fitted_of h left end ch)
   fitted-of-end e = rw e
 
-  module _ {code next c w : ℕ} (e : ch ≡ read code next) (f : c ≡ changed h code) (g : w ≡ width c) where
+  module _ {code next c w : ℕ} (e : ch ≡ character_read code next) (f : c ≡ changed h code) (g : w ≡ width c) where
     pub fitted-of-fits : w ≤ left → ◌≡◌ {A = Read ℕ} (record { value = c; next = next }) (fitted_of h left end ch)
     fitted-of-fits l = rw (e, ← f, ← g, le-leb w left l)
 

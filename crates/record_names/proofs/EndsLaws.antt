@@ -13,7 +13,7 @@ use Rattle.foundation.specs.Choices.{map_option}
 use Rattle.foundation.specs.Texts.{Text}
 use Rattle.characters.specs.Characters.{is_scalar, from_utf8_after, from_utf8}
 use Rattle.characters.specs.told.Places.{part_from}
-use Rattle.characters.specs.told.CharactersTold.{read, utf8_at}
+use Rattle.characters.specs.told.CharactersTold.{character_read, utf8_at}
 use Rattle.characters.proofs.CharacterLaws.{utf8-none, utf8-end, utf8-inside, utf8-next}
 use Rattle.characters.proofs.SplitLaws.{Boundary, boundary_start, boundary-next, boundary-text}
 use Rattle.characters.proofs.PartLaws.{rest-is}
@@ -94,7 +94,7 @@ module _ (s : List ℕ) where
         go [] f = refl
         go (b ∷ l) f = absurd (f (omega arith))
 
-    module _ {code next : ℕ} (e : utf8_at at (drop at s) ≡ read code next) where
+    module _ {code next : ℕ} (e : utf8_at at (drop at s) ≡ character_read code next) where
       pub begins-next : next < length s → Begins next
       begins-next h = record { inside = λ l. h; boundary = boundary-next s i.boundary e }
 
@@ -112,7 +112,7 @@ module _ (s : List ℕ) where
   unfolding without_ends
   ends-none e = rw (utf8-end s 0 e)
 
-  module _ {code next : ℕ} (e : utf8_at 0 (drop 0 s) ≡ read code next) where
+  module _ {code next : ℕ} (e : utf8_at 0 (drop 0 s) ≡ character_read code next) where
     pub next-inside : next ≤ length s
     next-inside = (utf8-inside s 0 e).1
 

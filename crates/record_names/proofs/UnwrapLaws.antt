@@ -15,7 +15,7 @@ use Rattle.foundation.specs.Choices.{if_some, map_option}
 use Rattle.foundation.specs.Texts.{Text}
 use Rattle.characters.specs.Characters.{width, utf8_of, utf8, from_utf8}
 use Rattle.characters.specs.told.Places.{part_from}
-use Rattle.characters.specs.told.CharactersTold.{read, utf8_at}
+use Rattle.characters.specs.told.CharactersTold.{character_read, utf8_at}
 use Rattle.characters.specs.told.Plain.{instead}
 use Rattle.characters.proofs.TestLaws.{below}
 use Rattle.foundation.proofs.EveryLaws.{map_twice}
@@ -168,7 +168,7 @@ module _ (s : List ℕ) (from to : ℕ) where
   pub unwrap-empty : utf8_at 0 (drop 0 s) ≡ None → UnwrapTold s from to None
   unwrap-empty e = ap (λ (t : Text). unwrapped (substituted from to t)) (utf8-end s 0 e) ∙ ap (substituted from to) (sym (utf8-end s 0 e))
 
-  module _ {code next : ℕ} (e : utf8_at 0 (drop 0 s) ≡ read code next) {c : ℕ} (p : c ≡ instead from to code) where
+  module _ {code next : ℕ} (e : utf8_at 0 (drop 0 s) ≡ character_read code next) {c : ℕ} (p : c ≡ instead from to code) where
     -- the whole, if its text stays
     stays : {t : Text} → from_utf8 s ≡ t → unwrapped (substituted from to t) ≡ substituted from to t → UnwrapTold s from to None
     stays q f = rw q f

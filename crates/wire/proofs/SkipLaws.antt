@@ -9,7 +9,7 @@ use lib.ListN.{length, get_or}
 use Rattle.foundation.specs.Results.{Res, ok, refused, ◌>>=◌, Part, map_got}
 use Rattle.wire.specs.Wire.{varint, body, field, is_field_number, Message, cut}
 use Rattle.wire.specs.Messages.{values}
-use Rattle.wire.specs.told.WireTold.{rest_of, value_of, field_of, ShortRead, ShortField, Skips, SkipTold}
+use Rattle.wire.specs.told.WireTold.{rest_of, value_of, told_field, ShortRead, ShortField, Skips, SkipTold}
 use Rattle.wire.specs.declared.WireValue.TheVariants as wire
 use Rattle.wire.specs.declared.Field as code
 use Rattle.foundation.specs.declared.Read.{Read}
@@ -101,7 +101,7 @@ skip-field s k at {x} f d = record {
   later = omega (arith, f.later);
   inside = omega (arith, f.inside, f.later);
   is = λ base. record {
-    fields = field_of base s x.value ∷ [];
+    fields = told_field base s x.value ∷ [];
     others = values-passed k (value_of base s x.value.value) [] d;
     cuts = cut_field base s at x (f.is base) (omega (arith, f.later, f.inside));
   };

@@ -11,7 +11,7 @@ use Rattle.foundation.specs.Results.{Res, ok, refused, ◌>>=◌, Part, ◌from�
 use Rattle.foundation.proofs.ResultLaws.{gives-ok}
 use Rattle.wire.specs.Wire.{Value, field, read_field, Message, cut}
 use Rattle.wire.specs.Messages.{values}
-use Rattle.wire.specs.told.WireTold.{wire_refused, rest_of, field_of, FieldTold}
+use Rattle.wire.specs.told.WireTold.{wire_refused, rest_of, told_field, FieldTold}
 use Rattle.wire.specs.declared.WireError.{WireError}
 use Rattle.wire.specs.declared.Field as code
 use Rattle.foundation.specs.declared.Read.{Read}
@@ -48,13 +48,13 @@ module _ (base : ℕ) (s : List ℕ) where
           after-inside base s at x.next h a.1
 
       module _ (h : at < length s) where
-        pub cut_field : cut (rest_of base s at) ≡ (cut (rest_of base s x.next) >>= λ m. ok (field_of base s x.value ∷ m))
+        pub cut_field : cut (rest_of base s at) ≡ (cut (rest_of base s x.next) >>= λ m. ok (told_field base s x.value ∷ m))
         cut_field = cut_next (rest_of base s at) (byte_left s at h) ∙ rw e.0
 
         -- of a message that is cut
         pub cut-goes-on : {m : Message} → cut (rest_of base s at) ≡ ok m
-            → (rest : Message) × (cut (rest_of base s x.next) ≡ ok rest) × (m ≡ field_of base s x.value ∷ rest)
-        cut-goes-on w = bind_ok (cut (rest_of base s x.next)) (λ m. field_of base s x.value ∷ m) (sym cut_field ∙ w)
+            → (rest : Message) × (cut (rest_of base s x.next) ≡ ok rest) × (m ≡ told_field base s x.value ∷ rest)
+        cut-goes-on w = bind_ok (cut (rest_of base s x.next)) (λ m. told_field base s x.value ∷ m) (sym cut_field ∙ w)
 
     -- a field that the code has refused
     module _ (error : WireError) (e : FieldTold base s (read_field (rest_of base s at)) (Err error)) (h : at < length s) where
@@ -82,7 +82,7 @@ leads-end R p base s at l h m w =
 module _ (p : Part) (base : ℕ) (s : List ℕ) (at : ℕ) where
   pub leads-next : (x : Read code.Field) → FieldTold base s (read_field (rest_of base s at)) (Ok x) → at < length s
       → (R S : Message → Message → Type 0) → Leads R p (rest_of base s at)
-      → ((m rest : Message) → R m (field_of base s x.value ∷ rest) → S m rest) → Leads S p (rest_of base s x.next)
+      → ((m rest : Message) → R m (told_field base s x.value ∷ rest) → S m rest) → Leads S p (rest_of base s x.next)
   leads-next x e h R S l f m w =
       let q = l m w in
       let t = cut-goes-on base s at x e h q.1 in

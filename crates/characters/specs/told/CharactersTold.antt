@@ -32,8 +32,8 @@ use Rattle.foundation.specs.Texts.{Text}
 abbrev pub Character : Type 0
 Character = Std.Option (Read ℕ)
 
-abbrev pub read : ℕ → ℕ → Character
-read code next = Some (record { value = code; next = next })
+abbrev pub character_read : ℕ → ℕ → Character
+character_read code next = Some (record { value = code; next = next })
 
 -- What a first byte says: its own bits of the character's number, and what may follow it.
 pub record LeadByte : Type 0 where
@@ -57,22 +57,22 @@ first_byte_told None = none
 
 -- The character whose bytes so far gave `bits`, and the place after it: the bytes from `at` on are bs, and the ranges say what may follow.
 unfoldable pub go_on : List Range → ℕ → ℕ → List ℕ → Character
-go_on rs bits at bs = let n = run rs bs in read (if eqb n (length rs) then sixes bits (take n bs) else replacement) (at + n)
+go_on rs bits at bs = let n = run rs bs in character_read (if eqb n (length rs) then sixes bits (take n bs) else replacement) (at + n)
 
 -- The first character of the bytes from `at` on, and the place after it.
 unfoldable pub utf8_at : ℕ → List ℕ → Character
 utf8_at at [] = None
-utf8_at at (b ∷ bs) = let s = step b bs in read s.character (at + 1 + s.after)
+utf8_at at (b ∷ bs) = let s = step b bs in character_read s.character (at + 1 + s.after)
 
 -- A high surrogate's character, and the place after it: the units from `at` on are us, and the first may be its other half.
 unfoldable pub paired_at : ℕ → ℕ → List ℕ → Character
-paired_at high at [] = read replacement at
-paired_at high at (u ∷ us) = if is_low u then read (pair high u) (at + 1) else read replacement at
+paired_at high at [] = character_read replacement at
+paired_at high at (u ∷ us) = if is_low u then character_read (pair high u) (at + 1) else character_read replacement at
 
 -- The first character of the units from `at` on, and the place after it.
 unfoldable pub utf16_at : ℕ → List ℕ → Character
 utf16_at at [] = None
-utf16_at at (u ∷ us) = if is_high u then paired_at u (at + 1) us else read (lone u) (at + 1)
+utf16_at at (u ∷ us) = if is_high u then paired_at u (at + 1) us else character_read (lone u) (at + 1)
 
 abbrev pub place_told : Std.Option ℕ → Option ℕ
 place_told (Some source) = some source

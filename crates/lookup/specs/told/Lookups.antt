@@ -55,11 +55,11 @@ pub record NotesOf (bytes notes : List ℕ) (count : ℕ) (records : List Record
   pub each : (k : ℕ) (r : Record) → get_elem? records k ≡ some r → NoteTold bytes r (get_or notes (3 * k) 0) (get_or notes (3 * k + 1) 0)
 
 -- the words of the record that serves an index
-abbrev pub WordsTold : List ℕ → ℕ → ℕ → rust.Option Words → Type 0
-WordsTold notes count index (Some w) =
+abbrev pub NotedWords : List ℕ → ℕ → ℕ → rust.Option Words → Type 0
+NotedWords notes count index (Some w) =
     (bytes : List ℕ) (records : List Record) → NotesOf bytes notes count records
     → (r : Record) × (record_at index records ≡ some r) × NoteTold bytes r w.place w.steps
-WordsTold notes count index None = (bytes : List ℕ) (records : List Record) → NotesOf bytes notes count records → record_at index records ≡ none
+NotedWords notes count index None = (bytes : List ℕ) (records : List Record) → NotesOf bytes notes count records → record_at index records ≡ none
 
 abbrev pub DecidedTold : List ℕ → ℕ → ℕ → Bool → rust.Option Name → Type 0
 DecidedTold notes count index class r =

@@ -4,7 +4,7 @@ use Rattle.std.specs.Prelude.{◌≡◌, true, List, [], ◌∷◌, ℕ, ◌≤�
 use Rattle.std.proofs.Common.{refl}
 use Rattle.foundation.specs.Texts.{Text}
 use Rattle.characters.specs.Characters.{from_utf8_after, from_utf8, from_utf16}
-use Rattle.characters.specs.told.CharactersTold.{Character, read, utf8_at, utf16_at}
+use Rattle.characters.specs.told.CharactersTold.{Character, character_read, utf8_at, utf16_at}
 use Rattle.characters.specs.told.Plain.{is_ascii}
 use Rattle.characters.proofs.AsciiLaws.{all_below, units_alone}
 use Rattle.characters.proofs.SeamLaws.{from-ascii}
@@ -16,8 +16,8 @@ pub record Decoding (decoded : List ℕ → Text) (character : ℕ → List ℕ 
   pub none : decoded [] ≡ []
   pub plain : (s : List ℕ) → is_ascii s ≡ true → decoded s ≡ s
   pub ended : (s : List ℕ) (at : ℕ) → character at (drop at s) ≡ None → decoded (drop at s) ≡ []
-  pub goes_on : (s : List ℕ) (at : ℕ) {code next : ℕ} → character at (drop at s) ≡ read code next → decoded (drop at s) ≡ code ∷ decoded (drop next s)
-  pub inside : (s : List ℕ) (at : ℕ) {code next : ℕ} → character at (drop at s) ≡ read code next → (at < next) × (next ≤ length s)
+  pub goes_on : (s : List ℕ) (at : ℕ) {code next : ℕ} → character at (drop at s) ≡ character_read code next → decoded (drop at s) ≡ code ∷ decoded (drop next s)
+  pub inside : (s : List ℕ) (at : ℕ) {code next : ℕ} → character at (drop at s) ≡ character_read code next → (at < next) × (next ≤ length s)
 
 no_byte : from_utf8 [] ≡ []
 unfolding from_utf8_after

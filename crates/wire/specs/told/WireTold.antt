@@ -97,11 +97,11 @@ piece_of (value.Body x) = Some x
 abbrev pub ValueTold : ℕ → List ℕ → Res (Got Value) → Result (Read WireValue) WireError → Type 0
 ValueTold base s = ReadTold (value_of base s) (Inside s) base s
 
-abbrev pub field_of : ℕ → List ℕ → code.Field → Field
-field_of base s f = field f.number (value_of base s f.value)
+abbrev pub told_field : ℕ → List ℕ → code.Field → Field
+told_field base s f = field f.number (value_of base s f.value)
 
 abbrev pub FieldTold : ℕ → List ℕ → Res (Got Field) → Result (Read code.Field) WireError → Type 0
-FieldTold base s = ReadTold (field_of base s) (λ f. Inside s f.value) base s
+FieldTold base s = ReadTold (told_field base s) (λ f. Inside s f.value) base s
 
 abbrev pub FieldAt : ℕ → List ℕ → ℕ → Result (Read code.Field) WireError → Type 0
 FieldAt base s = ReadAt read_field (FieldTold base s) base s
