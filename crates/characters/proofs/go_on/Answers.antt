@@ -1,7 +1,7 @@
 use mathlib.Core.Path.{◌≡◌, ◌∙◌, ap, sym, refl}
 use Prim.Native.Nat.{ℕ, ◌+◌, ◌-◌}
 use native.Mathlib.Omega.{arith}
-use Rattle.characters.specs.told.CharactersTold.{read}
+use Rattle.characters.specs.told.CharactersTold.{character_read}
 use Rattle.characters.proofs.TestLaws.{apart, within}
 use Rattle.characters.proofs.RowLaws.{goes-whole, goes-missing, goes-wrong, goes_on_lem, code_grows, code_bound, code_few}
 use Rattle.characters.proofs.go_on.Goals as goal
@@ -44,7 +44,7 @@ pub returns : goal.returns
 returns c =
     let n = c.args.at + c.args.first.following in
     let e : ◌≡◌ {A = ℕ} n c.loop-i.i = omega (arith, c.loop-i.auto.i-end) in
-    ap (read c.loop-i.code) e ∙ sym (goes-whole c.args.s.now _ _ (n - c.loop-i.i) _ _ (omega arith)) ∙ c.loop-i.invariant.0
+    ap (character_read c.loop-i.code) e ∙ sym (goes-whole c.args.s.now _ _ (n - c.loop-i.i) _ _ (omega arith)) ∙ c.loop-i.invariant.0
 
 pub overflow_add-next : goal.overflow_add-next
 overflow_add-next c = omega (arith, code_few _ _ c.requires.0)
