@@ -69,7 +69,8 @@ pub fn signed_at(bytes: &[u8], at: usize) -> i32
     requires { at < 2 ^ 50 }
     ensures { result ≡ signed_of (number_at 4 bytes.now at) }
 {
-    (four_in(bytes, 0, at) as u32).cast_signed()
+    let n = four_in(bytes, 0, at) as u32;
+    n.cast_signed()
 }
 
 // Units from a place on, as many as are announced and have room.
