@@ -24,9 +24,8 @@ use Rattle.schema.specs.Members.{constructor_in, function_in}
 use Rattle.declaration_rows.specs.Rows.{constructor_rows, function_rows}
 use Rattle.schema.specs.told.SchemaTold.{Lent, Scoped, EntryAt, Stands, PickedTold}
 use Rattle.schema.specs.told.MembersTold.{Affords, Within, PickedWithin, member_cost, closed_cost, MemberTold}
-use Rattle.schema.specs.declared.Picked.{Picked}
-use Rattle.schema.specs.declared.Picked.TheVariants as picked
 use Rattle.schema.proofs.CountLaws.{within_both, affords-less, affords-after, picked_within}
+use Rattle.schema.specs.declared.Stop.{Stop}
 use Rattle.schema.proofs.StandsLaws.{stands-entry}
 use Rattle.erasure.specs.told.ErasureTold.{PutSized}
 use Rattle.std.specs.Prelude as std
@@ -36,6 +35,8 @@ use Rattle.descriptors.specs.told.DefaultsTold.{part_cost, PartTold, Constructor
 use Rattle.descriptors.specs.told.PartsTold.{Gave, PartOf}
 use Rattle.members.specs.told.ClosedTold.{close_cost, CloseTold}
 use Rattle.descriptors.proofs.JoinLaws.{part-answer, written-within}
+use Rattle.std.specs.declared.result.Result.TheVariants.{Ok, Err}
+use Rattle.schema.specs.told.SchemaTold.{Picked}
 
 -- The descriptor of what a reading has kept.
 abbrev pub DefaultOf : {D : Type 0} → (Scope → Message → Read (Option D)) → (D → Option Parts) → Lent → ℕ → ℕ → ℕ → std.Option ℕ → List ℕ → List ℕ → Type 0
@@ -132,17 +133,18 @@ module _ {payload d2 msg : List ℕ} {base : ℕ} {s : State} (st : Stands paylo
   pub member-room : Affords payload d2 (member_cost (length msg)) s × (base + length msg ≤ length payload)
   member-room = (affords-less h (member_cost (length msg)) (omega arith), st.inside)
 
-  pub closing-room : {r : Picked} {s₁ : State} → PickedWithin (member_cost (length msg)) s r → r ≡ picked.Kept s₁
+  pub closing-room : {r : Picked} {s₁ : State} → PickedWithin (member_cost (length msg)) s r → r ≡ Ok (Some s₁)
       → Affords payload d2 (close_cost (length msg)) s₁ × Stands payload msg base
   closing-room p w = (affords-after h (close_cost (length msg)) (picked_within {n = member_cost (length msg)} p w) (omega arith), st)
 
 -- One that is skipped or refused, and so is not closed.
-pub closed_unkept : {D : Type 0} (read : Scope → Message → Read (Option D)) (rows closed : D → List Row) {n n' : ℕ} {e : Lent} {msg : List ℕ} {base : ℕ}
-    {s : State} (r : Picked) {S S₁ T T₁ : List ℕ} → ((state : State) → r ≡ picked.Kept state → ⊥) → MemberTold read rows n e msg base s r S S₁ T T₁
-    → MemberTold read closed n' e msg base s r S S₁ T T₁
-closed_unkept read rows closed (picked.Kept s₁) h t = absurd (h s₁ refl)
-closed_unkept read rows closed picked.Dropped h t = record { spends = tt; is = t.is }
-closed_unkept read rows closed (picked.Refused stop) h t = record { spends = tt; is = t.is }
+module _ {D : Type 0} (read : Scope → Message → Read (Option D)) (rows closed : D → List Row) {n n' : ℕ} {e : Lent} {msg : List ℕ} {base : ℕ}
+    {s : State} {r : Picked} {S S₁ T T₁ : List ℕ} (t : MemberTold read rows n e msg base s r S S₁ T T₁) where
+  pub closed_refused : {stop : Stop} → r ≡ Err stop → MemberTold read closed n' e msg base s (Err stop) S S₁ T T₁
+  closed_refused w = record { spends = tt; is = λ c o m k. subst (λ (y : Picked). PickedTold (read c m s.types) rows s y S S₁ T T₁) w (t.is c o m k) }
+
+  pub closed_dropped : r ≡ Ok None → MemberTold read closed n' e msg base s (Ok None) S S₁ T T₁
+  closed_dropped w = record { spends = tt; is = λ c o m k. subst (λ (y : Picked). PickedTold (read c m s.types) rows s y S S₁ T T₁) w (t.is c o m k) }
 
 module _ {D : Type 0} (read : Scope → Message → Read (Option D)) (rows closed : D → List Row) (parts : D → Option Parts)
     (are : (d : D) → rows d ++ (default_row (parts d) ∷ []) ≡ closed d) {e : Lent} {msg : List ℕ} {base : ℕ} {s : State}
@@ -151,9 +153,9 @@ module _ {D : Type 0} (read : Scope → Message → Read (Option D)) (rows close
       → PickedTold (read c m s.types) rows s y S S₁ T T₁
   member_is c o m k w = subst (λ (y : Picked). PickedTold (read c m s.types) rows s y S S₁ T T₁) w (t.is c o m k)
 
-  pub closed-kept : Stands e.payload msg base → {s₁ : State} → r ≡ picked.Kept s₁ → {s₂ : State} {S₂ T₂ : List ℕ}
+  pub closed-kept : Stands e.payload msg base → {s₁ : State} → r ≡ Ok (Some s₁) → {s₂ : State} {S₂ T₂ : List ℕ}
       → CloseTold read parts e base (base + length msg) s₁ s₂ S₁ S₂ T₁ T₂
-      → MemberTold read closed (closed_cost (length msg)) e msg base s (picked.Kept s₂) S S₂ T T₂
+      → MemberTold read closed (closed_cost (length msg)) e msg base s (Ok (Some s₂)) S S₂ T T₂
   closed-kept st {s₁} w {s₂} {S₂} {T₂} u = record {
     spends = within_both (closed_cost (length msg)) (omega arith) (picked_within {n = member_cost (length msg)} t.spends w) u.spends;
     is = λ c o m k.

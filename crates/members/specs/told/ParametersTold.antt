@@ -10,13 +10,13 @@ use Rattle.schema.specs.Reading.{each, Scope}
 use Rattle.schema.specs.Members.{parameter_in, parameters_in}
 use Rattle.schema.specs.told.SchemaTold.{Lent, Scoped, WalkedTold}
 use Rattle.schema.specs.told.MembersTold.{Within, ListedWithin, ListedTold, parameter_cost}
-use Rattle.schema.specs.declared.Listed.{Listed}
-use Rattle.schema.specs.declared.Walked.{Walked}
-use Rattle.schema.specs.declared.Walked.TheVariants as walked
+use Rattle.std.specs.declared.result.Result.TheVariants.{Ok, Err}
+use Rattle.schema.specs.told.SchemaTold.{Walked}
+use Rattle.schema.specs.told.MembersTold.{Listed}
 
 abbrev pub WalkedWithin : ℕ → State → Walked → Type 0
-WalkedWithin n s (walked.Done s') = Within n s s'
-WalkedWithin n s (walked.Refused stop) = Unit {0}
+WalkedWithin n s (Ok s') = Within n s s'
+WalkedWithin n s (Err stop) = Unit {0}
 
 -- A parameter in the message msg, which stands at base among the decoded bytes.
 pub record ParameterTold (e : Lent) (msg : List ℕ) (base : ℕ) (s : State) (r : Walked) (S S' T T' : List ℕ) : Type 0 where
