@@ -9,22 +9,11 @@ use Rattle.sheet.specs.Rows.{Cell, num, bit}
 use Rattle.sheet.specs.declared.State.{State}
 use Rattle.declaration_rows.specs.Declarations.{Signature, signed}
 use Rattle.declaration_rows.specs.declared.SignatureNames.{SignatureNames}
-use Rattle.declaration_rows.specs.declared.Role.{Role}
-use Rattle.declaration_rows.specs.declared.Role.TheVariants as role
 use Rattle.declaration_rows.specs.declared.Record.{Record}
 use Rattle.declaration_rows.specs.declared.Record.TheVariants as record_kind
-use Rattle.declaration_rows.specs.Rows.{name_cell, signature_cells, return_role, receiver_role, parameter_role, vararg_role, argument_role, underlying_role, expanded_role}
+use Rattle.declaration_rows.specs.Rows.{name_cell, signature_cells}
 
--- A role, and a kind of records, by its number on the sheet.
-abbrev pub role_told : Role → ℕ
-role_told role.Return = return_role
-role_told role.Receiver = receiver_role
-role_told role.Parameter = parameter_role
-role_told role.VarargElement = vararg_role
-role_told role.Argument = argument_role
-role_told role.Underlying = underlying_role
-role_told role.Expanded = expanded_role
-
+-- A kind of records by its number on the sheet.
 abbrev pub kind_told : Record → ℕ
 kind_told record_kind.Head = 1
 kind_told record_kind.Constructor = 2
