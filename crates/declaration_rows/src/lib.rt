@@ -125,7 +125,7 @@ fn put_wide(width: usize, n: u64, state: State, sheet: &mut [u8]) -> State
     }
 }
 
-// 0 or 1.
+// 0 or 1: a cell of a record, where `put_kind` begins one.
 fn put_flag(on: bool, state: State, sheet: &mut [u8]) -> State
     requires { state.sheet ≤ 2 ^ 63 }
     ensures { (T : List ℕ) → PutCells (bit on ∷ []) state.types state result sheet.old sheet.new T T }
