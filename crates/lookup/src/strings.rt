@@ -11,7 +11,7 @@ use foundation::Span;
 // A string of d2 of so many units is long: at most 32 are.
 const LONG: usize = 1024;
 
-// The size that is noted of the string with an index; 0 where none is.
+// The size that is noted of the string with an index; 0 where none is, as in `Name`.
 fn noted_size(notes: &[u64], index: u32) -> usize
     ensures { (units ends : List ℕ) → SizesOf units ends notes.now → SizeOf units ends index result }
 {

@@ -13,19 +13,16 @@ pub mod repeated; // repeated.rt: repeated numbers, single and packed
 pub mod reader; // reader.rt: a reader over a message
 
 use foundation::Span;
-use wire::{Field, WireError, WireValue, field_at, short_field, skip_fields, skip_two};
-
-// No field whose tag has one or two bytes has this number.
-const NO_NUMBER: u32 = u32::MAX;
+use wire::{Field, WireError, WireValue, field_at, short_field, skip_fields};
 
 // Cuts what is left of a slice from a place on.
 pub fn check_from(s: &[u8], base: u32, at: usize) -> Result<(), WireError>
     ensures { CheckedTold (cut (rest_of base s.now at)) result }
 {
-    let mut i = skip_fields(s, NO_NUMBER, at);
+    let mut i = skip_fields(s, [], at);
     while i < s.len() {
         let read = field_at(s, base, i)?;
-        i = skip_fields(s, NO_NUMBER, read.next);
+        i = skip_fields(s, [], read.next);
     }
     Ok(())
 }
@@ -72,7 +69,7 @@ fn long_find(s: &[u8], base: u32, number: u32, at: usize) -> Option<WireValue>
         if read.value.number == number {
             return Some(read.value.value);
         }
-        i = skip_fields(s, number, read.next);
+        i = skip_fields(s, [number], read.next);
     }
     None
 }
@@ -81,7 +78,7 @@ fn long_find(s: &[u8], base: u32, number: u32, at: usize) -> Option<WireValue>
 fn find_from(s: &[u8], base: u32, number: u32, at: usize) -> Option<WireValue>
     ensures { FoundFrom base s.now number at result }
 {
-    let i = skip_fields(s, number, at);
+    let i = skip_fields(s, [number], at);
     if s.len() <= i {
         return None;
     }
@@ -108,7 +105,7 @@ pub struct TwoFound {
 pub fn find_two(s: &[u8], base: u32, first: u32, second: u32) -> TwoFound
     ensures { FoundTold base s.now first result.first × FoundTold base s.now second result.second }
 {
-    let at = skip_two(s, first, second, 0);
+    let at = skip_fields(s, [first, second], 0);
     if s.len() <= at {
         return TwoFound {
             first: None,
@@ -247,7 +244,7 @@ fn long_next_body(s: &[u8], base: u32, number: u32, at: usize) -> Option<Span>
         if let Some(body) = body_of(number, read.value) {
             return Some(body);
         }
-        i = skip_fields(s, number, read.next);
+        i = skip_fields(s, [number], read.next);
     }
     None
 }
@@ -256,7 +253,7 @@ fn long_next_body(s: &[u8], base: u32, number: u32, at: usize) -> Option<Span>
 pub fn next_body(s: &[u8], base: u32, number: u32, at: usize) -> Option<Span>
     ensures { NextBodyTold base s.now number at result }
 {
-    let i = skip_fields(s, number, at);
+    let i = skip_fields(s, [number], at);
     if s.len() <= i {
         return None;
     }

@@ -27,8 +27,8 @@ use Rattle.lookup.proofs.LookupLaws.{part_longer}
 use Rattle.schema.specs.Types.{no_table, type_table_in}
 use Rattle.schema.specs.told.SchemaTold.{EntryAt, EntriesOf}
 use Rattle.schema.specs.told.TableTold.{EntriesTold, TableTold, TypeIndexTold}
-use Rattle.schema.specs.declared.table.IndexError.{IndexError}
-use Rattle.schema.specs.declared.table.IndexError.TheVariants.{NoRoom, Wire}
+use Rattle.names.specs.declared.records.IndexError.{IndexError}
+use Rattle.names.specs.declared.records.IndexError.TheVariants.{NoRoom, Wire}
 use Rattle.schema.specs.declared.table.TypeIndex.{TypeIndex}
 use Rattle.std.specs.declared.option.Option as rust
 use Rattle.std.specs.declared.option.Option.TheVariants.{Some, None}

@@ -8,34 +8,17 @@ ghost use Rattle.wire.specs.Messages.{as32, index};
 ghost use Rattle.wire.specs.told.WireTold.{rest_of};
 ghost use Rattle.characters.specs.told.Places.{part_from};
 ghost use Rattle.names.specs.told.Index.{packed_places};
-ghost use Rattle.schema.specs.declared.table.IndexError.TheVariants.{Wire};
 ghost use Rattle.schema.specs.told.TableTold.{EntriesTold, TableTold, TypeIndexTold};
 
 use fields::{TYPE_TABLE_FIRST_NULLABLE, TYPE_TABLE_TYPE};
 use messages::{check, index, message, next_body};
-use names::records::packed;
-use wire::WireError;
+use names::records::{IndexError, packed};
 
 // How many entries the type table has, and from which of them on all are nullable, if any is.
 #[derive(Clone, Copy)]
 pub struct TypeIndex {
     pub count: usize,
     pub first: Option<u32>,
-}
-
-// Why a table is not noted: the notes have no room for its entries, or one of them isn't cut.
-#[derive(Clone, Copy)]
-pub enum IndexError {
-    NoRoom,
-    Wire(WireError),
-}
-
-impl From<WireError> for IndexError {
-    ghost from_gives = { λ error why. why ≡ Wire error };
-
-    fn from(error: WireError) -> IndexError {
-        IndexError::Wire(error)
-    }
 }
 
 fn put_entry(notes: &mut [u64], count: usize, start: u32, end: u32)

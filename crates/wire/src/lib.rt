@@ -304,25 +304,17 @@ pub fn field_at(s: &[u8], base: u32, at: usize) -> Result<Read<Field>, WireError
     tagged_at(s, base, at, tag)
 }
 
-// A place reached from `at` by passing over whole fields, none of which has the number `one` or `other`: over as many short ones as follow each
-// other. It costs less than reading them one by one.
-pub fn skip_two(s: &[u8], one: u32, other: u32, at: usize) -> usize
-    ensures { SkipTold s.now one at result × SkipTold s.now other at result }
+// A place reached from `at` by passing over whole fields, none of which has one of these numbers: over as many short ones as follow each other.
+// It costs less than reading them one by one.
+pub fn skip_fields<const N: usize>(s: &[u8], numbers: [u32; N], at: usize) -> usize
+    ensures { SkipTold s.now numbers.entry at result }
 {
-    let mut i = at;
-    while let Some(read) = short_field(s, i) {
-        let number = read.value.number;
-        if number == one || number == other {
+    let mut next = at;
+    while let Some(read) = short_field(s, next) {
+        if numbers.contains(&read.value.number) {
             break;
         }
-        i = read.next;
+        next = read.next;
     }
-    i
-}
-
-// The same for one number.
-pub fn skip_fields(s: &[u8], number: u32, at: usize) -> usize
-    ensures { SkipTold s.now number at result }
-{
-    skip_two(s, number, number, at)
+    next
 }

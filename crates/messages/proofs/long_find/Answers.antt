@@ -32,7 +32,7 @@ pub loop-i-preserved : goal.loop-i-preserved
 loop-i-preserved c =
     let a = c.args in
     let l = c.loop-i in
-    occur-skipped a.base c.skip_fields-i.ensures a.at (find-passed a.number a.base a.s.now a.at l.i l.invariant c.in-Ok.read (c.in-Ok.ensures.inside (omega arith)) c.loop-i-test.true c.if-read-number.false)
+    occur-skipped a.base c.skip_fields-i.ensures 0 (omega arith) a.at (find-passed a.number a.base a.s.now a.at l.i l.invariant c.in-Ok.read (c.in-Ok.ensures.inside (omega arith)) c.loop-i-test.true c.if-read-number.false)
 
 pub returns : goal.returns
 returns c =

@@ -34,7 +34,7 @@ loop-i-preserved c =
     let l = c.loop-i in
     let h = field-inside a.base a.s.now l.i c.in-Ok.read (c.in-Ok.ensures.inside (omega arith)) (omega arith) in
     let f = c.skip_fields-i.ensures.later in
-    (omega arith, bodies-skipped a.base c.skip_fields-i.ensures a.at (bodies-on a.number a.base a.s.now a.at l.i l.invariant.1 c.in-Ok.read (c.in-Ok.ensures.inside (omega arith)) c.loop-i-test.true c.body_of.ensures c.in_default-body_of.is))
+    (omega arith, bodies-skipped a.base c.skip_fields-i.ensures 0 (omega arith) a.at (bodies-on a.number a.base a.s.now a.at l.i l.invariant.1 c.in-Ok.read (c.in-Ok.ensures.inside (omega arith)) c.loop-i-test.true c.body_of.ensures c.in_default-body_of.is))
 
 pub returns : goal.returns
 returns c =

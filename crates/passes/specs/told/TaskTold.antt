@@ -10,7 +10,7 @@ use Rattle.members.specs.declared.list.Member.TheVariants as member
 use Rattle.inputs.specs.told.OutcomesTold.{told, RefusedAs}
 use Rattle.inputs.specs.declared.outcome.Outcome.{Outcome}
 use Rattle.declarations.specs.Payload.{head_row, declaration_rows}
-use Rattle.declarations.specs.declared.body.Section.{Section}
+use Rattle.schema.specs.declared.Section.{Section}
 use Rattle.declarations.specs.declared.body.Sections.{Sections}
 use Rattle.passes.specs.Answered.{answered}
 use Rattle.passes.specs.told.AreaTold.{start}

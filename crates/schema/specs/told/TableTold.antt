@@ -13,8 +13,8 @@ use Rattle.messages.specs.told.Asked.{index_told, bodies}
 use Rattle.schema.specs.Reading.{TypeTable}
 use Rattle.schema.specs.Types.{type_table_in}
 use Rattle.schema.specs.told.SchemaTold.{EntriesOf}
-use Rattle.schema.specs.declared.table.IndexError.{IndexError}
-use Rattle.schema.specs.declared.table.IndexError.TheVariants.{NoRoom, Wire}
+use Rattle.names.specs.declared.records.IndexError.{IndexError}
+use Rattle.names.specs.declared.records.IndexError.TheVariants.{NoRoom, Wire}
 use Rattle.schema.specs.declared.table.TypeIndex.{TypeIndex}
 
 -- room for the places of so many entries
