@@ -86,7 +86,7 @@ fn long_varint_at(s: &[u8], base: u32, at: usize) -> Result<Read<u64>, WireError
 
 // The varint at a place, if it has one or two bytes, as most have. These are the two steps for short varints: the continuation bit, which only
 // the first of two bytes has, is dropped; then the groups are joined, the last first.
-pub fn short_varint(s: &[u8], at: usize) -> Option<Read<u64>>
+fn short_varint(s: &[u8], at: usize) -> Option<Read<u64>>
     ensures { ShortTold s.now at result }
 {
     if s.len() <= at {
