@@ -25,7 +25,6 @@ import follow  # noqa: E402 (it stands in another folder)
 TABLE = ROOT / 'tools' / 'wrong_answers.tsv'
 AT_GOAL, BY_HAND, WRONG = 'refused at a goal', 'refused in a proof by hand', 'not refused so'
 MISFIT = 'its proof no longer fits'
-IMPL = re.compile(r'^impl(?:<[^>]*>)? (?:(?:\w+::)*(\w+)(?:<[^>]*>)? for )?(\w+)', re.M)
 FUNCTION = re.compile(r'^( *)(?:pub(?:\(crate\))? )?(?:extern "C" )?fn (\w+)', re.M)
 # what the check says of a goal: where it stands in the code, or in the file that answers it
 UNMET = r'note: src/(?P<file>\S+\.rt):(?P<line>\d+):\d+: it is not proved that '
@@ -73,10 +72,11 @@ def functions_of(crate):
         for match in FUNCTION.finditer(text):
             start, indent = match.start(), match.group(1)
             end = text.index(f'\n{indent}}}\n', start)
-            # of `impl Trait for Type` the prover prints TypeTrait
-            trait, owner = (IMPL.findall(text[:start]) or [('', '')])[-1] if indent else ('', '')
-            home = homes[owner] if owner else module
-            path = '::'.join(home + [owner + trait] * bool(owner) + [match.group(2)])
+            # the type, and of a trait's `impl` the trait after it, as TFromU
+            owner = re.findall(r"^impl(?:<[^>]*>)? ([\w:<>']+)(?: for (\w+))?", text[:start], re.M)[-1:] if indent else []
+            home = homes.get(owner[0][1] or owner[0][0].split('<')[0], module) if owner else module
+            names = [of + re.sub(r"\W", '', first) if of else first.split('<')[0] for first, of in owner]
+            path = '::'.join(home + names + [match.group(2)])
             found[path] = Function(path, file.name, start, end, text)
     return found
 

@@ -41,10 +41,9 @@ use Rattle.descriptors.specs.Defaults.{closed_constructor, closed_function}
 use Rattle.members.specs.Lists.{section_rows}
 use Rattle.members.specs.declared.list.Member.TheVariants as member
 use Rattle.declarations.specs.Payload.{head_row, declaration_rows}
-use Rattle.declarations.specs.told.BodyTold.{head_cost, list_cost, aliases_cost, lists_cost, body_cost, BodyHead, ConstructorsTold, AliasesAre, AliasesTold, Reached, ListsAre, ListsTold, BodyTold, BodyWalked}
+use Rattle.declarations.specs.told.BodyTold.{head_cost, list_cost, aliases_cost, lists_cost, body_cost, BodyHead, ConstructorsTold, AliasesAre, AliasesTold, Reached, ListsAre, ListsTold, BodyWalked}
 use Rattle.declarations.specs.declared.body.Sections.{Sections}
-use Rattle.declarations.specs.declared.body.Body.{Body}
-use Rattle.declarations.specs.declared.body.Body.TheVariants as body
+use Rattle.std.proofs.Common.{Result, Ok, Err}
 
 pub no_name : (payload d2 : List ℕ) → name_text payload d2 absent_name ≡ none
 unfolding name_text source_text
@@ -190,7 +189,7 @@ module _ {payload d2 : List ℕ} (e : Lent) (msg : List ℕ) (base : ℕ) (class
 -- The lists one after the other.
 module _ (e : Lent) (msg : List ℕ) (base : ℕ) (class : Bool) (s : State) {S S₁ T T₁ : List ℕ}
     (r₁ : Listed) (t₁ : ConstructorsTold class e msg base s r₁ S S₁ T T₁) where
-  pub constructors-refused : {stop : Stop} → r₁ ≡ listed.Refused stop → ListsTold class e msg base s (body.Refused stop) S S₁ T T₁
+  pub constructors-refused : {stop : Stop} → r₁ ≡ listed.Refused stop → ListsTold class e msg base s (Err stop) S S₁ T T₁
   unfolding lists_in
   constructors-refused g c w m f h =
       let x = subst (λ (r : Listed). ListedTold (constructors_in class c m s.types) closed_constructor s r S S₁ T T₁) g (t₁.is c w m f) in
@@ -209,7 +208,7 @@ module _ (e : Lent) (msg : List ℕ) (base : ℕ) (class : Bool) (s : State) {S 
           (subst (λ (b : ℕ). ListedTold (list_in (function_in c) F m b) closed_function s₁ y S₁ S₂ T₁ T₂) (put-types made.4)
           (subst (λ (r : Listed). ListedTold (list_in (function_in c) F m s₁.types) closed_function s₁ r S₁ S₂ T₁ T₂) g (t₂.is c w m f)))
 
-    pub functions-refused : {stop : Stop} → r₂ ≡ listed.Refused stop → ListsTold class e msg base s (body.Refused stop) S S₂ T T₂
+    pub functions-refused : {stop : Stop} → r₂ ≡ listed.Refused stop → ListsTold class e msg base s (Err stop) S S₂ T T₂
     unfolding lists_in
     functions-refused g c w m f h = rw ((made c w m f).2, called c w m f g)
 
@@ -223,7 +222,7 @@ module _ (e : Lent) (msg : List ℕ) (base : ℕ) (class : Bool) (s : State) {S 
             (subst (λ (b : ℕ). ListedTold (list_in (property_in c) P m b) property_rows s₂ y S₂ S₃ T₂ T₃) (put-types (called c w m f g₂).4)
             (subst (λ (r : Listed). ListedTold (list_in (property_in c) P m s₂.types) property_rows s₂ r S₂ S₃ T₂ T₃) g (t₃.is c w m f)))
 
-      pub properties-refused : {stop : Stop} → r₃ ≡ listed.Refused stop → ListsTold class e msg base s (body.Refused stop) S S₃ T T₃
+      pub properties-refused : {stop : Stop} → r₃ ≡ listed.Refused stop → ListsTold class e msg base s (Err stop) S S₃ T T₃
       unfolding lists_in
       properties-refused g c w m f h = rw ((made c w m f).2, (called c w m f g₂).2, held c w m f g)
 
@@ -235,13 +234,13 @@ module _ (e : Lent) (msg : List ℕ) (base : ℕ) (class : Bool) (s : State) {S 
               subst (λ (b : ℕ). AliasesAre (list_in (alias_in c) (alias_field class) m b) s₃ y S₃ S₄ T₃ T₄) (put-types (held c w m f g₃).4)
               (subst (λ (r : Listed). AliasesAre (list_in (alias_in c) (alias_field class) m s₃.types) s₃ r S₃ S₄ T₃ T₄) g (t₄.is c w m f))
 
-        pub lists-refused : {stop : Stop} → r₄ ≡ listed.Refused stop → ListsTold class e msg base s (body.Refused stop) S S₄ T T₄
+        pub lists-refused : {stop : Stop} → r₄ ≡ listed.Refused stop → ListsTold class e msg base s (Err stop) S S₄ T T₄
         unfolding lists_in
         lists-refused g c w m f h = rw ((made c w m f).2, (called c w m f g₂).2, (held c w m f g₃).2, aliased c w m f g)
 
         pub lists-done : {s₄ : State} {q : ℕ} → r₄ ≡ listed.Done s₄ q
             → ListsTold class e msg base s
-            (body.Done (record {
+            (Ok (record {
               head = s;
               constructors = record { state = s₁; count = i };
               functions = record { state = s₂; count = j };
@@ -284,19 +283,17 @@ counts_same o p q r = rw (p, q, r)
 -- The head, the lists, and then the counts.
 module _ (kind : ℕ) (e : Lent) (msg : List ℕ) (base : ℕ) (class : Bool) (k : class ≡ eqb kind 1) {s s₁ : State} {S S₁ T T₁ : List ℕ}
     (h : BodyHead kind e.payload e.d2 e.ends e.notes e.tables.records msg base s s₁ S S₁ T T₁)
-    (r : Body) (S₂ T₂ : List ℕ) (t : ListsTold class e msg base (past 6 s₁) r S₁ S₂ T₁ T₂) where
+    (r : Result Sections Stop) (S₂ T₂ : List ℕ) (t : ListsTold class e msg base (past 6 s₁) r S₁ S₂ T₁ T₂) where
   module _ (c : Scope) (w : Scoped e c) (m : Message) (f : cut (◌from◌ base msg) ≡ ok m) where
     after-head : after_table (eqb kind 1) c m s.types ≡ lists_in class (head h.name h.flags) c m s₁.types
     unfolding after_table
     after-head = rw (h.is c w.names m f s.types, ← k, put-types h.put)
 
-    lists-are : {y : Body} → r ≡ y → ListsAre class c m (past 6 s₁) y S₁ S₂ T₁ T₂
-    lists-are g = subst (λ (y : Body). ListsAre class c m (past 6 s₁) y S₁ S₂ T₁ T₂) g (t c w m f)
+    lists-are : {y : Result Sections Stop} → r ≡ y → ListsAre class c m (past 6 s₁) y S₁ S₂ T₁ T₂
+    lists-are g = subst (λ (y : Result Sections Stop). ListsAre class c m (past 6 s₁) y S₁ S₂ T₁ T₂) g (t c w m f)
 
-  pub body-stops : {stop : Stop} → r ≡ body.Refused stop → BodyWalked kind e msg base s r S S₂ T T₂
-  body-stops {stop} g c w m f =
-      let stops = after-head c w m f ∙ lists-are c w m f g (head h.name h.flags) in
-      subst (λ (y : Body). BodyTold kind (after_table (eqb kind 1) c m s.types) s y S S₂ T T₂) (sym g) stops
+  pub body-stops : {stop : Stop} → r ≡ Err stop → BodyWalked kind e msg base s (Err stop) S S₂ T T₂
+  body-stops g c w m f = after-head c w m f ∙ lists-are c w m f g (head h.name h.flags)
 
   head-reached : (i j l : ℕ) → Reached (row 1 (head_cells kind h.name h.flags ++ head_counts i j l) ∷ []) s (past 6 s₁)
   unfolding body_bytes sheet_from texts
@@ -306,9 +303,9 @@ module _ (kind : ℕ) (e : Lent) (msg : List ℕ) (base : ℕ) (class : Bool) (k
       head-put kind h.name h.flags i j l [] h.put (put_none (past 6 s₁) S₁ T₁) λ o. refl in
       reached w
 
-  pub body-done : {b : Sections} {S₃ : List ℕ} → r ≡ body.Done b
+  pub body-done : {b : Sections} {S₃ : List ℕ} → r ≡ Ok b
       → ((o : ℕ) → S₃ ≡ sets S₂ s₁.sheet (body_bytes o (head_counts b.constructors.count b.functions.count b.properties.count)))
-      → BodyWalked kind e msg base s (body.Done b) S S₃ T T₂
+      → BodyWalked kind e msg base s (Ok b) S S₃ T T₂
   unfolding declaration_rows
   body-done {b} {S₃} g q c w m f =
       let u = lists-are c w m f g in

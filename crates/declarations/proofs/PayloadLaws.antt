@@ -47,7 +47,9 @@ use Rattle.declarations.specs.told.PayloadTold.{body_from, BodyAt, BodyOpened, N
 use Rattle.schema.specs.told.SchemaTold.{EntriesOf}
 use Rattle.schema.specs.declared.Tables.{Tables}
 use Rattle.declarations.specs.declared.payload.Opened.{Opened}
-use Rattle.declarations.specs.declared.payload.Opened.TheVariants as opened
+use Rattle.declarations.specs.declared.payload.IndexError.{IndexError}
+use Rattle.declarations.specs.declared.payload.IndexError.TheVariants as index
+use Rattle.std.proofs.Common.{Result, Ok, Err}
 use Rattle.declarations.proofs.RoomLaws.{bodies_few, inner_few, records-many}
 
 -- A body by its type table, of a class and of a package.
@@ -85,7 +87,7 @@ module _ (bytes : List ℕ) (at count : ℕ) (entries : List ℕ) (x : Checked) 
   here : ◌from◌ at (take (length bytes - at) (drop at bytes)) ≡ ◌from◌ at (drop at bytes)
   here = ap (λ (l : List ℕ). ◌from◌ at l) (take_all (length bytes - at) (drop at bytes) (omega (arith, length-drop at bytes)))
 
-  pub body_refused : {error err : WireError} → x ≡ checked.Refused error → err ≡ error → BodyOpened bytes at count entries (opened.Refused err)
+  pub body_refused : {error err : WireError} → x ≡ checked.Refused error → err ≡ error → BodyOpened bytes at count entries (Err (index.Wire err))
   body_refused {error} {err} g e kind names =
       let refuses : cut (◌from◌ at (drop at bytes)) ≡ wire_refused err = ap cut (sym here) ∙ subst (CheckedTold (cut (◌from◌ at (take (length bytes - at) (drop at bytes))))) g t ∙ ap wire_refused (sym e) in
       rw refuses
@@ -99,7 +101,7 @@ module _ (bytes : List ℕ) (at count : ℕ) (entries : List ℕ) (x : Checked) 
     told e = subst (TypeIndexTold bytes at Class-type_table whole.0 entries) e (h whole.0 whole.1)
 
     pub body_open : {n first : ℕ} → r ≡ types.Types n first
-        → BodyOpened bytes at count entries (opened.Body at (record { records = count; types = n; first_nullable = first }))
+        → BodyOpened bytes at count entries (Ok (record { at = at; tables = record { records = count; types = n; first_nullable = first } }))
     body_open e =
         let w = told e in (
           refl,
@@ -107,10 +109,10 @@ module _ (bytes : List ℕ) (at count : ℕ) (entries : List ℕ) (x : Checked) 
           record { body = whole.0; cuts = whole.1; table = w.0; reads = w.1; noted = w.2; nullable = w.3 },
         )
 
-    pub body-table-refused : {error : WireError} → r ≡ types.Refused error → BodyOpened bytes at count entries (opened.Refused error)
+    pub body-table-refused : {error : WireError} → r ≡ types.Refused error → BodyOpened bytes at count entries (Err (index.Wire error))
     body-table-refused {error} e kind names = rw whole.1 (table-refuses names whole.0 allowance (eqb kind 1) error (told e allowance))
 
-    pub body-no-room : r ≡ types.NoRoom → BodyOpened bytes at count entries opened.NoRoom
+    pub body-no-room : r ≡ types.NoRoom → BodyOpened bytes at count entries (Err index.NoRoom)
     body-no-room e room =
         told e (record {
           inside = room.inside;
@@ -132,7 +134,7 @@ put_back l part n h =
 -- The notes of the body's type table stand after those of the records, which they leave as they are.
 pub noted_then : (bytes : List ℕ) (rest count : ℕ) (before worked : List ℕ)
     → ((rs : List Record) → length bytes < 65536 → IndexOf bytes before count rs → NotesOf bytes worked count rs) → 3 * count ≤ length worked
-    → (part : List ℕ) → length part ≡ length (mid_of (3 * count) (length worked - 3 * count) worked) → (r : Opened) → BodyOpened bytes rest count part r
+    → (part : List ℕ) → length part ≡ length (mid_of (3 * count) (length worked - 3 * count) worked) → (r : Result Opened IndexError) → BodyOpened bytes rest count part r
     → NotedOpened bytes rest count before (put_mid (3 * count) (length worked - 3 * count) worked part) r
 noted_then bytes rest count before worked u h part same r t =
     let n = 3 * count in record {
@@ -151,7 +153,7 @@ module _ (bytes : List ℕ) (start end rest : ℕ) (o : start ≤ end) (i : end 
   abbrev Delimited : Type 0
   Delimited = read_delimited (◌from◌ 0 bytes) ≡ got (part_between 0 bytes start end) (rest_of 0 bytes rest)
 
-  pub table-refused : Delimited → {error err : WireError} → x ≡ checked.Refused error → err ≡ error → (notes : List ℕ) → OpenedTold bytes notes (opened.Refused err)
+  pub table-refused : Delimited → {error err : WireError} → x ≡ checked.Refused error → err ≡ error → (notes : List ℕ) → OpenedTold bytes notes (Err (index.Wire err))
   unfolding payload
   table-refused d {error} {err} g e notes kind d2 =
       let refuses : cut (part_between 0 bytes start end) ≡ wire_refused err =
@@ -175,11 +177,11 @@ module _ (bytes : List ℕ) (start end rest : ℕ) (o : start ≤ end) (i : end 
         let n = length-drop start (take end bytes) in
         omega (arith, bodies_few StringTableTypes-record (rest_of 0 (take end bytes) start) table.1)
 
-    pub records-refused : Delimited → {error : WireError} → r ≡ records.Refused error → OpenedTold bytes before (opened.Refused error)
+    pub records-refused : Delimited → {error : WireError} → r ≡ records.Refused error → OpenedTold bytes before (Err (index.Wire error))
     unfolding payload
     records-refused d e kind d2 = rw (d, cuts, indexed e)
 
-    pub records-no-room : r ≡ records.NoRoom → OpenedTold bytes before opened.NoRoom
+    pub records-no-room : r ≡ records.NoRoom → OpenedTold bytes before (Err index.NoRoom)
     records-no-room e room =
         let l = length-take end bytes in
         indexed e (record {
@@ -202,28 +204,28 @@ module _ (bytes : List ℕ) (start end rest : ℕ) (o : start ≤ end) (i : end 
       count-few : 2 * count ≤ end - start
       count-few = omega (arith, few, (indexed e).2.sums.many, records-many table.0 (indexed e).1)
 
-      pub opened-then : Delimited → (after : List ℕ) → length after ≡ length before → (y : Opened) → NotedOpened bytes rest count before after y
+      pub opened-then : Delimited → (after : List ℕ) → length after ≡ length before → (y : Result Opened IndexError) → NotedOpened bytes rest count before after y
           → length bytes < 65536 → OpenedTold bytes after y
-      opened-then d after l (opened.Body at tables) w s =
+      opened-then d after l (Ok o) w s =
           let p = w.body.0 in
           let q = w.body.1 in
           record {
             inside = rw p k;
             is =
-                subst (λ (n : ℕ). BodyAt bytes n (drop (3 * tables.records) after) tables) (sym p)
-                (subst (λ (n : ℕ). BodyAt bytes rest (drop (3 * n) after) tables) (sym q) w.body.2);
+                subst (λ (n : ℕ). BodyAt bytes n (drop (3 * o.tables.records) after) o.tables) (sym p)
+                (subst (λ (n : ℕ). BodyAt bytes rest (drop (3 * n) after) o.tables) (sym q) w.body.2);
             records = (indexed e).0;
             names = rw q (w.names (indexed e).0 s (index_longer bytes end before count (indexed e).0 (indexed e).2));
             opens = λ kind d2. opens d kind d2 ∙ rw p;
           }
-      opened-then d after l (opened.Refused error) w s = λ kind d2. opens d kind d2 ∙ w.body kind (record { records = (indexed e).0; d2 = d2 })
-      opened-then d after l opened.NoRoom w s = λ room.
+      opened-then d after l (Err (index.Wire error)) w s = λ kind d2. opens d kind d2 ∙ w.body kind (record { records = (indexed e).0; d2 = d2 })
+      opened-then d after l (Err index.NoRoom) w s = λ room.
           let n = length-drop (3 * count) after in
           let c = count-few in
           w.body (record { inside = k; short = omega (arith, room.short); long = omega (arith, room.long) })
 
 pub payload-refused : (bytes notes : List ℕ) (x : parted.Split) → reader.SplitTold bytes (read_delimited (◌from◌ 0 bytes)) x
-    → {error err : WireError} → x ≡ parts.Refused error → err ≡ error → OpenedTold bytes notes (opened.Refused err)
+    → {error err : WireError} → x ≡ parts.Refused error → err ≡ error → OpenedTold bytes notes (Err (index.Wire err))
 unfolding payload
 payload-refused bytes notes x t {error} {err} g e kind d2 =
     let refuses : read_delimited (◌from◌ 0 bytes) ≡ wire_refused err = subst (reader.SplitTold bytes (read_delimited (◌from◌ 0 bytes))) g t ∙ ap wire_refused (sym e) in
@@ -235,7 +237,7 @@ payload-parts bytes x t g =
     let w = subst (reader.SplitTold bytes (read_delimited (◌from◌ 0 bytes))) g t in
     (w.0, w.2, w.3, w.4)
 
-pub payload_too_long : (bytes notes : List ℕ) → 65535 < length bytes → OpenedTold bytes notes opened.NoRoom
+pub payload_too_long : (bytes notes : List ℕ) → 65535 < length bytes → OpenedTold bytes notes (Err index.NoRoom)
 payload_too_long bytes notes h room = omega (arith, room.short)
 
 -- What is lent besides stands after the notes of both tables.
@@ -275,7 +277,7 @@ opened_longer bytes a b at tables e o = record {
 
 -- The tables' part opened, then codes and sizes noted after it.
 module _ (bytes d2 ends notes : List ℕ) (limit : ℕ) (c : limit ≡ codes_from (length notes)) (part : List ℕ)
-    (l : length part ≡ length (take limit notes)) (r : Opened) (t : OpenedTold bytes part r) where
+    (l : length part ≡ length (take limit notes)) (r : Result Opened IndexError) (t : OpenedTold bytes part r) where
   -- with the part opened
   abbrev all : List ℕ
   all = part ++ drop limit notes
@@ -289,11 +291,11 @@ module _ (bytes d2 ends notes : List ℕ) (limit : ℕ) (c : limit ≡ codes_fro
   all-length : length all ≡ length notes
   all-length = let i = limit-inside in omega (arith, length-append part (drop limit notes), length-drop limit notes, part_length)
 
-  pub lent-body : {at : ℕ} {tables : Tables} → r ≡ opened.Body at tables → (coded sized : List ℕ)
+  pub lent-body : {o : Opened} → r ≡ Ok o → (coded sized : List ℕ)
       → Keeps (codes_from (length all)) all coded → Keeps (sizes_from (length coded)) coded sized
-      → (ends_fit 0 ends (length d2) ≡ true → SizesOf d2 ends sized) → LentTold bytes d2 ends sized (opened.Body at tables)
-  lent-body {at} {tables} e coded sized k m s = record {
-    opened = opened_longer bytes part sized at tables kept (subst (OpenedTold bytes part) e t);
+      → (ends_fit 0 ends (length d2) ≡ true → SizesOf d2 ends sized) → LentTold bytes d2 ends sized (Ok o)
+  lent-body {o} e coded sized k m s = record {
+    opened = opened_longer bytes part sized o.at o.tables kept (subst (OpenedTold bytes part) e t);
     sizes = s;
   }
     where
@@ -311,15 +313,9 @@ module _ (bytes d2 ends notes : List ℕ) (limit : ℕ) (c : limit ≡ codes_fro
           ∙ ap (λ (n : ℕ). take n all) (sym part_length)
           ∙ take-append_seam part (drop limit notes)
 
-  lent-no-room : r ≡ opened.NoRoom → LentTold bytes d2 ends all opened.NoRoom
-  lent-no-room e room =
+  -- Where the tables aren't noted, that is the answer.
+  pub lent_stopped : (e : IndexError) → r ≡ Err e → LentTold bytes d2 ends all (Err e)
+  lent_stopped (index.Wire error) e = subst (OpenedTold bytes part) e t
+  lent_stopped index.NoRoom e = λ room.
       let z : codes_from (length all) ≡ length part = ap codes_from all-length ∙ sym c ∙ sym part_length in
       subst (OpenedTold bytes part) e t (record { short = room.short; long = subst (λ (n : ℕ). 3 * length bytes ≤ 2 * n) z room.long })
-
--- Where the tables aren't noted, that is the answer.
-pub lent_stopped : (bytes d2 ends notes : List ℕ) (limit : ℕ) → limit ≡ codes_from (length notes) → (part : List ℕ) → length part ≡ length (take limit notes)
-    → (r : Opened) → ((at : ℕ) (tables : Tables) → r ≡ opened.Body at tables → ⊥) → OpenedTold bytes part r
-    → LentTold bytes d2 ends (part ++ drop limit notes) r
-lent_stopped bytes d2 ends notes limit c part l (opened.Body at tables) k t = absurd (k at tables refl)
-lent_stopped bytes d2 ends notes limit c part l (opened.Refused error) k t = t
-lent_stopped bytes d2 ends notes limit c part l opened.NoRoom k t = lent-no-room bytes d2 ends notes limit c part l opened.NoRoom t refl

@@ -35,24 +35,6 @@ pub struct Sections {
     pub aliases: Section,
 }
 
-#[derive(Clone, Copy)]
-pub enum Body {
-    Done { sections: Sections },
-    Refused { stop: Stop },
-}
-
-impl Body {
-    // The refusal of a refused answer.
-    pub fn stop(self) -> Stop
-        ensures { (s : Stop) → self ≡ Body.Refused s → result ≡ s }
-    {
-        match self {
-            Body::Done { sections: _ } => Stop::TooManyTypes,
-            Body::Refused { stop } => stop,
-        }
-    }
-}
-
 fn function_field(class: bool) -> u32
     ensures { result ≡ function_field class }
 {
@@ -216,7 +198,7 @@ fn lists_in(
     head: State,
     sheet: &mut [u8],
     text: &mut [u8],
-) -> Body
+) -> Result<Sections, Stop>
     requires { Affords payload.now d2.now (lists_cost (length msg.now)) head × Stands payload.now msg.now base }
     ensures { ListsTold class (lent payload.now d2.now ends.now notes.now tables) msg.now base head result sheet.old sheet.new text.old text.new }
 {
@@ -228,7 +210,7 @@ fn lists_in(
         count: constructors,
     } = made
     else {
-        return Body::Refused { stop: made.stop() };
+        return Err(made.stop());
     };
     let called = members_in(
         MemberList {
@@ -251,9 +233,7 @@ fn lists_in(
         count: functions,
     } = called
     else {
-        return Body::Refused {
-            stop: called.stop(),
-        };
+        return Err(called.stop());
     };
     let held = members_in(
         MemberList {
@@ -276,7 +256,7 @@ fn lists_in(
         count: properties,
     } = held
     else {
-        return Body::Refused { stop: held.stop() };
+        return Err(held.stop());
     };
     let aliased = aliases_in(
         class,
@@ -296,31 +276,27 @@ fn lists_in(
         count: aliases,
     } = aliased
     else {
-        return Body::Refused {
-            stop: aliased.stop(),
-        };
+        return Err(aliased.stop());
     };
-    Body::Done {
-        sections: Sections {
-            head,
-            constructors: Section {
-                state: after_constructors,
-                count: constructors,
-            },
-            functions: Section {
-                state: after_functions,
-                count: functions,
-            },
-            properties: Section {
-                state: after_properties,
-                count: properties,
-            },
-            aliases: Section {
-                state: after_aliases,
-                count: aliases,
-            },
+    Ok(Sections {
+        head,
+        constructors: Section {
+            state: after_constructors,
+            count: constructors,
         },
-    }
+        functions: Section {
+            state: after_functions,
+            count: functions,
+        },
+        properties: Section {
+            state: after_properties,
+            count: properties,
+        },
+        aliases: Section {
+            state: after_aliases,
+            count: aliases,
+        },
+    })
 }
 
 // A whole body, after its type table.
@@ -337,7 +313,7 @@ pub fn body_in(
     state: State,
     sheet: &mut [u8],
     text: &mut [u8],
-) -> Body
+) -> Result<Sections, Stop>
     requires { Affords payload.now d2.now (body_cost (length msg.now)) state × Stands payload.now msg.now base }
     ensures { BodyWalked kind (lent payload.now d2.now ends.now notes.now tables) msg.now base state result sheet.old sheet.new text.old text.new }
 {
@@ -360,7 +336,7 @@ pub fn body_in(
         text: begun.text,
         types: begun.types,
     };
-    let lists = lists_in(
+    let sections = lists_in(
         kind == 1,
         msg,
         base,
@@ -372,19 +348,13 @@ pub fn body_in(
         head,
         sheet,
         text,
-    );
-    let Body::Done { sections } = lists else {
-        return lists;
-    };
-    let constructors = sections.constructors;
-    let functions = sections.functions;
-    let properties = sections.properties;
+    )?;
     put_head_counts(
         sheet,
         place,
-        constructors.count,
-        functions.count,
-        properties.count,
+        sections.constructors.count,
+        sections.functions.count,
+        sections.properties.count,
     );
-    Body::Done { sections }
+    Ok(sections)
 }

@@ -12,7 +12,8 @@ use lib.IntN.{ℤ, pos, negsuc}
 use lib.ListN.{length}
 use lib.Seq.{sets}
 use lib.Signed.{lt_z}
-use Rattle.std.specs.Prelude.{if◌then◌else◌}
+use Rattle.std.specs.Prelude.{if◌then◌else◌, IsSome}
+use Rattle.std.proofs.Common as std
 use Rattle.foundation.specs.Digits.{little}
 use Rattle.foundation.specs.Results.{Res, refused, Cause, d1_too_long, d2_too_long, string_ends, newer_version, sheet_too_long}
 use Rattle.foundation.proofs.ChoiceLaws.{if_ind, and_left, and_right}
@@ -51,8 +52,6 @@ use Rattle.passes.specs.declared.Task.{Task}
 use Rattle.passes.specs.declared.Task.TheVariants as task
 use Rattle.passes.specs.declared.Asked.{Asked}
 use Rattle.passes.specs.declared.Reply.{Reply}
-use Rattle.passes.specs.declared.Passed.{Passed}
-use Rattle.passes.specs.declared.Passed.TheVariants as passed
 use Rattle.metadata.specs.Read.{reading, read}
 use Rattle.metadata.specs.told.ReadTold.{told_by}
 use Rattle.metadata.specs.declared.Answer.{Answer}
@@ -230,22 +229,17 @@ alone_ends kind n payload d2 a b {s} e p =
 pub start-room : (payload d2 : List ℕ) → length payload ≤ 32768 → length d2 ≤ 32768 → {s : State} → s ≡ start → written.RecordRoom (2 ^ 61) payload d2 s
 start-room payload d2 a b e = subst (written.RecordRoom (2 ^ 61) payload d2) (sym e) (record { payload = a; d2 = b; places = omega arith })
 
--- A reply from a frame.
-module _ (asked : Asked) (x : Res (Declarations × ℕ)) (room : Type 0) (y : Passed) (S S' T T' : List ℕ) (t : PassedTold asked x room y S S' T T') where
-  pub pass-answered : {r : Reply} → y ≡ passed.Answered r → TaskTold asked x r S S' T T'
-  pass-answered e = subst (λ (z : Passed). PassedTold asked x room z S S' T T') e t
+-- A frame with room has a reply.
+pub pass-some : (asked : Asked) (x : Res (Declarations × ℕ)) (room : Type 0) (y : std.Option Reply) (S S' T T' : List ℕ)
+    → PassedTold asked x room y S S' T T' → room → IsSome y
+pass-some asked x room (std.Some r) S S' T T' t h = refl
+pass-some asked x room std.None S S' T T' t h = absurd (t.0 h)
 
-  pass-lacks : y ≡ passed.NoRoom → (room → ⊥) × (S' ≡ S) × (T' ≡ T)
-  pass-lacks e = subst (λ (z : Passed). PassedTold asked x room z S S' T T') e t
-
-  pub pass-never : {A : Type 0} → room → y ≡ passed.NoRoom → A
-  pass-never h e = absurd ((pass-lacks e).0 h)
+-- The notes of a frame are long enough for the units of d1.
+pub notes-enough : (units bytes notes : ℕ) {n : ℕ} → n ≡ notes → units ≤ bytes → 3 * bytes ≤ 2 * codes_from notes → 3 * units ≤ 2 * codes_from n
+notes-enough units bytes notes e h k = rw e (omega arith)
 
 -- The answer with its version.
 pub answer-is : (a : definition.Answer) (r : Outcome) (b : Answer) (S T : List ℕ) → a ≡ told r S T → b.number ≡ r.number → b.detail ≡ r.detail
     → b.sheet ≡ r.sheet → b.text ≡ r.text → b.types ≡ r.types → a ≡ told_by b S T
 answer-is a r b S T e n d s t y = e ∙ rw (n, d, s, t, y)
-
--- The notes of a frame are long enough for so many units of d1.
-pub notes-enough : (units words room : ℕ) {n : ℕ} → n ≡ words → codes_from words ≡ room → 3 * units ≤ 2 * room → 3 * units ≤ 2 * codes_from n
-notes-enough units words room e f h = subst (λ (k : ℕ). 3 * units ≤ 2 * codes_from k) (sym e) (subst (λ (k : ℕ). 3 * units ≤ 2 * k) (sym f) h)

@@ -27,12 +27,13 @@ use Rattle.schema.specs.Members.{after_table}
 use Rattle.schema.specs.told.SchemaTold.{lent, Scoped, stop_refused}
 use Rattle.schema.specs.told.MembersTold.{Affords}
 use Rattle.schema.specs.declared.Tables.{Tables}
+use Rattle.schema.specs.declared.Stop.{Stop}
 use Rattle.schema.proofs.TypeCount.{body_enters}
 use Rattle.declarations.specs.Payload.{body_of, payload, declaration_rows}
 use Rattle.declarations.specs.told.PayloadTold.{OpenedAt, LentAt}
 use Rattle.declarations.specs.told.BodyTold.{body_cost, BodyTold, BodyWalked}
-use Rattle.declarations.specs.declared.body.Body.{Body}
-use Rattle.declarations.specs.declared.body.Body.TheVariants as body
+use Rattle.declarations.specs.declared.body.Sections.{Sections}
+use Rattle.std.proofs.Common.{Result, Ok, Err}
 use Rattle.declarations.proofs.PayloadLaws.{body-after}
 use Rattle.inputs.specs.Refusals.{number_of, detail_of}
 use Rattle.inputs.specs.told.OutcomesTold.{told}
@@ -76,7 +77,7 @@ module _ (kind : ℕ) (bytes d2 ends notes : List ℕ) (at : ℕ) (tables : Tabl
   by-table = by-body ∙ body-after kind named o.is.body allowance (o.is.reads allowance)
 
   -- the walk of a body from the start
-  pub from_start : InLimits bytes d2 ends → {s : State} → s ≡ start → (r : Body) (S S' T T' : List ℕ)
+  pub from_start : InLimits bytes d2 ends → {s : State} → s ≡ start → (r : Result Sections Stop) (S S' T T' : List ℕ)
       → BodyWalked kind (lent bytes d2 ends notes tables) (part_from at (length bytes) bytes) at s r S S' T T'
       → BodyTold kind (payload kind (strings d2 ends) bytes) start r S S' T T'
   from_start k e r S S' T T' t =
@@ -183,8 +184,8 @@ module _ (kind : ℕ) (bytes d2 ends notes : List ℕ) (x : Measured) (SS TT : L
             rw (f, e) (take-append_seam vs (drop (length vs) before))
 
     -- walked again
-    pub walked-out : (r : Body) → BodyTold kind bytes_read start r S S' T T' → WrittenOut kind bytes_read S S' T T'
-    walked-out (body.Done b) (a, n, f, p) d left e =
+    pub walked-out : (r : Result Sections Stop) → BodyTold kind bytes_read start r S S' T T' → WrittenOut kind bytes_read S S' T T'
+    walked-out (Ok b) (a, n, f, p) d left e =
         let c = same_read a n f in
         let c' = same_read d left e in
         let p' : PutRows rows n start b.aliases.state S S' T T' =
@@ -192,7 +193,7 @@ module _ (kind : ℕ) (bytes d2 ends notes : List ℕ) (x : Measured) (SS TT : L
         subst (λ (y : Declarations). (S' ≡ sheet_from 0 (declaration_rows kind y) ++ drop (length (sheet_from 0 (declaration_rows kind y))) S)
         × (T' ≡ texts (declaration_rows kind y) ++ drop (length (texts (declaration_rows kind y))) T)) c'
         (put_front p' (omega (arith, size_is)) (omega (arith, length-is)))
-    walked-out (body.Refused y) f d left e =
+    walked-out (Err y) f d left e =
         let g : ◌≡◌ {A = Res (Declarations × ℕ)} (stop_refused y) (ok (d, left)) = sym f ∙ e in
         let z : ◌≡◌ {A = ℕ} 0 1 = cc in
         absurd (omega arith)

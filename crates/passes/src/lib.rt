@@ -11,11 +11,12 @@ ghost use Rattle.declarations.specs.told.BodyTold.{BodyTold};
 ghost use Rattle.passes.specs.told.AreaTold as definition;
 ghost use Rattle.passes.specs.told.AreaTold.{strings, InLimits, last_of};
 ghost use Rattle.passes.specs.told.TaskTold.{no_lists};
-ghost use Rattle.passes.specs.told.PassTold.{FirstTold, PassedTold, FrameRoom, reading_of};
+ghost use Rattle.passes.specs.declared.PassError.TheVariants.{Refused};
+ghost use Rattle.passes.specs.told.PassTold.{of_index, FirstTold, PassedTold, FrameRoom, reading_of};
 
 use areas::write_in;
-use declarations::body::{Body, Section, Sections, body_in};
-use declarations::payload::{Opened, open_lent};
+use declarations::body::{Section, Sections, body_in};
+use declarations::payload::{IndexError, open_lent};
 use encoding::{DecodeError, decode};
 use inputs::outcome::{Outcome, refused, stop_refusal};
 use schema::{ALLOWANCE, Stop, Tables};
@@ -31,12 +32,30 @@ pub(crate) struct Measured {
     pub sections: Sections,
 }
 
-// The first pass, or why it stops.
+// Why the first pass stops: a refusal, or no room for the notes.
 #[derive(Clone, Copy)]
-enum FirstPass {
-    Done { measured: Measured },
-    Refused { stop: Stop },
+enum PassError {
     NoRoom,
+    Refused(Stop),
+}
+
+impl From<Stop> for PassError {
+    ghost from_gives = { λ stop e. e ≡ Refused stop };
+
+    fn from(stop: Stop) -> PassError {
+        PassError::Refused(stop)
+    }
+}
+
+impl From<IndexError> for PassError {
+    ghost from_gives = { λ error e. e ≡ of_index error };
+
+    fn from(error: IndexError) -> PassError {
+        match error {
+            IndexError::NoRoom => PassError::NoRoom,
+            IndexError::Wire(error) => PassError::Refused(Stop::Wire { error }),
+        }
+    }
 }
 
 // What is to be done with an input: its sheet and text written, or the room that they take told. It goes by value through the frames; `read_in`
@@ -58,13 +77,6 @@ pub struct Asked {
 pub struct Reply {
     pub outcome: Outcome,
     pub sections: Sections,
-}
-
-// A reply, or no room in the frame for the decoded bytes or their notes.
-#[derive(Clone, Copy)]
-pub enum Passed {
-    Answered { reply: Reply },
-    NoRoom,
 }
 
 // Before anything is written.
@@ -105,16 +117,14 @@ fn told_room(measured: Measured) -> Reply
     ensures { (result.outcome ≡ record { number = 0; detail = 0; sheet = (last_of measured).sheet; text = (last_of measured).text; types = allowance - (last_of measured).types }) × (result.sections ≡ measured.sections) }
 {
     let sections = measured.sections;
-    let aliases = sections.aliases;
-    let end = aliases.state;
-    let entered = ALLOWANCE - end.types;
+    let end = sections.aliases.state;
     Reply {
         outcome: Outcome {
             number: 0,
             detail: 0,
             sheet: end.sheet,
             text: end.text,
-            types: entered,
+            types: ALLOWANCE - end.types,
         },
         sections,
     }
@@ -131,7 +141,7 @@ fn walk(
     notes: &[u64],
     sheet: &mut [u8],
     text: &mut [u8],
-) -> Body
+) -> Result<Sections, Stop>
     requires { InLimits bytes.now d2.now ends.now × LentAt bytes.now d2.now ends.now notes.now at tables }
     ensures { BodyTold kind (payload kind (strings d2.now ends.now) bytes.now) definition.start result sheet.old sheet.new text.old text.new }
 {
@@ -159,43 +169,30 @@ fn measure(
     notes: &mut [u64],
     scratch_sheet: &mut [u8],
     scratch_text: &mut [u8],
-) -> FirstPass
+) -> Result<Measured, PassError>
     requires { InLimits bytes.now d2.now ends.now }
     ensures { FirstTold kind bytes.now d2.now ends.now notes.new result scratch_sheet.new scratch_text.new }
 {
-    let opened = open_lent(&*bytes, &*d2, &*ends, notes);
-    let Opened::Body { at, tables } = opened else {
-        let Opened::Refused { error } = opened else {
-            return FirstPass::NoRoom;
-        };
-        return FirstPass::Refused {
-            stop: Stop::Wire { error },
-        };
-    };
-    let body = walk(
+    let opened = open_lent(bytes, d2, ends, notes)?;
+    let sections = walk(
         kind,
-        at,
-        tables,
-        &*bytes,
-        &*d2,
-        &*ends,
+        opened.at,
+        opened.tables,
+        bytes,
+        d2,
+        ends,
         notes,
         scratch_sheet,
         scratch_text,
-    );
-    let Body::Done { sections } = body else {
-        return FirstPass::Refused { stop: body.stop() };
-    };
-    FirstPass::Done {
-        measured: Measured {
-            at,
-            tables,
-            sections,
-        },
-    }
+    )?;
+    Ok(Measured {
+        at: opened.at,
+        tables: opened.tables,
+        sections,
+    })
 }
 
-// The decoded bytes of a kind that carries declarations: the first pass, then what the task asks for.
+// The decoded bytes of a kind that carries declarations: the first pass, then what the task asks for; none where the notes have no room.
 fn read_in(
     asked: Asked,
     bytes: &[u8],
@@ -206,50 +203,43 @@ fn read_in(
     scratch_text: &mut [u8],
     sheet: &mut [u8],
     text: &mut [u8],
-) -> Passed
+) -> Option<Reply>
     requires { InLimits bytes.now d2.now ends.now }
     ensures { PassedTold asked (payload asked.kind (strings d2.now ends.now) bytes.now) (LentRoom bytes.now notes.new) result sheet.old sheet.new text.old text.new }
 {
     let first = measure(
         asked.kind,
-        &*bytes,
-        &*d2,
-        &*ends,
+        bytes,
+        d2,
+        ends,
         notes,
         scratch_sheet,
         scratch_text,
     );
-    let FirstPass::Done { measured } = first else {
-        let FirstPass::Refused { stop } = first else {
-            return Passed::NoRoom;
-        };
-        return Passed::Answered {
-            reply: without_lists(stop_refusal(stop)),
-        };
+    let measured = match first {
+        Ok(measured) => measured,
+        Err(PassError::Refused(stop)) => return Some(without_lists(stop_refusal(stop))),
+        Err(PassError::NoRoom) => return None,
     };
-    let task = asked.task;
-    match task {
-        Task::Read => Passed::Answered {
-            reply: without_lists(write_in(
-                asked.kind,
-                measured,
-                &*bytes,
-                &*d2,
-                &*ends,
-                notes,
-                scratch_sheet,
-                scratch_text,
-                sheet,
-                text,
-            )),
-        },
-        Task::Room => Passed::Answered {
-            reply: told_room(measured),
-        },
-    }
+    let reply = match asked.task {
+        Task::Read => without_lists(write_in(
+            asked.kind,
+            measured,
+            bytes,
+            d2,
+            ends,
+            notes,
+            scratch_sheet,
+            scratch_text,
+            sheet,
+            text,
+        )),
+        Task::Room => told_room(measured),
+    };
+    Some(reply)
 }
 
-// d1 of a kind that carries declarations, within its limit.
+// d1 of a kind that carries declarations, within its limit; none where the decoded bytes or their notes have no room in the frame.
 // Callers show `InLimits`: metadata from the answer of `fault_of`, which has found no fault.
 pub fn decode_in(
     asked: Asked,
@@ -262,7 +252,7 @@ pub fn decode_in(
     scratch_text: &mut [u8],
     sheet: &mut [u8],
     text: &mut [u8],
-) -> Passed
+) -> Option<Reply>
     requires { InLimits d1.now d2.now ends.now }
     ensures { PassedTold asked (reading_of asked.kind d1.now d2.now ends.now) (FrameRoom d1.now bytes.new notes.new) result sheet.old sheet.new text.old text.new }
 {
@@ -270,23 +260,17 @@ pub fn decode_in(
         Ok(length) => read_in(
             asked,
             &bytes[..length],
-            &*d2,
-            &*ends,
+            d2,
+            ends,
             notes,
             scratch_sheet,
             scratch_text,
             sheet,
             text,
         ),
-        Err(DecodeError::TooLong) => Passed::Answered {
-            reply: without_lists(refused(1, 0)),
-        },
-        Err(DecodeError::Empty) => Passed::Answered {
-            reply: without_lists(refused(5, 0)),
-        },
-        Err(DecodeError::NotAByte { unit }) => Passed::Answered {
-            reply: without_lists(refused(6, u64::from(unit))),
-        },
-        Err(DecodeError::NoRoom) => Passed::NoRoom,
+        Err(DecodeError::TooLong) => Some(without_lists(refused(1, 0))),
+        Err(DecodeError::Empty) => Some(without_lists(refused(5, 0))),
+        Err(DecodeError::NotAByte { unit }) => Some(without_lists(refused(6, u64::from(unit)))),
+        Err(DecodeError::NoRoom) => None,
     }
 }

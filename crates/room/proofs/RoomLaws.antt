@@ -35,35 +35,30 @@ use Rattle.room.proofs.CountLaws as count
 use Rattle.room.proofs.ListLaws.{append-size, cons_size, texts-add}
 
 -- no record of any kind
-abbrev no_records : Records
-no_records = record {
-  heads = 0;
-  constructors = 0;
-  functions = 0;
-  properties = 0;
-  parameters = 0;
-  types = 0;
-  defaults = 0;
-  aliases = 0;
-  counts = 0;
-}
+abbrev NoRecords : Records → Type 0
+NoRecords r = (r.heads ≡ 0) × ((r.constructors ≡ 0) × ((r.functions ≡ 0) × ((r.properties ≡ 0) × ((r.parameters ≡ 0) × ((r.types ≡ 0) × ((r.defaults ≡ 0) × ((r.aliases ≡ 0) × ((r.counts ≡ 0)))))))))
 
 -- no text in any list
-abbrev no_texts : ListTexts
-no_texts = record { properties = 0; functions = 0; constructors = 0; aliases = 0; head = 0 }
+abbrev NoTexts : ListTexts → Type 0
+NoTexts t = (t.properties ≡ 0) × ((t.functions ≡ 0) × ((t.constructors ≡ 0) × ((t.aliases ≡ 0) × ((t.head ≡ 0)))))
 
-abbrev refusal_told : Outcome → Records → ListTexts → RoomAnswer
-refusal_told o x y = record { number = o.number; detail = o.detail; sheet = 0; text = 0; types = 0; records = x; texts = y }
+-- no room at all
+abbrev NoRoom : RoomAnswer → Type 0
+NoRoom a = (a.number ≡ 0) × ((a.detail ≡ 0) × ((a.sheet ≡ 0) × ((a.text ≡ 0) × ((a.types ≡ 0) × (NoRecords a.records × (NoTexts a.texts))))))
+
+abbrev refusal_told : Outcome → RoomAnswer → RoomAnswer
+refusal_told o a = record { number = o.number; detail = o.detail; sheet = a.sheet; text = a.text; types = a.types; records = a.records; texts = a.texts }
 
 -- A refusal.
-pub refused-room : (i : Input) (r : Reply) → RoomTold (kind_of i.k) (reading i) r → (r.outcome.number ≡ 0 → ⊥) → {x : Records} → x ≡ no_records
-    → {y : ListTexts} → y ≡ no_texts → room i ≡ tells_room (refusal_told r.outcome x y)
+pub refused-room : (i : Input) (r : Reply) → RoomTold (kind_of i.k) (reading i) r → (r.outcome.number ≡ 0 → ⊥) → (a : RoomAnswer) → NoRoom a
+    → room i ≡ tells_room (refusal_told r.outcome a)
 unfolding room
-refused-room i r t n {x} e {y} f = go (reading i) t
+refused-room i r t n a (_, (_, (s, (l, (y, ((r1, (r2, (r3, (r4, (r5, (r6, (r7, (r8, r9)))))))), (t1, (t2, (t3, (t4, t5)))))))))) = go (reading i) t
   where
-    go : (z : Res (Declarations × ℕ)) → RoomTold (kind_of i.k) z r → room_by (kind_of i.k) z ≡ tells_room (refusal_told r.outcome x y)
+    go : (z : Res (Declarations × ℕ)) → RoomTold (kind_of i.k) z r → room_by (kind_of i.k) z ≡ tells_room (refusal_told r.outcome a)
     go (ok read) m = absurd (n (ap (λ (o : Outcome). o.number) m.outcome))
-    go (refused c place) h = rw (e, f, ← ap (λ (a : Answer). a.number) (h [] []), ← ap (λ (a : Answer). a.detail) (h [] []))
+    go (refused c place) h =
+        rw (← ap (λ (a : Answer). a.number) (h [] []), ← ap (λ (a : Answer). a.detail) (h [] []), s, l, y, r1, r2, r3, r4, r5, r6, r7, r8, r9, t1, t2, t3, t4, t5)
 
 -- Both lengths, the types, the records by kind, and the text by lists.
 abbrev accepted_told : (sheet text types constructors functions properties parameters aliases : ℕ) → ListTexts → RoomAnswer

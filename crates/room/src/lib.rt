@@ -12,7 +12,7 @@ use inputs::outcome::Outcome;
 use metadata::measure;
 
 // How many records of each kind, 1 to 9; `counts` are those of kind 9.
-#[derive(Clone, Copy)]
+#[derive(Clone, Copy, Default)]
 pub struct Records {
     pub heads: usize,
     pub constructors: usize,
@@ -26,7 +26,7 @@ pub struct Records {
 }
 
 // The bytes of text of each list, of its records and of all they own; the head's last.
-#[derive(Clone, Copy)]
+#[derive(Clone, Copy, Default)]
 pub struct ListTexts {
     pub properties: usize,
     pub functions: usize,
@@ -36,7 +36,7 @@ pub struct ListTexts {
 }
 
 // Number and detail of a refusal (0 and 0: none), both lengths, the types, the records, the text by lists.
-#[derive(Clone, Copy)]
+#[derive(Clone, Copy, Default)]
 pub struct RoomAnswer {
     pub number: u64,
     pub detail: u64,
@@ -53,31 +53,13 @@ fn parameters_in(outcome: Outcome, sections: Sections) -> usize
     requires { (others_bytes outcome sections ≤ outcome.sheet) × (outcome.sheet ≤ longest_sheet) }
     ensures { result ≡ parameters_left outcome sections }
 {
-    let constructors = sections.constructors;
-    let functions = sections.functions;
-    let properties = sections.properties;
-    let aliases = sections.aliases;
-    let closed = 24 * constructors.count + 29 * functions.count;
-    let others = 23 + closed + 40 * properties.count + 13 * aliases.count + 10 * outcome.types;
-    let parameters = outcome.sheet - others;
-    parameters / 6
-}
-
-// No record of any kind.
-fn no_records() -> Records
-    ensures { result ≡ record { heads = 0; constructors = 0; functions = 0; properties = 0; parameters = 0; types = 0; defaults = 0; aliases = 0; counts = 0 } }
-{
-    Records {
-        heads: 0,
-        constructors: 0,
-        functions: 0,
-        properties: 0,
-        parameters: 0,
-        types: 0,
-        defaults: 0,
-        aliases: 0,
-        counts: 0,
-    }
+    let closed = 24 * sections.constructors.count + 29 * sections.functions.count;
+    let others = 23
+        + closed
+        + 40 * sections.properties.count
+        + 13 * sections.aliases.count
+        + 10 * outcome.types;
+    (outcome.sheet - others) / 6
 }
 
 // The text of each list: what stands between where the text before it ends and where its own does. The aliases' ends where the whole text does.
@@ -85,36 +67,16 @@ fn texts_in(text: usize, sections: Sections) -> ListTexts
     requires { TextsRise text sections }
     ensures { result ≡ texts_between text sections }
 {
-    let head = sections.head;
-    let constructors = sections.constructors;
-    let constructors_end = constructors.state;
-    let functions = sections.functions;
-    let functions_end = functions.state;
-    let properties = sections.properties;
-    let properties_end = properties.state;
-    let of_properties = properties_end.text - functions_end.text;
-    let of_functions = functions_end.text - constructors_end.text;
-    let of_constructors = constructors_end.text - head.text;
-    let of_aliases = text - properties_end.text;
+    let head = sections.head.text;
+    let constructors = sections.constructors.state.text;
+    let functions = sections.functions.state.text;
+    let properties = sections.properties.state.text;
     ListTexts {
-        properties: of_properties,
-        functions: of_functions,
-        constructors: of_constructors,
-        aliases: of_aliases,
-        head: head.text,
-    }
-}
-
-// No text in any list.
-fn no_texts() -> ListTexts
-    ensures { result ≡ record { properties = 0; functions = 0; constructors = 0; aliases = 0; head = 0 } }
-{
-    ListTexts {
-        properties: 0,
-        functions: 0,
-        constructors: 0,
-        aliases: 0,
-        head: 0,
+        properties: properties - functions,
+        functions: functions - constructors,
+        constructors: constructors - head,
+        aliases: text - properties,
+        head,
     }
 }
 
@@ -123,27 +85,20 @@ fn no_texts() -> ListTexts
 pub fn room(k: i32, version: [i32; 3], d1: &[u16], d2: &[u16], ends: &[u32]) -> RoomAnswer
     ensures { definition.room (input k version d1.now d2.now ends.now) ≡ tells_room result }
 {
-    let reply = measure(k, version, &*d1, &*d2, &*ends);
+    let reply = measure(k, version, d1, d2, ends);
     let outcome = reply.outcome;
     if outcome.number != 0 {
         return RoomAnswer {
             number: outcome.number,
             detail: outcome.detail,
-            sheet: 0,
-            text: 0,
-            types: 0,
-            records: no_records(),
-            texts: no_texts(),
+            ..RoomAnswer::default()
         };
     }
     let sections = reply.sections;
     let parameters = parameters_in(outcome, sections);
     let texts = texts_in(outcome.text, sections);
-    let constructors = sections.constructors;
-    let functions = sections.functions;
-    let properties = sections.properties;
-    let aliases = sections.aliases;
-    let defaults = constructors.count + functions.count;
+    let constructors = sections.constructors.count;
+    let functions = sections.functions.count;
     RoomAnswer {
         number: 0,
         detail: 0,
@@ -152,13 +107,13 @@ pub fn room(k: i32, version: [i32; 3], d1: &[u16], d2: &[u16], ends: &[u32]) -> 
         types: outcome.types,
         records: Records {
             heads: 1,
-            constructors: constructors.count,
-            functions: functions.count,
-            properties: properties.count,
+            constructors,
+            functions,
+            properties: sections.properties.count,
             parameters,
             types: outcome.types,
-            defaults,
-            aliases: aliases.count,
+            defaults: constructors + functions,
+            aliases: sections.aliases.count,
             counts: 1,
         },
         texts,

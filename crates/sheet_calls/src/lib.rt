@@ -44,7 +44,7 @@ pub extern "C" fn sheet_read(
     ensures unused { UnusedStrings sheet.old text.old (input k (major ∷ minor ∷ patch ∷ []) d1.now d2.now ends.now) (told_in answer.new sheet.new text.new) }
 {
     let version = [major, minor, patch];
-    let r = read(k, version, &*d1, &*d2, &*ends, sheet, text);
+    let r = read(k, version, d1, d2, ends, sheet, text);
     *answer = [
         r.number,
         r.detail,
@@ -76,7 +76,7 @@ pub extern "C" fn sheet_room(
     ensures unused { UnusedInRoom (input k (major ∷ minor ∷ patch ∷ []) d1.now d2.now ends.now) (room_in answer.new) }
 {
     let version = [major, minor, patch];
-    let r = room(k, version, &*d1, &*d2, &*ends);
+    let r = room(k, version, d1, d2, ends);
     let records = r.records;
     let texts = r.texts;
     *answer = [

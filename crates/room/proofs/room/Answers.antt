@@ -8,7 +8,7 @@ use Rattle.room.proofs.room.Goals as goal
 pub returns-then-outcome-ne0 : goal.returns-then-outcome-ne0
 returns-then-outcome-ne0 c =
     let m = rw (to_z-of_z _ _ c.ranges.k) at c.measure-reply.ensures in
-    refused-room _ _ m c.if-outcome-ne0.true c.no_records.ensures c.no_texts.ensures
+    refused-room _ _ m c.if-outcome-ne0.true c.default.result c.default.ensures
 
 pub parameters_in-parameters-requires : goal.parameters_in-parameters-requires
 parameters_in-parameters-requires c =
@@ -23,8 +23,8 @@ texts_in-texts-requires c =
     let m = rw (to_z-of_z _ _ c.ranges.k) at c.measure-reply.ensures in
     texts-rise i _ (accepted-room i c.measure-reply.result m c.if-outcome-ne0.false)
 
-pub overflow_add-defaults : goal.overflow_add-defaults
-overflow_add-defaults c =
+pub overflow_add-result : goal.overflow_add-result
+overflow_add-result c =
     let i = input c.args.k c.args.version c.args.d1.now c.args.d2.now c.args.ends.now in
     let m = rw (to_z-of_z _ _ c.ranges.k) at c.measure-reply.ensures in
     let t = accepted-room i c.measure-reply.result m c.if-outcome-ne0.false in

@@ -10,8 +10,8 @@ returns-then-text-length c = text-past-area c.args.kind c.args.bytes.now c.args.
 pub returns-then-sheet-size : goal.returns-then-sheet-size
 returns-then-sheet-size c = sheet-over c.args.kind c.args.bytes.now c.args.d2.now c.args.ends.now c.args.notes.now c.args.measured c.args.scratch_sheet.now c.args.scratch_text.now c.requires.1 c.args.sheet.now c.args.text.now c.if-length-gt-TEXT_LIMIT.false c.if-text-length.false c.if-sheet-size.true c.refused-then-sheet-size.ensures
 
-pub overflow_sub-entered : goal.overflow_sub-entered
-overflow_sub-entered c = types-left c.args.kind c.args.bytes.now c.args.d2.now c.args.ends.now c.args.notes.now c.args.measured c.args.scratch_sheet.now c.args.scratch_text.now c.requires.1
+pub overflow_sub-result : goal.overflow_sub-result
+overflow_sub-result c = types-left c.args.kind c.args.bytes.now c.args.d2.now c.args.ends.now c.args.notes.now c.args.measured c.args.scratch_sheet.now c.args.scratch_text.now c.requires.1
 
 pub returns : goal.returns
 returns c = all-written c.args.kind c.args.bytes.now c.args.d2.now c.args.ends.now c.args.notes.now c.args.measured c.args.scratch_sheet.now c.args.scratch_text.now c.requires.1 c.args.sheet.now c.args.text.now c.if-length-gt-TEXT_LIMIT.false c.if-text-length.false c.if-sheet-size.false c.write_out.ensures
