@@ -8,7 +8,7 @@ ghost use Rattle.answer_lines.specs.told.LineTold.{WroteRead, WroteKept, WrotePr
 
 use line::input::{Counts, ends_at, input_end, signed_at, units_at};
 use line::output::put_line;
-use line::stream::{Taken, take_input};
+use line::stream::{KEPT, Taken, take_input};
 use metadata::read;
 use std::io::Read;
 
@@ -73,7 +73,7 @@ pub fn answer_input<R: Read>(reader: &mut R, limit: usize, area: &mut [u8]) -> u
     requires { limit ≤ 2 ^ 40 }
     ensures { WroteGiven (R.remaining reader.old) (R.remaining reader.new) result area.old area.new }
 {
-    let mut kept = [0u8; 147484];
+    let mut kept = [0u8; KEPT];
     let taken = take_input(reader, &mut kept, limit);
     let size = taken.kept;
     put_answer(&kept[..size], taken, area)

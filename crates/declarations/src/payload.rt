@@ -1,43 +1,26 @@
 // The decoded bytes opened: a length-delimited name table, its records noted, then the body and its type table. The definition:
 // specs/Payload.antt, `payload`; what the answers tell: specs/told/PayloadTold.antt.
-ghost use Rattle.std.specs.Prelude.{◌≡◌, ◌*◌, ◌≤◌, ◌<◌, length};
-ghost use Rattle.foundation.specs.Results.{◌from◌, got};
+ghost use Rattle.std.specs.Prelude.{◌≡◌, ◌*◌, ◌≤◌, ◌<◌, length, Ok};
+ghost use Rattle.foundation.specs.Results.{◌from◌};
 ghost use Rattle.wire.specs.Wire.{read_delimited};
-ghost use Rattle.wire.specs.told.WireTold.{part_between, rest_of};
-ghost use Rattle.declarations.specs.declared.payload.IndexError.TheVariants.{Wire};
+ghost use Rattle.messages.specs.told.Reader.{SplitTold};
 ghost use Rattle.declarations.specs.told.PayloadTold.{BodyOpened, NotedOpened, OpenedTold, LentTold};
 
 use fields::CLASS_TYPE_TABLE;
 use lookup::codes::{codes_from, note_codes};
 use lookup::resolve::resolve;
 use lookup::strings::note_strings;
-use messages::reader::{Split, split_payload};
-use messages::{Checked, check};
-use names::records::{RECORD_WORDS, RecordIndex, index_records};
+use messages::check;
+use messages::reader::{Parts, split_payload};
+use names::records::{IndexError, RECORD_WORDS, index_records};
 use schema::Tables;
-use schema::table::{TypeIndex, index_types};
-use wire::WireError;
+use schema::table::index_types;
 
 // The body begins at a place of the decoded bytes.
 #[derive(Clone, Copy)]
 pub struct Opened {
     pub at: usize,
     pub tables: Tables,
-}
-
-// Why tables aren't noted: a refusal, or no room for the notes.
-#[derive(Clone, Copy)]
-pub enum IndexError {
-    NoRoom,
-    Wire(WireError),
-}
-
-impl From<WireError> for IndexError {
-    ghost from_gives = { λ error e. e ≡ Wire error };
-
-    fn from(error: WireError) -> IndexError {
-        IndexError::Wire(error)
-    }
 }
 
 // The body from `at` on is cut, and where the entries of its type table stand is noted.
@@ -50,23 +33,14 @@ fn open_body(
     requires { (at ≤ length bytes.now) × (length bytes.now < 65536) }
     ensures { BodyOpened bytes.now at records entries.new result }
 {
-    let checked = check(&bytes[at..], at as u32);
-    let Checked::Whole = checked else {
-        return Err(IndexError::Wire(checked.error()));
-    };
-    let types = index_types(bytes, at, CLASS_TYPE_TABLE, entries);
-    let TypeIndex::Types { count, first } = types else {
-        let TypeIndex::Refused { error } = types else {
-            return Err(IndexError::NoRoom);
-        };
-        return Err(IndexError::Wire(error));
-    };
+    check(&bytes[at..], at as u32)?;
+    let types = index_types(bytes, at, CLASS_TYPE_TABLE, entries)?;
     Ok(Opened {
         at,
         tables: Tables {
             records,
-            types: count,
-            first_nullable: first,
+            types: types.count,
+            first_nullable: types.first,
         },
     })
 }
@@ -85,29 +59,15 @@ fn open_noted(
     open_body(bytes, rest, count, &mut notes[RECORD_WORDS * count..])
 }
 
-// The name table from a place to another is cut and its records noted; then the body from `rest` on.
-fn open_table(
-    bytes: &[u8],
-    start: usize,
-    end: usize,
-    rest: usize,
-    notes: &mut [u64],
-) -> Result<Opened, IndexError>
-    requires { (start ≤ end) × (end ≤ rest) × (rest ≤ length bytes.now) × (length bytes.now < 65536) }
-    ensures { read_delimited (◌from◌ 0 bytes.now) ≡ got (part_between 0 bytes.now start end) (rest_of 0 bytes.now rest) → OpenedTold bytes.now notes.new result }
+// The name table of a payload's parts is cut and its records noted; then the body after it.
+fn open_table(bytes: &[u8], parts: Parts, notes: &mut [u64]) -> Result<Opened, IndexError>
+    requires { SplitTold bytes.now (read_delimited (◌from◌ 0 bytes.now)) (Ok parts) × (length bytes.now < 65536) }
+    ensures { OpenedTold bytes.now notes.new result }
 {
-    let checked = check(&bytes[start..end], start as u32);
-    let Checked::Whole = checked else {
-        return Err(IndexError::Wire(checked.error()));
-    };
-    let records = index_records(&bytes[..end], start, notes);
-    let RecordIndex::Records { count } = records else {
-        let RecordIndex::Refused { error } = records else {
-            return Err(IndexError::NoRoom);
-        };
-        return Err(IndexError::Wire(error));
-    };
-    open_noted(bytes, rest, count, notes)
+    let table = parts.table;
+    check(&bytes[table.start..table.end], table.start as u32)?;
+    let count = index_records(&bytes[..table.end], table.start, notes)?;
+    open_noted(bytes, parts.rest, count, notes)
 }
 
 // The decoded bytes opened, their tables noted in what is lent.
@@ -117,11 +77,8 @@ fn open_payload(bytes: &[u8], notes: &mut [u64]) -> Result<Opened, IndexError>
     if 65535 < bytes.len() {
         return Err(IndexError::NoRoom); // a place in a note has 16 bits
     }
-    let table = split_payload(bytes);
-    let Split::Parts { start, end, rest } = table else {
-        return Err(IndexError::Wire(table.error()));
-    };
-    open_table(bytes, start, end, rest, notes)
+    let parts = split_payload(bytes)?;
+    open_table(bytes, parts, notes)
 }
 
 // The same, and after both tables' notes a code for each of the first indices and the sizes of d2's long strings.

@@ -47,7 +47,7 @@ impl Refusal {
             Refusal::EmptyPayload => (5, 0),
             Refusal::NotAByte { unit } => (6, u64::from(unit)),
             Refusal::Stop(Stop::TooManyTypes) => (10, 0),
-            Refusal::Stop(Stop::Wire { error }) => match error {
+            Refusal::Stop(Stop::Wire(error)) => match error {
                 WireError::VarintCutShort { place } => (7, place as u64),
                 WireError::WireType { kind: _, place } => (8, place as u64),
                 WireError::OversizedVarint { place } => (9, place as u64),

@@ -13,8 +13,7 @@ ghost use Rattle.members.specs.told.ClosedTold.{close_cost, CloseTold};
 use crate::callables::{constructor_in, function_in};
 use declaration_rows::{put_default, put_default_absent};
 use descriptors::defaults::{constructor_default, function_default};
-use erasure::Part;
-use schema::{Picked, Tables};
+use schema::{Stop, Tables};
 use sheet::{State, put_all};
 
 // Kind 7 around a descriptor that was written aside.
@@ -45,7 +44,7 @@ fn close_constructor(
 {
     let mut aside = [0u8; 256];
     let part = constructor_default(msg, base, payload, d2, ends, notes, tables, &mut aside, 0);
-    let Part::Written { size } = part else {
+    let Some(size) = part else {
         return put_default_absent(state, sheet);
     };
     if size <= 256 {
@@ -74,7 +73,7 @@ fn close_function(
 {
     let mut aside = [0u8; 256];
     let part = function_default(msg, base, payload, d2, ends, notes, tables, &mut aside, 0);
-    let Part::Written { size } = part else {
+    let Some(size) = part else {
         return put_default_absent(state, sheet);
     };
     if size <= 256 {
@@ -97,20 +96,20 @@ pub(crate) fn closed_constructor(
     state: State,
     sheet: &mut [u8],
     text: &mut [u8],
-) -> Picked
+) -> Result<Option<State>, Stop>
     requires { Affords payload.now d2.now (closed_cost (length msg.now)) state × Stands payload.now msg.now base }
     ensures { MemberTold constructor_in closed_constructor (closed_cost (length msg.now)) (lent payload.now d2.now ends.now notes.now tables) msg.now base state result sheet.old sheet.new text.old text.new }
 {
-    let picked = constructor_in(
+    let kept = constructor_in(
         msg, base, payload, d2, ends, notes, tables, state, sheet, text,
-    );
-    let Picked::Kept { state: after } = picked else {
-        return picked;
+    )?;
+    let Some(after) = kept else {
+        return Ok(None);
     };
     let last = close_constructor(
         msg, base, payload, d2, ends, notes, tables, after, sheet, text,
     );
-    Picked::Kept { state: last }
+    Ok(Some(last))
 }
 
 // A function, with the record that closes it.
@@ -125,18 +124,18 @@ pub(crate) fn closed_function(
     state: State,
     sheet: &mut [u8],
     text: &mut [u8],
-) -> Picked
+) -> Result<Option<State>, Stop>
     requires { Affords payload.now d2.now (closed_cost (length msg.now)) state × Stands payload.now msg.now base }
     ensures { MemberTold function_in closed_function (closed_cost (length msg.now)) (lent payload.now d2.now ends.now notes.now tables) msg.now base state result sheet.old sheet.new text.old text.new }
 {
-    let picked = function_in(
+    let kept = function_in(
         msg, base, payload, d2, ends, notes, tables, state, sheet, text,
-    );
-    let Picked::Kept { state: after } = picked else {
-        return picked;
+    )?;
+    let Some(after) = kept else {
+        return Ok(None);
     };
     let last = close_function(
         msg, base, payload, d2, ends, notes, tables, after, sheet, text,
     );
-    Picked::Kept { state: last }
+    Ok(Some(last))
 }

@@ -4,10 +4,8 @@
 
 ghost use Rattle.std.specs.Prelude.{◌≤◌, ◌<◌, length, IfOk};
 
-use characters::Character;
-use messages::Checked;
-use names::name::{Change, Name, PREDEFINED};
-use names::records::RecordIndex;
+use names::encoded::Encoded;
+use names::name::{Change, Name, PREDEFINED, part_of};
 use std::io;
 use std::io::Read;
 
@@ -112,34 +110,13 @@ fn print_character(rt: &impl Print, code: u32) -> io::Result<()> {
     Ok(())
 }
 
-fn print_bytes(rt: &impl Print, s: &[u8], change: Change) -> io::Result<()> {
+fn print_text<E: Encoded>(rt: &impl Print, text: E, change: Change) -> io::Result<()> {
     let mut at = 0;
-    loop {
-        let character = characters::utf8_at(s, at);
-        let Character::Read { code, next } = character else {
-            return Ok(());
-        };
-        print_character(rt, names::name::character_of(change, code))?;
-        at = next;
+    while let Some(character) = text.character_at(at) {
+        print_character(rt, names::name::character_of(change, character.value))?;
+        at = character.next;
     }
-}
-
-fn print_units(
-    rt: &impl Print,
-    units: &[u16],
-    start: usize,
-    end: usize,
-    change: Change,
-) -> io::Result<()> {
-    let mut at = start;
-    loop {
-        let character = characters::utf16_at(units, at, end);
-        let Character::Read { code, next } = character else {
-            return Ok(());
-        };
-        print_character(rt, names::name::character_of(change, code))?;
-        at = next;
-    }
+    Ok(())
 }
 
 fn print_name(rt: &impl Print, payload: &[u8], units: &[u16], name: Name) -> io::Result<()> {
@@ -151,10 +128,10 @@ fn print_name(rt: &impl Print, payload: &[u8], units: &[u16], name: Name) -> io:
     }
     let change = names::name::change_of(name, false);
     if source == 3 {
-        return print_units(rt, units, start, end, change);
+        return print_text(rt, part_of(units, start, end), change);
     }
     let s = names::name::base_part(payload, &PREDEFINED, source, start, end);
-    print_bytes(rt, s, change)
+    print_text(rt, s, change)
 }
 
 fn look_up(
@@ -165,13 +142,11 @@ fn look_up(
     index: u32,
     kind: u8,
 ) -> io::Result<()> {
-    let checked = messages::check(table, 0);
-    let Checked::Whole = checked else {
+    if messages::check(table, 0).is_err() {
         return print!(rt; "refused");
-    };
+    }
     let mut notes = [0u64; 48];
-    let indexed = names::records::index_records(table, 0, &mut notes);
-    let RecordIndex::Records { count } = indexed else {
+    let Ok(count) = names::records::index_records(table, 0, &mut notes) else {
         return print!(rt; "refused");
     };
     lookup::resolve::resolve(table, &mut notes, count);

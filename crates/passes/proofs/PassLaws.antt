@@ -19,8 +19,8 @@ use Rattle.encoding.proofs.EncodingLaws.{decoded-length}
 use Rattle.declarations.specs.Payload.{payload}
 use Rattle.declarations.specs.told.PayloadTold.{LentRoom, LentTold}
 use Rattle.std.proofs.Common.{Result, Ok, Err}
-use Rattle.declarations.specs.declared.payload.IndexError.{IndexError}
-use Rattle.declarations.specs.declared.payload.IndexError.TheVariants as index
+use Rattle.names.specs.declared.records.IndexError.{IndexError}
+use Rattle.names.specs.declared.records.IndexError.TheVariants as index
 use Rattle.inputs.specs.told.OutcomesTold.{cause_of, place_of}
 use Rattle.inputs.specs.declared.Fault.TheVariants as fault
 use Rattle.inputs.specs.declared.outcome.Refusal.{Refusal}

@@ -16,12 +16,13 @@ ghost use Rattle.passes.specs.declared.PassError.TheVariants.{Refused};
 ghost use Rattle.passes.specs.told.PassTold.{of_index, of_decode, FirstTold, PassedTold, FrameRoom, reading_of};
 
 use areas::write_in;
-use declarations::body::{Section, Sections, body_in};
-use declarations::payload::{IndexError, open_lent};
+use declarations::body::{Sections, body_in};
+use declarations::payload::open_lent;
 use encoding::{DecodeError, decode};
 use inputs::Fault;
 use inputs::outcome::{Refusal, Sizes};
-use schema::{ALLOWANCE, Stop, Tables};
+use names::records::IndexError;
+use schema::{ALLOWANCE, Section, Stop, Tables};
 use sheet::State;
 
 mod areas; // areas.rt: what was measured, written into both areas
@@ -63,7 +64,7 @@ impl From<IndexError> for PassError {
     fn from(error: IndexError) -> PassError {
         match error {
             IndexError::NoRoom => PassError::NoRoom,
-            IndexError::Wire(error) => PassError::from(Stop::Wire { error }),
+            IndexError::Wire(error) => PassError::from(Stop::Wire(error)),
         }
     }
 }

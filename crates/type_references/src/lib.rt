@@ -6,7 +6,7 @@
 ghost use Rattle.std.specs.Prelude.{◌≡◌, ◌+◌, ◌≤◌, ◌<◌, length};
 ghost use Rattle.schema.specs.told.SchemaTold.{lent, Ready};
 ghost use Rattle.schema.specs.told.TypesTold.{ParseTold};
-ghost use Rattle.type_references.specs.told.OptionalTold.{optional_of, LookedTold, OptionalTold};
+ghost use Rattle.type_references.specs.told.OptionalTold.{LookedTold, OptionalTold};
 
 use arguments::{TypeField, type_field};
 use enter::{Shown, TypePlace};
@@ -15,9 +15,8 @@ use messages::next_body;
 use parse::{parse_at, resolve_at};
 use schema::argument::INVARIANT;
 use schema::types::entry_at;
-use schema::{ALLOWANCE, MAX_DEPTH, Picked, Stop, Tables, TypeSlot, Walked};
+use schema::{ALLOWANCE, MAX_DEPTH, Stop, Tables, TypeSlot};
 use sheet::State;
-use wire::Piece;
 
 mod waiting; // waiting.rt: what waits in a lent area
 mod arguments; // arguments.rt: the arguments of a type
@@ -37,13 +36,13 @@ fn short_type(
     state: State,
     sheet: &mut [u8],
     text: &mut [u8],
-) -> Walked
+) -> Result<State, Stop>
     requires { Ready payload.now d2.now state × (base + length msg.now ≤ length payload.now) × (place.left ≤ 64) × (tables.types ≡ 0) × (length msg.now < 128) }
     ensures { ParseTold (lent payload.now d2.now ends.now notes.now tables) msg.now base place.left place.role place.projection place.nullable state result sheet.old sheet.new text.old text.new }
 {
     let mut nest = [0u64; 128];
     parse_at(
-        &*msg, base, place, &*payload, &*d2, &*ends, &*notes, tables, state, &mut nest, sheet, text,
+        msg, base, place, payload, d2, ends, notes, tables, state, &mut nest, sheet, text,
     )
 }
 
@@ -60,13 +59,13 @@ fn long_type(
     state: State,
     sheet: &mut [u8],
     text: &mut [u8],
-) -> Walked
+) -> Result<State, Stop>
     requires { Ready payload.now d2.now state × (base + length msg.now ≤ length payload.now) × (place.left ≤ 64) }
     ensures { ParseTold (lent payload.now d2.now ends.now notes.now tables) msg.now base place.left place.role place.projection place.nullable state result sheet.old sheet.new text.old text.new }
 {
     let mut nest = [0u64; ALLOWANCE];
     parse_at(
-        &*msg, base, place, &*payload, &*d2, &*ends, &*notes, tables, state, &mut nest, sheet, text,
+        msg, base, place, payload, d2, ends, notes, tables, state, &mut nest, sheet, text,
     )
 }
 
@@ -84,40 +83,24 @@ fn own_type(
     state: State,
     sheet: &mut [u8],
     text: &mut [u8],
-) -> Walked
+) -> Result<State, Stop>
     requires { Ready payload.now d2.now state × (base + length msg.now ≤ length payload.now) × (place.left ≤ 64) }
     ensures { ParseTold (lent payload.now d2.now ends.now notes.now tables) msg.now base place.left place.role place.projection place.nullable state result sheet.old sheet.new text.old text.new }
 {
-    let argument = next_body(&*msg, base, TYPE_ARGUMENT, 0);
-    let Piece::Body { start: _, end: _ } = argument else {
+    let Some(_) = next_body(msg, base, TYPE_ARGUMENT, 0) else {
         let mut nest = [0u64; 0];
         return parse_at(
-            &*msg, base, place, &*payload, &*d2, &*ends, &*notes, tables, state, &mut nest, sheet,
-            text,
+            msg, base, place, payload, d2, ends, notes, tables, state, &mut nest, sheet, text,
         );
     };
-    let types = tables.types;
-    if types == 0 {
-        if msg.len() < 128 {
-            return short_type(
-                &*msg, base, place, &*payload, &*d2, &*ends, &*notes, tables, state, sheet, text,
-            );
-        }
+    if tables.types == 0 && msg.len() < 128 {
+        return short_type(
+            msg, base, place, payload, d2, ends, notes, tables, state, sheet, text,
+        );
     }
     long_type(
-        &*msg, base, place, &*payload, &*d2, &*ends, &*notes, tables, state, sheet, text,
+        msg, base, place, payload, d2, ends, notes, tables, state, sheet, text,
     )
-}
-
-// What may not be there, as what is done: nothing is written of what isn't.
-fn optional_of(found: Picked, state: State) -> Walked
-    ensures { result ≡ optional_of state found }
-{
-    match found {
-        Picked::Kept { state: after } => Walked::Done { state: after },
-        Picked::Dropped => Walked::Done { state },
-        Picked::Refused { stop } => Walked::Refused { stop },
-    }
 }
 
 // The type at an index, in an area of 16 KB.
@@ -132,7 +115,7 @@ fn long_entry(
     state: State,
     sheet: &mut [u8],
     text: &mut [u8],
-) -> Walked
+) -> Result<State, Stop>
     requires { Ready payload.now d2.now state }
     ensures { LookedTold (lent payload.now d2.now ends.now notes.now tables) index role state result sheet.old sheet.new text.old text.new }
 {
@@ -142,10 +125,9 @@ fn long_entry(
         projection: INVARIANT,
     };
     let found = resolve_at(
-        index, MAX_DEPTH, shown, &*payload, &*d2, &*ends, &*notes, tables, state, &mut nest, sheet,
-        text,
-    );
-    optional_of(found, state)
+        index, MAX_DEPTH, shown, payload, d2, ends, notes, tables, state, &mut nest, sheet, text,
+    )?;
+    Ok(found.unwrap_or(state))
 }
 
 // The type at an index of the type table, or nothing, in the area that is enough for it, as above.
@@ -160,29 +142,33 @@ fn looked_up(
     state: State,
     sheet: &mut [u8],
     text: &mut [u8],
-) -> Walked
+) -> Result<State, Stop>
     requires { Ready payload.now d2.now state }
     ensures { LookedTold (lent payload.now d2.now ends.now notes.now tables) index role state result sheet.old sheet.new text.old text.new }
 {
-    let entry = entry_at(&*payload, &*notes, tables, index);
-    let Piece::Body { start, end } = entry else {
-        return Walked::Done { state };
+    let Some(entry) = entry_at(payload, notes, tables, index) else {
+        return Ok(state);
     };
-    let argument = next_body(&payload[start..end], start as u32, TYPE_ARGUMENT, 0);
-    let Piece::Body { start: _, end: _ } = argument else {
+    let argument = next_body(
+        &payload[entry.start..entry.end],
+        entry.start as u32,
+        TYPE_ARGUMENT,
+        0,
+    );
+    let Some(_) = argument else {
         let mut nest = [0u64; 0];
         let shown = Shown {
             role,
             projection: INVARIANT,
         };
         let found = resolve_at(
-            index, MAX_DEPTH, shown, &*payload, &*d2, &*ends, &*notes, tables, state, &mut nest,
-            sheet, text,
-        );
-        return optional_of(found, state);
+            index, MAX_DEPTH, shown, payload, d2, ends, notes, tables, state, &mut nest, sheet,
+            text,
+        )?;
+        return Ok(found.unwrap_or(state));
     };
     long_entry(
-        index, role, &*payload, &*d2, &*ends, &*notes, tables, state, sheet, text,
+        index, role, payload, d2, ends, notes, tables, state, sheet, text,
     )
 }
 
@@ -200,13 +186,15 @@ pub fn declared_type(
     state: State,
     sheet: &mut [u8],
     text: &mut [u8],
-) -> Walked
+) -> Result<State, Stop>
     requires { Ready payload.now d2.now state × (base + length msg.now ≤ length payload.now) }
     ensures { OptionalTold (lent payload.now d2.now ends.now notes.now tables) msg.now base slot.inline slot.indexed slot.role state result sheet.old sheet.new text.old text.new }
 {
-    let inner = type_field(&*msg, base, slot.inline, slot.indexed);
-    match inner {
-        TypeField::Inline { start, end } => {
+    let Some(field) = type_field(msg, base, slot.inline, slot.indexed)? else {
+        return Ok(state);
+    };
+    match field {
+        TypeField::Inline(body) => {
             let place = TypePlace {
                 left: MAX_DEPTH,
                 role: slot.role,
@@ -214,25 +202,21 @@ pub fn declared_type(
                 nullable: false,
             };
             own_type(
-                &msg[start..end],
-                base + start as u32,
+                &msg[body.start..body.end],
+                base + body.start as u32,
                 place,
-                &*payload,
-                &*d2,
-                &*ends,
-                &*notes,
+                payload,
+                d2,
+                ends,
+                notes,
                 tables,
                 state,
                 sheet,
                 text,
             )
         }
-        TypeField::ByIndex { index } => looked_up(
-            index, slot.role, &*payload, &*d2, &*ends, &*notes, tables, state, sheet, text,
+        TypeField::ByIndex(index) => looked_up(
+            index, slot.role, payload, d2, ends, notes, tables, state, sheet, text,
         ),
-        TypeField::Nothing => Walked::Done { state },
-        TypeField::Refused { error } => Walked::Refused {
-            stop: Stop::Wire { error },
-        },
     }
 }

@@ -7,8 +7,8 @@ use Rattle.foundation.specs.Results.{Res, ok, ◌from◌}
 use Rattle.foundation.specs.Texts.{Text}
 use Rattle.fields.specs.Fields.{Class-type_table}
 use Rattle.wire.specs.Wire.{Message, cut}
-use Rattle.wire.specs.Messages.{as32}
 use Rattle.wire.specs.told.WireTold.{wire_refused}
+use Rattle.messages.specs.told.Asked.{index_told}
 use Rattle.names.specs.Records.{Record}
 use Rattle.names.specs.Names.{Names, ends_fit}
 use Rattle.names.specs.told.Index.{IndexOf}
@@ -21,8 +21,8 @@ use Rattle.schema.specs.told.SchemaTold.{EntriesOf, entries_in}
 use Rattle.schema.specs.declared.Tables.{Tables}
 use Rattle.declarations.specs.Payload.{body_of, payload}
 use Rattle.declarations.specs.declared.payload.Opened.{Opened}
-use Rattle.declarations.specs.declared.payload.IndexError.{IndexError}
-use Rattle.declarations.specs.declared.payload.IndexError.TheVariants as index
+use Rattle.names.specs.declared.records.IndexError.{IndexError}
+use Rattle.names.specs.declared.records.IndexError.TheVariants as index
 
 -- the body from a place of the decoded bytes on
 abbrev pub body_from : ℕ → Names → List ℕ → ℕ → Res (Declarations × ℕ)
@@ -35,7 +35,7 @@ pub record BodyAt (bytes : List ℕ) (at : ℕ) (entries : List ℕ) (tables : T
   pub table : TypeTable
   pub reads : (l : ℕ) → type_table_in Class-type_table body l ≡ ok (table, l)
   pub noted : EntriesOf bytes entries tables.types table.types
-  pub nullable : table.first_nullable ≡ as32 tables.first_nullable
+  pub nullable : table.first_nullable ≡ index_told tables.first_nullable
 
 -- Half as many entries as the body has bytes, whose places fit 32 bits.
 pub record BodyRoom (bytes : List ℕ) (at : ℕ) (entries : List ℕ) : Type 0 where

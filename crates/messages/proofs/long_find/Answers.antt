@@ -13,18 +13,18 @@ pub returns-in_default : goal.returns-in_default
 returns-in_default c =
     let a = c.args in
     let l = c.loop-i in
-    find-never a.number a.base a.s.now a.at l.i l.invariant (c.field_at-step.ensures.inside (omega arith)) c.loop-i-test.true c.in_default.is
+    find-never a.number a.base a.s.now a.at l.i l.invariant _ (c.in_default.ensures.inside (omega arith)) c.loop-i-test.true
 
-pub returns-then-n-number : goal.returns-then-n-number
-returns-then-n-number c =
+pub returns-then-read-number : goal.returns-then-read-number
+returns-then-read-number c =
     let a = c.args in
     let l = c.loop-i in
-    find-found a.number a.base a.s.now a.at l.i l.invariant (c.field_at-step.ensures.inside (omega arith)) c.loop-i-test.true c.in-Field.is c.if-n-number.true
+    find-found a.number a.base a.s.now a.at l.i l.invariant c.in-Ok.read (c.in-Ok.ensures.inside (omega arith)) c.loop-i-test.true c.if-read-number.true
 
 pub loop-i-smaller : goal.loop-i-smaller
 loop-i-smaller c =
     let a = c.args in
-    let h = field-inside a.base a.s.now c.loop-i.i (c.field_at-step.ensures.inside (omega arith)) (omega arith) c.in-Field.is in
+    let h = field-inside a.base a.s.now c.loop-i.i c.in-Ok.read (c.in-Ok.ensures.inside (omega arith)) (omega arith) in
     let f = c.skip_fields-i.ensures.later in
     omega arith
 
@@ -32,7 +32,7 @@ pub loop-i-preserved : goal.loop-i-preserved
 loop-i-preserved c =
     let a = c.args in
     let l = c.loop-i in
-    occur-skipped a.base c.skip_fields-i.ensures a.at (find-passed a.number a.base a.s.now a.at l.i l.invariant (c.field_at-step.ensures.inside (omega arith)) c.loop-i-test.true _ c.in-Field.is c.if-n-number.false)
+    occur-skipped a.base c.skip_fields-i.ensures 0 (omega arith) a.at (find-passed a.number a.base a.s.now a.at l.i l.invariant c.in-Ok.read (c.in-Ok.ensures.inside (omega arith)) c.loop-i-test.true c.if-read-number.false)
 
 pub returns : goal.returns
 returns c =

@@ -13,18 +13,18 @@ pub returns-in_default : goal.returns-in_default
 returns-in_default c =
     let a = c.args in
     let l = c.loop-i in
-    bodies-never a.number a.base a.s.now a.at l.i l.invariant.1 (c.field_at-step.ensures.inside (omega arith)) c.loop-i-test.true c.in_default.is
+    bodies-never a.number a.base a.s.now a.at l.i l.invariant.1 _ (c.in_default.ensures.inside (omega arith)) c.loop-i-test.true
 
-pub returns-in_default-piece : goal.returns-in_default-piece
-returns-in_default-piece c =
+pub returns-in-Some : goal.returns-in-Some
+returns-in-Some c =
     let a = c.args in
     let l = c.loop-i in
-    bodies-here a.number a.base a.s.now a.at l.i l.invariant.1 (c.field_at-step.ensures.inside (omega arith)) c.loop-i-test.true _ c.in-Field.is c.body_of-piece.ensures l.invariant.0 c.in_default-piece.is
+    bodies-here a.number a.base a.s.now a.at l.i l.invariant.1 c.in-Ok.read (c.in-Ok.ensures.inside (omega arith)) c.loop-i-test.true c.body_of.ensures l.invariant.0 c.in-Some.is
 
 pub loop-i-smaller : goal.loop-i-smaller
 loop-i-smaller c =
     let a = c.args in
-    let h = field-inside a.base a.s.now c.loop-i.i (c.field_at-step.ensures.inside (omega arith)) (omega arith) c.in-Field.is in
+    let h = field-inside a.base a.s.now c.loop-i.i c.in-Ok.read (c.in-Ok.ensures.inside (omega arith)) (omega arith) in
     let f = c.skip_fields-i.ensures.later in
     omega arith
 
@@ -32,9 +32,9 @@ pub loop-i-preserved : goal.loop-i-preserved
 loop-i-preserved c =
     let a = c.args in
     let l = c.loop-i in
-    let h = field-inside a.base a.s.now l.i (c.field_at-step.ensures.inside (omega arith)) (omega arith) c.in-Field.is in
+    let h = field-inside a.base a.s.now l.i c.in-Ok.read (c.in-Ok.ensures.inside (omega arith)) (omega arith) in
     let f = c.skip_fields-i.ensures.later in
-    (omega arith, bodies-skipped a.base c.skip_fields-i.ensures a.at (bodies-on a.number a.base a.s.now a.at l.i l.invariant.1 (c.field_at-step.ensures.inside (omega arith)) c.loop-i-test.true _ c.in-Field.is c.body_of-piece.ensures c.in-Nothing.is))
+    (omega arith, bodies-skipped a.base c.skip_fields-i.ensures 0 (omega arith) a.at (bodies-on a.number a.base a.s.now a.at l.i l.invariant.1 c.in-Ok.read (c.in-Ok.ensures.inside (omega arith)) c.loop-i-test.true c.body_of.ensures c.in_default-body_of.is))
 
 pub returns : goal.returns
 returns c =

@@ -14,8 +14,8 @@ use Rattle.inputs.specs.declared.Fault.TheVariants as fault
 use Rattle.inputs.specs.declared.outcome.Refusal.TheVariants as refusal
 use Rattle.declarations.specs.Payload.{payload}
 use Rattle.declarations.specs.told.PayloadTold.{LentRoom}
-use Rattle.declarations.specs.declared.payload.IndexError.{IndexError}
-use Rattle.declarations.specs.declared.payload.IndexError.TheVariants as index
+use Rattle.names.specs.declared.records.IndexError.{IndexError}
+use Rattle.names.specs.declared.records.IndexError.TheVariants as index
 use Rattle.passes.specs.Answered.{nothing_read}
 use Rattle.passes.specs.told.AreaTold.{strings, MeasuredAt}
 use Rattle.passes.specs.told.TaskTold.{TaskTold}

@@ -12,7 +12,7 @@ use Rattle.inputs.specs.declared.outcome.Sizes.{Sizes}
 use Rattle.inputs.specs.declared.outcome.Refusal.{Refusal}
 use Rattle.sheet.specs.declared.State.{State}
 use Rattle.declarations.specs.Payload.{head_row, declaration_rows}
-use Rattle.declarations.specs.declared.body.Section.{Section}
+use Rattle.schema.specs.declared.Section.{Section}
 use Rattle.declarations.specs.declared.body.Sections.{Sections}
 use Rattle.passes.specs.Answered.{answered}
 use Rattle.passes.specs.told.AreaTold.{start}

@@ -1,11 +1,17 @@
+use mathlib.Core.Path.{ap, sym, ◌∙◌}
 use Rattle.std.proofs.Common.{rules}
 use native.Mathlib.Omega.{arith}
 use Rattle.type_references.specs.told.ParseTold.{roomy}
-use Rattle.type_references.proofs.OptionalLaws.{looked}
+use Rattle.type_references.specs.told.OptionalTold.{optional_of}
+use Rattle.schema.proofs.AnswerLaws.{handed_on}
+use Rattle.type_references.proofs.OptionalLaws.{looked, optional_ok}
 use Rattle.type_references.proofs.long_entry.Goals as goal
 
-pub resolve_at-found-requires : goal.resolve_at-found-requires
-resolve_at-found-requires c = (c.requires, omega arith, roomy (search rules))
+pub resolve_at-requires : goal.resolve_at-requires
+resolve_at-requires c = (c.requires, omega arith, roomy (search rules))
+
+pub returns-in_err-found : goal.returns-in_err-found
+returns-in_err-found c = looked c.resolve_at.result c.resolve_at.ensures (handed_on _ c.from_residual.ensures.1 ∙ ap (optional_of c.args.state) (sym c.in_err-found.was))
 
 pub returns : goal.returns
-returns c = looked c.resolve_at-found.result c.resolve_at-found.ensures c.optional_of.ensures
+returns c = looked c.resolve_at.result c.resolve_at.ensures (optional_ok c.args.state c.in_ok-found.was c.unwrap_or.ensures)

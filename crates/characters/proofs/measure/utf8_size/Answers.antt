@@ -22,22 +22,22 @@ pub block_size-requires : goal.block_size-requires
 block_size-requires c = (omega arith, omega (arith, c.loop-i.invariant.inside), omega arith)
 
 pub overflow_add-size : goal.overflow_add-size
-overflow_add-size c = record { fits = measuring-fits (measuring-next c.loop-i.invariant (c.loop-i.i + 16384) c.block_size.result (omega arith) c.requires.0 c.block_size.ensures c.wide-size.ensures) _ c.requires.1 }
+overflow_add-size c = record { fits = measuring-fits (measuring-next c.loop-i.invariant (c.loop-i.i + 16384) c.block_size.result (omega arith) c.requires.0 c.block_size.ensures c.from-size.ensures) _ c.requires.1 }
 
 pub loop-i-smaller : goal.loop-i-smaller
 loop-i-smaller c = omega arith
 
 pub loop-i-preserved : goal.loop-i-preserved
-loop-i-preserved c = measuring-next c.loop-i.invariant (c.loop-i.i + 16384) c.block_size.result (omega arith) c.requires.0 c.block_size.ensures c.wide-size.ensures
+loop-i-preserved c = measuring-next c.loop-i.invariant (c.loop-i.i + 16384) c.block_size.result (omega arith) c.requires.0 c.block_size.ensures c.from-size.ensures
 
 pub block_size-requires-2 : goal.block_size-requires-2
 block_size-requires-2 c = (omega (arith, c.loop-i.invariant.inside), omega arith, omega arith)
 
 pub overflow_add-size-2 : goal.overflow_add-size-2
-overflow_add-size-2 c = record { fits = measuring-fits (measuring-next c.loop-i.invariant (c.args.end - 1) c.block_size-2.result (omega arith) c.requires.0 c.block_size-2.ensures c.wide-size-2.ensures) _ c.requires.1 }
+overflow_add-size-2 c = record { fits = measuring-fits (measuring-next c.loop-i.invariant (c.args.end - 1) c.block_size-2.result (omega arith) c.requires.0 c.block_size-2.ensures c.from-size-2.ensures) _ c.requires.1 }
 
 pub overflow_add-result : goal.overflow_add-result
-overflow_add-result c = record { fits = measuring-whole (measuring-next c.loop-i.invariant (c.args.end - 1) c.block_size-2.result (omega arith) c.requires.0 c.block_size-2.ensures c.wide-size-2.ensures) c.unit_size.result (omega arith) c.requires.0 c.unit_size.ensures c.wide.ensures _ c.requires.1 }
+overflow_add-result c = record { fits = measuring-whole (measuring-next c.loop-i.invariant (c.args.end - 1) c.block_size-2.result (omega arith) c.requires.0 c.block_size-2.ensures c.from-size-2.ensures) c.unit_size.result (omega arith) c.requires.0 c.unit_size.ensures c.from.ensures _ c.requires.1 }
 
 pub returns : goal.returns
-returns c = measuring-end (measuring-next c.loop-i.invariant (c.args.end - 1) c.block_size-2.result (omega arith) c.requires.0 c.block_size-2.ensures c.wide-size-2.ensures) c.unit_size.result (omega arith) c.requires.0 c.unit_size.ensures c.wide.ensures
+returns c = measuring-end (measuring-next c.loop-i.invariant (c.args.end - 1) c.block_size-2.result (omega arith) c.requires.0 c.block_size-2.ensures c.from-size-2.ensures) c.unit_size.result (omega arith) c.requires.0 c.unit_size.ensures c.from.ensures
