@@ -33,7 +33,7 @@ use Rattle.declarations.specs.Payload.{declaration_rows}
 use Rattle.passes.specs.Answered.{answered, written, sheet_written, accepted, text_limit}
 use Rattle.metadata.specs.Read.{read, reading}
 use Rattle.inputs.specs.Refusals.{number_of, detail_of}
-use Rattle.inputs.specs.told.OutcomesTold.{cause_of, place_of, told}
+use Rattle.inputs.specs.told.OutcomesTold.{refusal_cause, refusal_place, told}
 use Rattle.inputs.specs.declared.outcome.Sizes.{Sizes}
 use Rattle.inputs.specs.declared.outcome.Refusal.{Refusal}
 use Rattle.line.specs.declared.input.Counts.{Counts}
@@ -195,7 +195,7 @@ module _ (kept d1 d2 ends : List ℕ) {S T S' T' : List ℕ} {k : ℤ} {version 
         → WroteRead kept d1 d2 ends n A A'
     wrote_read {sizes} f w = wrote_outcome (Std.Ok sizes) f w
 
-    pub wrote_refused : {x : Refusal} → o ≡ Std.Err x → {c : ℕ × ℕ} → c ≡ (number_of (cause_of x), detail_of (cause_of x) (place_of x))
+    pub wrote_refused : {x : Refusal} → o ≡ Std.Err x → {c : ℕ × ℕ} → c ≡ (number_of (refusal_cause x), detail_of (refusal_cause x) (refusal_place x))
         → Wrote (line_of c.0 c.1 [] []) 0 n A A' → WroteRead kept d1 d2 ends n A A'
     wrote_refused {x} f e w = wrote_outcome (Std.Err x) f (subst (λ (y : ℕ × ℕ). Wrote (line_of y.0 y.1 [] []) 0 n A A') e w)
 

@@ -100,13 +100,7 @@ fn row_of(name: &[u8]) -> Option<usize>
     ensures { CanBe name.now result }
 {
     let n = name.len();
-    if n < 8 {
-        return None;
-    }
-    if 36 < n {
-        return None;
-    }
-    if name[0] != b'k' {
+    if n < 8 || 36 < n || name[0] != b'k' {
         return None;
     }
     let hash = (n + usize::from(name[7]) + 3 * usize::from(name[n - 1])) % 128;

@@ -2,7 +2,7 @@
 ghost use Rattle.std.specs.Prelude.{◌≡◌};
 ghost use Rattle.inputs.specs.Refusals.{number_of, detail_of};
 ghost use Rattle.inputs.specs.declared.outcome.Refusal.TheVariants as refusal;
-ghost use Rattle.inputs.specs.told.OutcomesTold.{cause_of, place_of};
+ghost use Rattle.inputs.specs.told.OutcomesTold.{refusal_cause, refusal_place};
 
 use crate::Fault;
 use schema::Stop;
@@ -37,7 +37,7 @@ impl Refusal {
     // The refusal's number, and its detail: the unit of 6; of 7, 8, 9, 13, 14 and 17 the place, an offset among the decoded bytes.
     #[tactic(auto, unfolding(crate::specs::Refusals::number_of, crate::specs::Refusals::detail_of))]
     pub fn numbered(self) -> (u64, u64)
-        ensures { result ≡ (number_of (cause_of self), detail_of (cause_of self) (place_of self)) }
+        ensures { result ≡ (number_of (refusal_cause self), detail_of (refusal_cause self) (refusal_place self)) }
     {
         match self {
             Refusal::Fault(Fault::D1TooLong) => (1, 0),

@@ -21,7 +21,7 @@ use Rattle.declarations.specs.told.PayloadTold.{LentRoom, LentTold}
 use Rattle.std.proofs.Common.{Result, Ok, Err}
 use Rattle.names.specs.declared.records.IndexError.{IndexError}
 use Rattle.names.specs.declared.records.IndexError.TheVariants as index
-use Rattle.inputs.specs.told.OutcomesTold.{cause_of, place_of}
+use Rattle.inputs.specs.told.OutcomesTold.{refusal_cause, refusal_place}
 use Rattle.inputs.specs.declared.Fault.TheVariants as fault
 use Rattle.inputs.specs.declared.outcome.Refusal.{Refusal}
 use Rattle.inputs.specs.declared.outcome.Refusal.TheVariants as why
@@ -70,11 +70,11 @@ module _ (asked : Asked) (d1 d2 ends before after : List ℕ) (answer : Decoded)
       q,
     )
 
-  decode-refused : (error : DecodeError) → answer ≡ Err error → (refusal : Refusal) → encoding.tells (Err error) after ≡ some (refused (cause_of refusal) 0)
-      → place_of refusal ≡ 0 → (S T : List ℕ) → TaskTold asked (reading_of asked.kind d1 d2 ends) (Err refusal) S S T T
+  decode-refused : (error : DecodeError) → answer ≡ Err error → (refusal : Refusal) → encoding.tells (Err error) after ≡ some (refused (refusal_cause refusal) 0)
+      → refusal_place refusal ≡ 0 → (S T : List ℕ) → TaskTold asked (reading_of asked.kind d1 d2 ends) (Err refusal) S S T T
   decode-refused error e refusal f p S T =
       reply_refused asked _ refusal S T
-      (ap (λ (x : Res (List ℕ)). Results.◌>>=◌ x (payload asked.kind (strings d2 ends))) (arm_is (Err error) e f) ∙ ap (refused (cause_of refusal)) (sym p))
+      (ap (λ (x : Res (List ℕ)). Results.◌>>=◌ x (payload asked.kind (strings d2 ends))) (arm_is (Err error) e f) ∙ ap (refused (refusal_cause refusal)) (sym p))
 
   -- why it isn't decoded is passed on
   pub decode-stops : (error : DecodeError) → answer ≡ Err error → length after ≡ length before → (notes S T : List ℕ) → (e : PassError) → e ≡ of_decode error

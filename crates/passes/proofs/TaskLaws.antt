@@ -8,7 +8,7 @@ use Rattle.foundation.specs.Results.{Res, refused}
 use Rattle.sheet.specs.declared.State.{State}
 use Rattle.declaration_rows.specs.Declarations.{Declarations}
 use Rattle.std.specs.Prelude.{Result, Ok, Err}
-use Rattle.inputs.specs.told.OutcomesTold.{cause_of, place_of, told}
+use Rattle.inputs.specs.told.OutcomesTold.{refusal_cause, refusal_place, told}
 use Rattle.inputs.specs.declared.outcome.Sizes.{Sizes}
 use Rattle.inputs.specs.declared.outcome.Refusal.{Refusal}
 use Rattle.declarations.specs.Payload.{payload}
@@ -35,12 +35,12 @@ pub lists_none : {s : State} → s ≡ start
 lists_none e = rw e
 
 -- A refusal tells the same for every task, and leaves both areas as they are.
-pub reply_refused : (asked : Asked) (x : Res (Declarations × ℕ)) (refusal : Refusal) (S T : List ℕ) → x ≡ refused (cause_of refusal) (place_of refusal)
+pub reply_refused : (asked : Asked) (x : Res (Declarations × ℕ)) (refusal : Refusal) (S T : List ℕ) → x ≡ refused (refusal_cause refusal) (refusal_place refusal)
     → TaskTold asked x (Err refusal) S S T T
 reply_refused asked x refusal S T e =
     subst (λ (y : Res (Declarations × ℕ)). TaskTold asked y (Err refusal) S S T T) (sym e) (by-task asked.task)
   where
-    by-task : (t : Task) → TaskToldBy t asked.kind (refused (cause_of refusal) (place_of refusal)) (Err refusal) S S T T
+    by-task : (t : Task) → TaskToldBy t asked.kind (refused (refusal_cause refusal) (refusal_place refusal)) (Err refusal) S S T T
     by-task task.Read = refl
     by-task task.Room = (λ sheet text. refl, refl, refl)
 

@@ -23,27 +23,27 @@ fault_told (Err f) = some (fault_cause f)
 fault_told (Ok u) = none
 
 -- the cause of a refusal, and where it is due
-abbrev pub cause_of : Refusal → Cause
-cause_of (why.Fault fault) = fault_cause fault
-cause_of why.EmptyPayload = empty_payload
-cause_of (why.NotAByte unit) = not_a_byte unit
-cause_of (why.Stop stop) = stop_cause stop
-cause_of why.TextTooLong = text_too_long
-cause_of why.SheetTooLong = sheet_too_long
+abbrev pub refusal_cause : Refusal → Cause
+refusal_cause (why.Fault fault) = fault_cause fault
+refusal_cause why.EmptyPayload = empty_payload
+refusal_cause (why.NotAByte unit) = not_a_byte unit
+refusal_cause (why.Stop stop) = stop_cause stop
+refusal_cause why.TextTooLong = text_too_long
+refusal_cause why.SheetTooLong = sheet_too_long
 
-abbrev pub place_of : Refusal → ℕ
-place_of (why.Fault fault) = 0
-place_of why.EmptyPayload = 0
-place_of (why.NotAByte unit) = 0
-place_of (why.Stop stop) = stop_place stop
-place_of why.TextTooLong = 0
-place_of why.SheetTooLong = 0
+abbrev pub refusal_place : Refusal → ℕ
+refusal_place (why.Fault fault) = 0
+refusal_place why.EmptyPayload = 0
+refusal_place (why.NotAByte unit) = 0
+refusal_place (why.Stop stop) = stop_place stop
+refusal_place why.TextTooLong = 0
+refusal_place why.SheetTooLong = 0
 
 -- an outcome, and what both areas hold afterwards
 abbrev pub told : Result Sizes Refusal → List ℕ → List ℕ → Answer
 told (Ok r) sheet text =
     record { number = 0; detail = 0; sheet_length = r.sheet; text_length = r.text; types = r.types; sheet = sheet; text = text }
-told (Err r) sheet text = refusal sheet text (cause_of r) (place_of r)
+told (Err r) sheet text = refusal sheet text (refusal_cause r) (refusal_place r)
 
 -- The refusal of a cause at a place, which leaves both areas as they are.
 abbrev pub RefusedAs : Cause → ℕ → Result Sizes Refusal → Type 0

@@ -9,7 +9,7 @@ use Rattle.lookup.specs.told.Strings.{codes_from}
 use Rattle.declaration_rows.specs.Declarations.{Declarations}
 use Rattle.schema.specs.declared.Stop.TheVariants as stop
 use Rattle.inputs.specs.Inputs.{carries_declarations}
-use Rattle.inputs.specs.told.OutcomesTold.{cause_of, place_of}
+use Rattle.inputs.specs.told.OutcomesTold.{refusal_cause, refusal_place}
 use Rattle.inputs.specs.declared.Fault.TheVariants as fault
 use Rattle.inputs.specs.declared.outcome.Refusal.TheVariants as refusal
 use Rattle.declarations.specs.Payload.{payload}
@@ -39,7 +39,7 @@ of_decode decode.NoRoom = first.NoRoom
 
 abbrev pub FirstTold : ℕ → List ℕ → List ℕ → List ℕ → List ℕ → Result Measured PassError → (S T : List ℕ) → Type 0
 FirstTold kind bytes d2 ends notes (Ok measured) S T = MeasuredAt kind bytes d2 ends notes measured S T
-FirstTold kind bytes d2 ends notes (Err (first.Refused r)) S T = payload kind (strings d2 ends) bytes ≡ refused (cause_of r) (place_of r)
+FirstTold kind bytes d2 ends notes (Err (first.Refused r)) S T = payload kind (strings d2 ends) bytes ≡ refused (refusal_cause r) (refusal_place r)
 FirstTold kind bytes d2 ends notes (Err first.NoRoom) S T = LentRoom bytes notes → ⊥
 
 -- The reply to some reading or its refusal, or no room, with both areas as they were.

@@ -1,7 +1,7 @@
 -- What the answer of `room` tells, and how the parameters' records and the lists' texts are found.
 -- Assumes nothing.
 use Rattle.std.specs.Prelude.{[], ◌∷◌, ℕ, ◌+◌, ◌-◌, ◌*◌, ◌/◌, ◌≤◌, Result, Ok, Err}
-use Rattle.inputs.specs.told.OutcomesTold.{cause_of, place_of}
+use Rattle.inputs.specs.told.OutcomesTold.{refusal_cause, refusal_place}
 use Rattle.inputs.specs.declared.outcome.Sizes.{Sizes}
 use Rattle.inputs.specs.declared.outcome.Refusal.{Refusal}
 use Rattle.declarations.specs.declared.body.Sections.{Sections}
@@ -47,4 +47,4 @@ tells_room (Ok r) = record {
       ∷ r.records.defaults ∷ r.records.aliases ∷ r.records.counts ∷ [];
   list_texts = r.texts.properties ∷ r.texts.functions ∷ r.texts.constructors ∷ r.texts.aliases ∷ r.texts.head ∷ [];
 }
-tells_room (Err refusal) = definition.room_refused (cause_of refusal) (place_of refusal)
+tells_room (Err refusal) = definition.room_refused (refusal_cause refusal) (refusal_place refusal)
