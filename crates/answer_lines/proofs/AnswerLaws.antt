@@ -176,7 +176,7 @@ unfolding zeros
 zeros-are = refl
 
 -- the line of the answer, from the entry's outcome and the line that was put
-module _ (kept d1 d2 ends : List ℕ) {S T S' T' : List ℕ} {k : ℤ} {version : List ℤ} {o : Std.Result Sizes Refusal}
+module _ (kept d1 d2 ends S' T' : List ℕ) {S T : List ℕ} {k : ℤ} {version : List ℤ} {o : Std.Result Sizes Refusal}
     (h : read S T (input k version d1 d2 ends) ≡ told o S' T')
     (p : k ≡ signed_of (number_at 4 kept 0)) (q : version ≡ version_at kept) (u : S ≡ zeros) (v : T ≡ zeros)
     {n : ℕ} {A A' : List ℕ}
