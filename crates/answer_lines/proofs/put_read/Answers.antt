@@ -34,4 +34,4 @@ returns-in-Err c =
     let a = c.args in
     let bytes : (i : ℕ) → get_or a.kept.now i 0 < 256 = λ i. (c.type_inv.kept i).fits in
     wrote_refused a.kept.now a.d1.now a.d2.now a.ends.now c.read.new.sheet c.read.new.text c.read.ensures.0 (signed-handed a.kept.now bytes 0 c.signed_at-k.ensures)
-    (version-handed a.kept.now bytes c.signed_at.ensures c.signed_at-2.ensures c.signed_at-3.ensures) zeros-are zeros-are c.in-Err.is c.numbered.ensures c.put_line-in-Err.ensures
+    (version-handed a.kept.now bytes c.signed_at.ensures c.signed_at-2.ensures c.signed_at-3.ensures) zeros-are zeros-are c.in-Err.is c.numbered-number.ensures c.put_line-in-Err.ensures
