@@ -8,7 +8,7 @@ ghost use Rattle.answer_lines.specs.told.LineTold.{WroteRead, WroteKept, WrotePr
 
 use line::input::{Counts, ends_at, input_end, signed_at, units_at};
 use line::output::put_line;
-use line::stream::{Taken, take_input};
+use line::stream::{KEPT, Taken, take_input};
 use metadata::read;
 use std::io::Read;
 
@@ -20,16 +20,13 @@ fn put_read(kept: &[u8], d1: &[u16], d2: &[u16], ends: &[u32], area: &mut [u8]) 
     let version = [signed_at(kept, 4), signed_at(kept, 8), signed_at(kept, 12)];
     let mut sheet = [0u8; 65536];
     let mut text = [0u8; 65536];
-    let answer = read(k, version, d1, d2, ends, &mut sheet, &mut text);
-    let sheet_length = answer.sheet;
-    let text_length = answer.text;
-    put_line(
-        area,
-        answer.number,
-        answer.detail,
-        &sheet[..sheet_length],
-        &text[..text_length],
-    )
+    match read(k, version, d1, d2, ends, &mut sheet, &mut text).outcome {
+        Ok(sizes) => put_line(area, 0, 0, &sheet[..sizes.sheet], &text[..sizes.text]),
+        Err(refusal) => {
+            let (number, detail) = refusal.numbered();
+            put_line(area, number, detail, &[], &[])
+        }
+    }
 }
 
 // The same with d1, d2 and ends from what is kept, by the counts.
@@ -73,7 +70,7 @@ pub fn answer_input<R: Read>(reader: &mut R, limit: usize, area: &mut [u8]) -> u
     requires { limit ≤ 2 ^ 40 }
     ensures { WroteGiven (R.remaining reader.old) (R.remaining reader.new) result area.old area.new }
 {
-    let mut kept = [0u8; 147484];
+    let mut kept = [0u8; KEPT];
     let taken = take_input(reader, &mut kept, limit);
     let size = taken.kept;
     put_answer(&kept[..size], taken, area)

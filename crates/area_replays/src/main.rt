@@ -3,40 +3,13 @@
 // both areas, which held a pattern before.
 #![tactic(auto)]
 
-ghost use Rattle.std.specs.Prelude.{◌≡◌, length};
-
 use line::input::{ends_at, four_in, signed_at, units_at};
 use line::output::put_line;
-use line::stream::read_full;
+use line::stream::{KEPT, read_full};
 use metadata::read;
 use std::io::Read;
 use std::rt::Files;
 use std::{env, fs, io};
-
-fn print_number(rt: &impl Print, n: usize) -> io::Result<()> {
-    print!(rt; "{n} ")
-}
-
-// An area as it is before an input is read.
-fn patterned() -> [u8; 65536]
-    ensures { 65536 ≡ length result }
-{
-    [0xa5; 65536]
-}
-
-// Room for the longest input.
-fn input_area() -> [u8; 147484]
-    ensures { 147484 ≡ length result }
-{
-    [0; 147484]
-}
-
-// Room for the longest line.
-fn line_area() -> [u8; 262190]
-    ensures { 262190 ≡ length result }
-{
-    [0; 262190]
-}
 
 // Number, detail and all of both areas; false where they are too long.
 fn print_line(
@@ -46,18 +19,15 @@ fn print_line(
     sheet: &[u8],
     text: &[u8],
 ) -> io::Result<bool> {
-    if 65536 < sheet.len() {
+    if 65536 < sheet.len() || 65536 < text.len() {
         return Ok(false);
     }
-    if 65536 < text.len() {
-        return Ok(false);
-    }
-    let mut area = line_area();
+    let mut area = [0; 262190];
     let size = put_line(&mut area, number, detail, sheet, text);
-    if area.len() < size {
+    let Some(line) = area.get(..size) else {
         return Ok(false);
-    }
-    rt.write_all(&area[..size])?;
+    };
+    rt.write_all(line)?;
     Ok(true)
 }
 
@@ -73,19 +43,17 @@ fn show(
 ) -> io::Result<bool> {
     let k = signed_at(kept, 0);
     let version = [signed_at(kept, 4), signed_at(kept, 8), signed_at(kept, 12)];
-    let answer = read(k, version, d1, d2, ends, sheet, text);
-    print_number(rt, answer.sheet)?;
-    print_number(rt, answer.text)?;
-    print_number(rt, answer.types)?;
-    let sheet_size = sheet.len();
-    let text_size = text.len();
-    print_line(
-        rt,
-        answer.number,
-        answer.detail,
-        &sheet[..sheet_size],
-        &text[..text_size],
-    )
+    match read(k, version, d1, d2, ends, sheet, text).outcome {
+        Ok(sizes) => {
+            print!(rt; "{} {} {} ", sizes.sheet, sizes.text, sizes.types)?;
+            print_line(rt, 0, 0, sheet, text)
+        }
+        Err(refusal) => {
+            print!(rt; "0 0 0 ")?;
+            let (number, detail) = refusal.numbered();
+            print_line(rt, number, detail, sheet, text)
+        }
+    }
 }
 
 // The same with d1, d2 and ends from what is kept.
@@ -114,44 +82,25 @@ fn show_kept(rt: &impl Print, kept: &[u8], sheet: &mut [u8], text: &mut [u8]) ->
     )
 }
 
-// The same with what is kept from a file.
-fn read_and_show<F: Read>(
-    rt: &impl Print,
-    file: &mut F,
-    kept: &mut [u8],
-    sheet: &mut [u8],
-    text: &mut [u8],
-) -> io::Result<bool> {
-    let got = read_full(file, kept);
-    show_kept(rt, &kept[..got], sheet, text)
-}
-
 // One input of a file; false at its end, or where areas are larger than 65,536 bytes.
 fn replay<F: Read>(rt: &impl Print, file: &mut F) -> io::Result<bool> {
     let mut head = [0u8; 12];
-    let got = read_full(file, &mut head);
-    if got < 12 {
+    if read_full(file, &mut head) < head.len() {
         return Ok(false);
     }
     let size = four_in(&head, 0, 0);
     let sheet_size = four_in(&head, 0, 4);
     let text_size = four_in(&head, 0, 8);
-    let mut kept = input_area();
-    let mut sheet = patterned();
-    let mut text = patterned();
-    if kept.len() < size {
+    if KEPT < size || 65536 < sheet_size || 65536 < text_size {
         return Ok(false);
     }
-    if sheet.len() < sheet_size {
-        return Ok(false);
-    }
-    if text.len() < text_size {
-        return Ok(false);
-    }
-    read_and_show(
+    let mut kept = [0; KEPT];
+    let mut sheet = [0xa5; 65536];
+    let mut text = [0xa5; 65536];
+    let got = read_full(file, &mut kept[..size]);
+    show_kept(
         rt,
-        file,
-        &mut kept[..size],
+        &kept[..got],
         &mut sheet[..sheet_size],
         &mut text[..text_size],
     )
@@ -159,6 +108,7 @@ fn replay<F: Read>(rt: &impl Print, file: &mut F) -> io::Result<bool> {
 
 // All inputs of a file.
 fn replay_all<F: Read>(rt: &impl Print, file: &mut F) -> io::Result<()> {
+    // A loop has to end, and a reader need not.
     for _ in 0..1000000 {
         if !replay(rt, file)? {
             break;

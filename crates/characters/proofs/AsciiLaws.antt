@@ -3,7 +3,7 @@
 use mathlib.Core.Path.{◌≡◌, refl, ap, sym, ◌∙◌}
 use mathlib.Core.Bool.{Bool, true, false, ◌&&◌, and-true, and_assoc, and-false}
 use mathlib.Core.List.{List, [], ◌∷◌, map}
-use Prim.Native.Nat.{ℕ, ◌+◌, ◌≤◌, ◌<◌}
+use Prim.Native.Nat.{ℕ, suc, ◌+◌, ◌≤◌, ◌<◌}
 use native.Mathlib.Numerals.{add-one}
 use native.Mathlib.Omega.{arith}
 use borrow.Author.Tests.{ltb-true, lt-ltb, le-ltb, eq-eqb, ne_eqb}
@@ -90,13 +90,10 @@ module _ {f : ℕ → ℕ} {rest : List ℕ} {to : ℕ} {A₀ A whole : List ℕ
     pub copying-below : c < 128
     copying-below = (split c rest' (ap is_ascii (sym e) ∙ k.ascii)).0
 
-    pub copying-room : to < length A
-    copying-room = let l = ap length e in omega (arith, k.room)
-
-    pub copying-next : {b : ℕ} → b ≡ f c → Copying f rest' (to + 1) A₀ (set A to b) whole
-    copying-next g = record {
+    pub copying-next : (next : ℕ) {b : ℕ} → next ≡ suc to → b ≡ f c → Copying f rest' next A₀ (set A to b) whole
+    copying-next next n g = record {
       ascii = (split c rest' (ap is_ascii (sym e) ∙ k.ascii)).1;
       room = let l = ap length e in rw length-set (omega (arith, k.room));
       kept = simp length-set k.kept;
-      left = rw (g, add-one to) (ap (λ (l : List ℕ). sets A to (map f l)) (sym e) ∙ k.left);
+      left = rw (g, n) (ap (λ (l : List ℕ). sets A to (map f l)) (sym e) ∙ k.left);
     }

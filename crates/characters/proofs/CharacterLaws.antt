@@ -9,9 +9,8 @@ use lib.ListN.{length, drop, length-drop}
 use lib.Seq.{drop-nil, drop-drop}
 use Rattle.foundation.specs.Texts.{Text}
 use Rattle.characters.specs.Characters.{is_scalar, step, from_utf8_after, from_utf8}
-use Rattle.characters.specs.told.CharactersTold.{utf8_at}
-use Rattle.characters.specs.declared.Character.{Character}
-use Rattle.characters.specs.declared.Character.TheVariants.{Read, End}
+use Rattle.characters.specs.told.CharactersTold.{Character, character_read, utf8_at}
+use Rattle.std.specs.declared.option.Option.TheVariants.{Some, None}
 use Rattle.characters.proofs.ScalarLaws.{step_scalar}
 use Rattle.characters.proofs.LengthLaws.{step_most}
 
@@ -27,6 +26,18 @@ pub from_first : (b : ℕ) (bs : List ℕ) → from_utf8 (b ∷ bs) ≡ (step b 
 unfolding from_utf8_after
 from_first b bs = ap (λ (t : Text). (step b bs).character ∷ t) (after_drops (step b bs).after bs)
 
+-- A character that was read, by its parts.
+abbrev code_of : Character → ℕ
+code_of (Some r) = r.value
+code_of None = 0
+
+abbrev next_of : Character → ℕ
+next_of (Some r) = r.next
+next_of None = 0
+
+pub read-parts : {code next code' next' : ℕ} → character_read code next ≡ character_read code' next' → (code ≡ code') × (next ≡ next')
+read-parts e = (ap code_of e, ap next_of e)
+
 -- What a character of the bytes bs, which go on at `at`, says.
 pub record Character8 (at : ℕ) (bs : List ℕ) (code next : ℕ) : Type 0 where
   pub text : from_utf8 bs ≡ code ∷ from_utf8 (drop (next - at) bs)
@@ -35,8 +46,8 @@ pub record Character8 (at : ℕ) (bs : List ℕ) (code next : ℕ) : Type 0 wher
   pub scalar : T (is_scalar code)
 
 abbrev Says : ℕ → List ℕ → Character → Type 0
-Says at bs (Read code next) = Character8 at bs code next
-Says at bs End = bs ≡ []
+Says at bs (Some r) = Character8 at bs r.value r.next
+Says at bs None = bs ≡ []
 
 says : (at : ℕ) (bs : List ℕ) → Says at bs (utf8_at at bs)
 unfolding utf8_at
@@ -53,14 +64,14 @@ says at (b ∷ bs) =
 
 -- At a place of s.
 module _ (s : List ℕ) (at : ℕ) where
-  pub utf8-none : utf8_at at (drop at s) ≡ End → drop at s ≡ []
+  pub utf8-none : utf8_at at (drop at s) ≡ None → drop at s ≡ []
   utf8-none e = subst (Says at (drop at s)) e (says at (drop at s))
 
-  pub utf8-end : utf8_at at (drop at s) ≡ End → from_utf8 (drop at s) ≡ []
+  pub utf8-end : utf8_at at (drop at s) ≡ None → from_utf8 (drop at s) ≡ []
   unfolding from_utf8_after
   utf8-end e = ap from_utf8 (utf8-none e)
 
-  module _ {code next : ℕ} (e : utf8_at at (drop at s) ≡ Read code next) where
+  module _ {code next : ℕ} (e : utf8_at at (drop at s) ≡ character_read code next) where
     told : Character8 at (drop at s) code next
     told = subst (Says at (drop at s)) e (says at (drop at s))
 

@@ -5,8 +5,8 @@ use mathlib.Core.Bool.{Bool, true, false, ◌||◌}
 use mathlib.Core.List.{List, [], ◌∷◌, Memᴰ}
 use mathlib.Core.Option.{Option, none, some}
 use Prim.Native.Nat.{ℕ, zero, suc, ◌+◌, ◌-◌, ◌*◌, ◌%◌, ◌^◌, ◌≤◌, ◌<◌}
-use native.Mathlib.Nat.{le_trans, mod-lt, add-zero, pow-suc, one-le-pow, mul-le-mul_right, mul-le-mul_left}
-use native.Mathlib.Numerals.{add-one, sub-one}
+use native.Mathlib.Nat.{le_trans, pow-le-pow_right, mod-lt, add-zero, pow-suc, one-le-pow, mul-le-mul_right, mul-le-mul_left}
+use native.Mathlib.Numerals.{add-one}
 use native.Mathlib.Omega.{arith}
 use borrow.Author.Tests.{ltb-true}
 use lib.Dec.{T, eqb, leb, ltb, ltb→lt, leb→le, eqb-zero-suc, eqb-suc-suc}
@@ -15,9 +15,9 @@ use lib.Seq.{drop-cons}
 use Rattle.std.specs.Prelude.{if◌then◌else◌}
 use Rattle.foundation.specs.Choices.{All, IfSome, map_option, if_some}
 use Rattle.characters.specs.Characters.{between, Range, ◌to◌, in_range, trail, Lead, ◌then◌, leads, lead_of, run, leading, step, step_by, replacement}
-use Rattle.characters.specs.told.CharactersTold.{LeadByte, lead_byte, lead_byte_of, ranges, go_on, utf8_at}
-use Rattle.characters.specs.declared.Character.TheVariants.{Read, End}
-use Rattle.characters.proofs.TestLaws.{in_between, bounds, above, under}
+use Rattle.characters.specs.told.CharactersTold.{character_read, LeadByte, lead_byte, lead_byte_of, ranges, go_on, utf8_at}
+use Rattle.std.specs.declared.option.Option.TheVariants.{None}
+use Rattle.characters.proofs.TestLaws.{below, in_between, bounds, above, under}
 use Rattle.foundation.proofs.EveryLaws.{every, every_all, some_map}
 use Rattle.characters.proofs.Utf8Laws.{lead_of_lem}
 use Rattle.characters.proofs.StepLaws.{alone, lead_found}
@@ -95,7 +95,7 @@ unfolding lead_byte_of utf8_at go_on step
 first-row at b bs {n} {rs} e = go (lead_of b leads) e
   where
     go : (o : Option Lead) → some (lead_byte n rs) ≡ map_option (λ l. lead_byte (leading (length l.following) b) l.following) o
-        → go_on rs n (at + 1) bs ≡ (let s = if_some o alone λ l. step_by l b bs in Read s.character (at + 1 + s.after))
+        → go_on rs n (at + 1) bs ≡ (let s = if_some o alone λ l. step_by l b bs in character_read s.character (at + 1 + s.after))
     go none e = let z : ◌≡◌ {A = ℕ} 0 1 = cc in absurd (omega arith)
     go (some l) e =
         let g : lead_byte n rs ≡ lead_byte (leading (length l.following) b) l.following = cc in
@@ -103,18 +103,18 @@ first-row at b bs {n} {rs} e = go (lead_of b leads) e
         let q : rs ≡ l.following = ap (λ (r : LeadByte). r.following) g in
         rw (p, q)
 
-first_stray : (at b : ℕ) (bs : List ℕ) → none ≡ lead_byte_of b → Read replacement (at + 1) ≡ utf8_at at (b ∷ bs)
+first_stray : (at b : ℕ) (bs : List ℕ) → none ≡ lead_byte_of b → character_read replacement (at + 1) ≡ utf8_at at (b ∷ bs)
 unfolding lead_byte_of utf8_at step
 first_stray at b bs e = go (lead_of b leads) e
   where
     go : (o : Option Lead) → none ≡ map_option (λ l. lead_byte (leading (length l.following) b) l.following) o
-        → Read replacement (at + 1) ≡ (let s = if_some o alone λ l. step_by l b bs in Read s.character (at + 1 + s.after))
-    go none e = ap (Read replacement) (sym (add-zero (at + 1)))
+        → character_read replacement (at + 1) ≡ (let s = if_some o alone λ l. step_by l b bs in character_read s.character (at + 1 + s.after))
+    go none e = ap (character_read replacement) (sym (add-zero (at + 1)))
     go (some l) e = let z : ◌≡◌ {A = ℕ} 0 1 = cc in absurd (omega arith)
 
 -- The character at a place of s: none, past the end; one of a byte below 128; by a row of the table; a stray byte.
 module _ (s : List ℕ) (at : ℕ) where
-  pub at-end : length s ≤ at → End ≡ utf8_at at (drop at s)
+  pub at-end : length s ≤ at → None ≡ utf8_at at (drop at s)
   unfolding utf8_at
   at-end h = rw (drop_of_length-le s h)
 
@@ -125,13 +125,13 @@ module _ (s : List ℕ) (at : ℕ) where
         ∙ first-row at (get_or s at 0) (drop (suc at) s) e
         ∙ ap (utf8_at at) (sym (drop-cons s at 0 h))
 
-    pub at-stray : none ≡ lead_byte_of (get_or s at 0) → Read replacement (at + 1) ≡ utf8_at at (drop at s)
+    pub at-stray : none ≡ lead_byte_of (get_or s at 0) → character_read replacement (at + 1) ≡ utf8_at at (drop at s)
     at-stray e = rw (drop-cons s at 0 h) (first_stray at (get_or s at 0) (drop (suc at) s) e)
 
-    pub at_one : {b : ℕ} → b ≡ get_or s at 0 → get_or s at 0 < 128 → Read b (at + 1) ≡ utf8_at at (drop at s)
+    pub at_one : {b : ℕ} → b ≡ get_or s at 0 → get_or s at 0 < 128 → character_read b (at + 1) ≡ utf8_at at (drop at s)
     unfolding go_on run
     at_one {b} e l =
-        ap (Read b) (sym (add-zero (at + 1))) ∙ at_row (row_is 0 (omega arith) e (omega arith))
+        ap (character_read b) (sym (add-zero (at + 1))) ∙ at_row (row_is 0 (omega arith) e (omega arith))
 
 ranges-trail : (k : ℕ) → ranges k 0x80 0xbf ≡ replicate k trail
 ranges-trail zero = refl
@@ -139,38 +139,43 @@ ranges-trail (suc k) = refl
 
 -- Of a character that goes on at the place i of s: nothing is wanted any more; a byte is missing; the byte b is not what may follow; it is.
 module _ (s : List ℕ) (i code : ℕ) where
-  pub goes-whole : (k low high : ℕ) → k ≤ 0 → go_on (ranges k low high) code i (drop i s) ≡ Read code i
+  pub goes-whole : (k low high : ℕ) → k ≤ 0 → go_on (ranges k low high) code i (drop i s) ≡ character_read code i
   unfolding go_on run
-  goes-whole zero low high h = ap (Read code) (add-zero i)
+  goes-whole zero low high h = ap (character_read code) (add-zero i)
   goes-whole (suc k) low high h = absurd (omega arith)
 
-  pub goes-missing : (k low high : ℕ) → 0 < k → length s ≤ i → go_on (ranges k low high) code i (drop i s) ≡ Read replacement i
+  pub goes-missing : (k low high : ℕ) → 0 < k → length s ≤ i → go_on (ranges k low high) code i (drop i s) ≡ character_read replacement i
   unfolding go_on run
   goes-missing zero low high l h = absurd (omega arith)
-  goes-missing (suc k) low high l h = rw (drop_of_length-le s h, eqb-zero-suc (length (replicate k trail))) (ap (Read replacement) (add-zero i))
+  goes-missing (suc k) low high l h = rw (drop_of_length-le s h, eqb-zero-suc (length (replicate k trail))) (ap (character_read replacement) (add-zero i))
 
   module _ {b : ℕ} (h : i < length s) (e : b ≡ get_or s i 0) where
-    pub goes-wrong : (k low high : ℕ) → 0 < k → between low high b ≡ false → go_on (ranges k low high) code i (drop i s) ≡ Read replacement i
+    pub goes-wrong : (k low high : ℕ) → 0 < k → between low high b ≡ false → go_on (ranges k low high) code i (drop i s) ≡ character_read replacement i
     unfolding go_on run
     goes-wrong zero low high l p = absurd (omega arith)
-    goes-wrong (suc k) low high l p = rw (drop-cons s i 0 h, ← e, p, eqb-zero-suc (length (replicate k trail))) (ap (Read replacement) (add-zero i))
+    goes-wrong (suc k) low high l p = rw (drop-cons s i 0 h, ← e, p, eqb-zero-suc (length (replicate k trail))) (ap (character_read replacement) (add-zero i))
 
-    pub goes_on_lem : (k low high : ℕ) → 0 < k → between low high b ≡ true
-        → go_on (ranges k low high) code i (drop i s) ≡ go_on (ranges (k - 1) 0x80 0xbf) (code * 64 + b % 64) (i + 1) (drop (i + 1) s)
+    pub goes_on_lem : (k less low high : ℕ) → k ≡ suc less → between low high b ≡ true
+        → go_on (ranges k low high) code i (drop i s) ≡ go_on (ranges less 0x80 0xbf) (code * 64 + b % 64) (i + 1) (drop (i + 1) s)
     unfolding go_on run
-    goes_on_lem zero low high l p = absurd (omega arith)
-    goes_on_lem (suc k) low high l p =
-        let n = run (replicate k trail) (drop (suc i) s) in
+    goes_on_lem k less low high l p =
+        let n = run (replicate less trail) (drop (suc i) s) in
         let j : i + suc n ≡ suc i + n = omega arith in
-        rw (drop-cons s i 0 h, ← e, p, sub-one, add-one i, ranges-trail k, eqb-suc-suc n (length (replicate k trail)), j)
+        rw (l, drop-cons s i 0 h, ← e, p, add-one i, ranges-trail less, eqb-suc-suc n (length (replicate less trail)), j)
 
 -- The number stays below 2^24.
-pub code_grows : (code b k : ℕ) → 0 < k → (code + 1) * 64 ^ k ≤ 2 ^ 24 → (code * 64 + b % 64 + 1) * 64 ^ (k - 1) ≤ 2 ^ 24
-code_grows code b zero l h = absurd (omega arith)
-code_grows code b (suc k) l h =
-    let g : (code + 1) * (64 ^ k * 64) ≤ 2 ^ 24 = rw (pow-suc 64 k) at h in
+pub code_grows : (code b k less : ℕ) → k ≡ suc less → (code + 1) * 64 ^ k ≤ 2 ^ 24 → (code * 64 + b % 64 + 1) * 64 ^ less ≤ 2 ^ 24
+code_grows code b k less l h =
+    let g : (code + 1) * (64 ^ less * 64) ≤ 2 ^ 24 = rw (l, pow-suc 64 less) at h in
     let m : code * 64 + b % 64 + 1 ≤ (code + 1) * 64 = omega arith in
-    rw sub-one (omega (arith, mul-le-mul_right (64 ^ k) m))
+    omega (arith, mul-le-mul_right (64 ^ less) m)
 
 pub code_bound : (code k : ℕ) → (code + 1) * 64 ^ k ≤ 2 ^ 24 → code < 2 ^ 24
 code_bound code k h = omega (arith, mul-le-mul_left (code + 1) (one-le-pow k 64 (omega arith)))
+
+-- so few bytes follow
+pub code_few : (code k : ℕ) → (code + 1) * 64 ^ k ≤ 2 ^ 24 → k ≤ 4
+code_few code k h = below 5 k (λ l. omega arith) λ l. absurd (omega (arith, pow-le-pow_right {n = 64} (omega arith) l, mul-le-mul_right (64 ^ k) (one_more code)))
+  where
+    one_more : (n : ℕ) → 1 ≤ n + 1
+    one_more n = omega arith

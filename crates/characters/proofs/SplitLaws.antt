@@ -18,13 +18,13 @@ use Rattle.foundation.proofs.ChoiceLaws.{if_ind, drop-take}
 use Rattle.characters.specs.Characters.{width, utf8, Range, in_range, Lead, leads, lead_of, run, step, step_by, from_utf8_after, from_utf8}
 use Rattle.characters.specs.told.Places.{place_after, place_of}
 use Rattle.characters.specs.Splits.{Halves, halves, split_at, substring_of}
-use Rattle.characters.specs.told.CharactersTold.{utf8_at}
-use Rattle.characters.specs.declared.Character.TheVariants.{Read, End}
+use Rattle.characters.specs.told.CharactersTold.{character_read, utf8_at}
+use Rattle.std.specs.declared.option.Option.TheVariants.{None}
 use Rattle.characters.proofs.TestLaws.{below}
 use Rattle.foundation.proofs.EveryLaws.{map_same, map_twice, some_map}
 use Rattle.characters.proofs.StepLaws.{alone, Joins, split_joins}
 use Rattle.characters.proofs.LengthLaws.{step_most, width_most, bytes_cons}
-use Rattle.characters.proofs.CharacterLaws.{after_drops, from_first, utf8-inside, utf8-none}
+use Rattle.characters.proofs.CharacterLaws.{read-parts, after_drops, from_first, utf8-inside, utf8-none}
 
 -- A step doesn't change when the bytes after its end are cut off.
 run-cut : (rs : List Range) (bs : List ℕ) (k : ℕ) → run rs bs ≤ k → run rs (take k bs) ≡ run rs bs
@@ -163,15 +163,15 @@ unfolding place_after
 place_nil n h = rw (ne_eqb n 0 (λ z. omega arith))
 
 -- by the first character of the bytes bs, which go on at `at`
-place_read : (at n : ℕ) (bs : List ℕ) {code next : ℕ} → utf8_at at bs ≡ Read code next
+place_read : (at n : ℕ) (bs : List ℕ) {code next : ℕ} → utf8_at at bs ≡ character_read code next
     → (0 < n → n < width code → place_of n bs ≡ none)
     × (width code ≤ n → place_of n bs ≡ map_option (λ k. next - at + k) (place_of (n - width code) (drop (next - at) bs)))
 unfolding utf8_at
 place_read at n [] e = let z : ◌≡◌ {A = ℕ} 0 1 = cc in absurd (omega arith)
 place_read at n (b ∷ bs) {code} {next} e =
     let j = (step b bs).after in
-    let p : (step b bs).character ≡ code = cc in
-    let q : at + 1 + j ≡ next = cc in
+    let p : (step b bs).character ≡ code = (read-parts e).0 in
+    let q : at + 1 + j ≡ next = (read-parts e).1 in
     let r : next - at ≡ suc j = omega arith in
     rw (← p, r) (place-less n b bs, place-more n b bs)
 
@@ -180,10 +180,10 @@ module _ (s : List ℕ) (at : ℕ) where
   from-here zero h = rw (zero-place (drop at s)) (ap some (add-zero at))
   from-here (suc n) h = absurd (omega arith)
 
-  pub from_end : (n : ℕ) → 0 < n → utf8_at at (drop at s) ≡ End → place_from s at n ≡ none
+  pub from_end : (n : ℕ) → 0 < n → utf8_at at (drop at s) ≡ None → place_from s at n ≡ none
   from_end n h e = rw (utf8-none s at e, place_nil n h)
 
-  module _ (n : ℕ) {code next w : ℕ} (e : utf8_at at (drop at s) ≡ Read code next) (i : w ≡ width code) where
+  module _ (n : ℕ) {code next w : ℕ} (e : utf8_at at (drop at s) ≡ character_read code next) (i : w ≡ width code) where
     pub from-inside : 0 < n → n < w → place_from s at n ≡ none
     from-inside h l = rw ((place_read at n (drop at s) e).0 h (omega arith))
 
@@ -284,7 +284,7 @@ module _ (s : List ℕ) where
     pub boundary-text : from_utf8 s ≡ from_utf8 (take at s) ++ from_utf8 (drop at s)
     boundary-text = place-text s b.0 b.1
 
-    pub boundary-next : {code next : ℕ} → utf8_at at (drop at s) ≡ Read code next → Boundary s next
+    pub boundary-next : {code next : ℕ} → utf8_at at (drop at s) ≡ character_read code next → Boundary s next
     boundary-next {code} {next} e = (
       b.0 + width code,
       place_add s b.0 (width code) at b.1

@@ -2,6 +2,7 @@
 -- Assumes nothing.
 use mathlib.Core.Path.{◌≡◌, refl, ap, ◌∙◌, subst}
 use mathlib.Core.Bool.{Bool, true, false, ◌&&◌, ◌||◌, and-false}
+use mathlib.Core.Logic.{◌⊎◌, inl, inr}
 use Prim.Native.Nat.{ℕ, suc, ◌≤◌, ◌<◌}
 use native.Mathlib.Omega.{arith}
 use borrow.Author.Tests.{ltb-true, ltb-false, lt-ltb, le-ltb, lt-leb}
@@ -44,6 +45,11 @@ above low high n h = ap (λ (t : Bool). leb low n && t) (lt-leb n high h) ∙ an
 
 pub under : (low high n : ℕ) → n < low → between low high n ≡ false
 under low high n h = ap (λ (t : Bool). t && leb n high) (lt-leb low n h)
+
+-- by the tests of code
+pub apart : (low high n : ℕ) → (n < low) ⊎ ((low ≤ n) × (high < n)) → between low high n ≡ false
+apart low high n (inl h) = under low high n h
+apart low high n (inr h) = above low high n h.1
 
 pub outside : (low high n : ℕ) → between low high n ≡ false → low ≤ n → high < n
 outside low high n e h = below (suc high) n (λ k. absurd (subst T e (in_between low high n (omega arith)))) λ k. k

@@ -1,37 +1,31 @@
 // Texts of characters below 128, which most names are: one byte each in UTF-8, so that they are tested and written in plain loops.
-ghost use Rattle.std.specs.Prelude.{◌≡◌, true, map, ◌+◌, ◌-◌, ◌≤◌, length};
+ghost use Rattle.std.specs.Prelude.{◌≡◌, true, map, ◌+◌, ◌≤◌, length};
 ghost use Rattle.std.proofs.lemmas.List.Edits.{sets};
-ghost use Rattle.characters.specs.told.Places.{part_from};
 ghost use Rattle.characters.specs.told.Plain.{instead, with_dots, is_ascii, shown};
 
-// Is every unit from `start` to `end` below 128? No unit is tested for being there.
-// Callers show that `end` isn't past the units: names::stream compares it with their number first.
-pub fn ascii_units(units: &[u16], start: usize, end: usize) -> bool
-    requires { end ≤ length units.now }
-    ensures { result ≡ is_ascii (part_from start end units.now) }
+// Is every unit below 128? All are looked at, so that the machine tests many at once.
+pub fn ascii_units(units: &[u16]) -> bool
+    ensures { result ≡ is_ascii units.now }
 {
-    let mut all: u16 = 0;
-    let mut i = start;
-    while i < end {
-        all |= units[i];
-        i += 1;
+    let mut all = 0;
+    for unit in units {
+        all |= *unit;
     }
     all < 128
 }
 
-// Is every byte?
+// Is every byte? A loop of its own: one for both would need laws of `|` on any number, for three lines.
 pub fn ascii_bytes(s: &[u8]) -> bool
     ensures { result ≡ is_ascii s.now }
 {
-    let mut all: u8 = 0;
-    let mut i = 0;
-    while i < s.len() {
-        all |= s[i];
-        i += 1;
+    let mut all = 0;
+    for byte in s {
+        all |= *byte;
     }
     all < 128
 }
 
+// This and the next two are names::name's of 32-bit numbers: for both at once they would need a trait of their literals.
 fn instead(from: u8, to: u8, c: u8) -> u8
     ensures { result ≡ instead from to c }
 {
@@ -58,25 +52,13 @@ fn shown(dots: bool, slashes: bool, c: u8) -> u8
 }
 
 // Units below 128, where there is room for all of them. No unit is tested.
-// Callers show that the part is there, that it is below 128 and that it fits the area: names::stream tests each once, before the call.
-pub fn copy_units(
-    units: &[u16],
-    start: usize,
-    end: usize,
-    dots: bool,
-    slashes: bool,
-    area: &mut [u8],
-    at: usize,
-)
-    requires { (end ≤ length units.now) × (is_ascii (part_from start end units.now) ≡ true) × (at + (end - start) ≤ length area.old) }
-    ensures { area.new ≡ sets area.old at (map (shown dots slashes) (part_from start end units.now)) }
+// Callers show that they are below 128 and fit the area: names::stream tests both once, before the call.
+pub fn copy_units(units: &[u16], dots: bool, slashes: bool, area: &mut [u8], at: usize)
+    requires { (is_ascii units.now ≡ true) × (at + length units.now ≤ length area.old) }
+    ensures { area.new ≡ sets area.old at (map (shown dots slashes) units.now) }
 {
-    let mut i = start;
-    let mut to = at;
-    while i < end {
-        area[to] = shown(dots, slashes, units[i] as u8);
-        i += 1;
-        to += 1;
+    for (i, unit) in units.iter().enumerate() {
+        area[at + i] = shown(dots, slashes, *unit as u8);
     }
 }
 
@@ -86,11 +68,7 @@ pub fn copy_bytes(s: &[u8], dots: bool, slashes: bool, area: &mut [u8], at: usiz
     requires { (is_ascii s.now ≡ true) × (at + length s.now ≤ length area.old) }
     ensures { area.new ≡ sets area.old at (map (shown dots slashes) s.now) }
 {
-    let mut i = 0;
-    let mut to = at;
-    while i < s.len() {
-        area[to] = shown(dots, slashes, s[i]);
-        i += 1;
-        to += 1;
+    for (i, byte) in s.iter().enumerate() {
+        area[at + i] = shown(dots, slashes, *byte);
     }
 }

@@ -4,163 +4,145 @@
 
 ghost use Rattle.std.specs.Prelude.{◌≡◌, [], ◌∷◌, ◌+◌, ◌*◌, ◌^◌, ◌≤◌, ◌<◌, length, drop};
 ghost use Rattle.std.proofs.lemmas.List.Edits.{sets};
+ghost use Rattle.std.proofs.Math.Option.{some};
 ghost use Rattle.characters.specs.Characters.{width};
-ghost use Rattle.characters.specs.told.Places.{place_of, part_from};
-ghost use Rattle.characters.specs.told.CharactersTold.{lead_byte_of, lead_byte_told, ranges, go_on, utf8_at, paired_at, utf16_at, place_told, PutCharacter};
+ghost use Rattle.characters.specs.told.Places.{place_of};
+ghost use Rattle.characters.specs.told.CharactersTold.{character_read, lead_byte, lead_byte_of, first_byte_told, ranges, go_on, utf8_at, paired_at, utf16_at, place_told, PutCharacter};
+
+use foundation::Read;
 
 pub mod ascii; // ascii.rt: texts of characters below 128
 pub mod measure; // measure.rt: how long texts of 16-bit units are in UTF-8
 
-#[derive(Drop)]
-pub enum Character {
-    Read { code: u32, next: usize },
-    End,
-}
-
 // U+FFFD for what is no character.
-fn replaced(next: usize) -> Character
-    ensures { result ≡ Character.Read 0xfffd next }
+fn replaced(next: usize) -> Option<Read<u32>>
+    ensures { result ≡ character_read 0xfffd next }
 {
-    Character::Read { code: 0xfffd, next }
-}
-
-pub fn wide(byte: u8) -> u32
-    ensures { result ≡ byte }
-{
-    byte as u32
+    Some(Read {
+        value: 0xfffd,
+        next,
+    })
 }
 
 // What the first byte of several says of its character: its own bits, how many bytes follow it, and the least and the greatest of what
 // may follow first.
-#[derive(Drop)]
-enum FirstByte {
-    Leads(u32, usize, u32, u32),
-    Stray,
+#[derive(Clone, Copy)]
+struct FirstByte {
+    bits: u32,
+    following: usize,
+    low: u32,
+    high: u32,
+}
+
+fn leads(bits: u32, following: usize, low: u32, high: u32) -> Option<FirstByte>
+    ensures { first_byte_told result ≡ some (lead_byte bits (ranges following low high)) }
+{
+    Some(FirstByte {
+        bits,
+        following,
+        low,
+        high,
+    })
 }
 
 // Unicode's table 3-7.
-fn first_byte(byte: u8) -> FirstByte
+fn first_byte(byte: u8) -> Option<FirstByte>
     requires { 0x80 ≤ byte }
-    ensures { lead_byte_told result ≡ lead_byte_of byte }
+    ensures { first_byte_told result ≡ lead_byte_of byte }
 {
-    let n = wide(byte);
+    let n = u32::from(byte);
     match byte {
-        0xc2..=0xdf => FirstByte::Leads(n % 32, 1, 0x80, 0xbf),
-        0xe0 => FirstByte::Leads(n % 16, 2, 0xa0, 0xbf),
-        0xe1..=0xec => FirstByte::Leads(n % 16, 2, 0x80, 0xbf),
-        0xed => FirstByte::Leads(n % 16, 2, 0x80, 0x9f),
-        0xee..=0xef => FirstByte::Leads(n % 16, 2, 0x80, 0xbf),
-        0xf0 => FirstByte::Leads(n % 8, 3, 0x90, 0xbf),
-        0xf1..=0xf3 => FirstByte::Leads(n % 8, 3, 0x80, 0xbf),
-        0xf4 => FirstByte::Leads(n % 8, 3, 0x80, 0x8f),
-        _ => FirstByte::Stray,
+        0xc2..=0xdf => leads(n % 32, 1, 0x80, 0xbf),
+        0xe0 => leads(n % 16, 2, 0xa0, 0xbf),
+        0xe1..=0xec => leads(n % 16, 2, 0x80, 0xbf),
+        0xed => leads(n % 16, 2, 0x80, 0x9f),
+        0xee..=0xef => leads(n % 16, 2, 0x80, 0xbf),
+        0xf0 => leads(n % 8, 3, 0x90, 0xbf),
+        0xf1..=0xf3 => leads(n % 8, 3, 0x80, 0xbf),
+        0xf4 => leads(n % 8, 3, 0x80, 0x8f),
+        _ => None,
     }
 }
 
-// The character that goes on at `at`, where `following` bytes are wanted; U+FFFD if one of them is missing.
-fn go_on(s: &[u8], at: usize, bits: u32, following: usize, low: u32, high: u32) -> Character
-    requires { ((bits + 1) * 64 ^ following ≤ 2 ^ 24) × (at ≤ length s.now) }
-    ensures { result ≡ go_on (ranges following low high) bits at (drop at s.now) }
+// The character that goes on at `at` after its first byte; U+FFFD if one of the bytes that are wanted is missing.
+fn go_on(s: &[u8], at: usize, first: FirstByte) -> Option<Read<u32>>
+    requires { ((first.bits + 1) * 64 ^ first.following ≤ 2 ^ 24) × (at ≤ length s.now) }
+    ensures { result ≡ go_on (ranges first.following first.low first.high) first.bits at (drop at s.now) }
 {
-    let mut code = bits;
-    let mut from = low;
-    let mut to = high;
-    let mut left = following;
-    let mut i = at;
-    while 0 < left {
+    let mut code = first.bits;
+    let mut low = first.low;
+    let mut high = first.high;
+    let next = at + first.following;
+    for i in at..next {
         if s.len() <= i {
             return replaced(i);
         }
-        let byte = wide(s[i]);
-        if byte < from {
-            return replaced(i);
-        }
-        if to < byte {
+        let byte = u32::from(s[i]);
+        if byte < low || high < byte {
             return replaced(i);
         }
         code = code * 64 + byte % 64;
-        from = 0x80;
-        to = 0xbf;
-        left -= 1;
-        i += 1;
+        low = 0x80;
+        high = 0xbf;
     }
-    Character::Read { code, next: i }
+    Some(Read { value: code, next })
 }
 
 // The character at a place. Most have one byte.
-pub fn utf8_at(s: &[u8], at: usize) -> Character
+pub fn utf8_at(s: &[u8], at: usize) -> Option<Read<u32>>
     ensures { result ≡ utf8_at at (drop at s.now) }
 {
     if s.len() <= at {
-        return Character::End;
+        return None;
     }
     let byte = s[at];
     let next = at + 1;
     if byte < 0x80 {
-        return Character::Read {
-            code: wide(byte),
+        return Some(Read {
+            value: u32::from(byte),
             next,
-        };
+        });
     }
-    let first = first_byte(byte);
-    let FirstByte::Leads(bits, following, low, high) = first else {
+    let Some(first) = first_byte(byte) else {
         return replaced(next);
     };
-    go_on(&*s, next, bits, following, low, high)
-}
-
-fn wide_unit(unit: u16) -> u32
-    ensures { result ≡ unit }
-{
-    unit as u32
+    go_on(s, next, first)
 }
 
 // The character that a high surrogate begins: the next unit, at `at`, is its other half, or it is alone.
-fn paired_at(units: &[u16], at: usize, end: usize, high: u32) -> Character
+fn paired_at(units: &[u16], at: usize, high: u32) -> Option<Read<u32>>
     requires { (0xd800 ≤ high) × (high ≤ 0xdbff) }
-    ensures { result ≡ paired_at high at (part_from at end units.now) }
+    ensures { result ≡ paired_at high at (drop at units.now) }
 {
-    if end <= at {
-        return replaced(at);
-    }
     if units.len() <= at {
         return replaced(at);
     }
-    let low = wide_unit(units[at]);
-    if low < 0xdc00 {
+    let low = u32::from(units[at]);
+    if low < 0xdc00 || 0xdfff < low {
         return replaced(at);
     }
-    if 0xdfff < low {
-        return replaced(at);
-    }
-    Character::Read {
-        code: 0x10000 + (high - 0xd800) * 0x400 + (low - 0xdc00),
+    Some(Read {
+        value: 0x10000 + (high - 0xd800) * 0x400 + (low - 0xdc00),
         next: at + 1,
-    }
+    })
 }
 
-// The character at a place of a string of 16-bit units that ends at `end`.
-pub fn utf16_at(units: &[u16], at: usize, end: usize) -> Character
-    ensures { result ≡ utf16_at at (part_from at end units.now) }
+// The character at a place of a string of 16-bit units.
+pub fn utf16_at(units: &[u16], at: usize) -> Option<Read<u32>>
+    ensures { result ≡ utf16_at at (drop at units.now) }
 {
-    if end <= at {
-        return Character::End;
-    }
     if units.len() <= at {
-        return Character::End;
+        return None;
     }
-    let unit = wide_unit(units[at]);
+    let unit = u32::from(units[at]);
     let next = at + 1;
-    if unit < 0xd800 {
-        return Character::Read { code: unit, next };
-    }
-    if 0xdfff < unit {
-        return Character::Read { code: unit, next };
+    if unit < 0xd800 || 0xdfff < unit {
+        return Some(Read { value: unit, next });
     }
     if 0xdbff < unit {
         return replaced(next);
     }
-    paired_at(&*units, next, end, unit)
+    paired_at(units, next, unit)
 }
 
 // How many bytes UTF-8 gives a character.
@@ -179,31 +161,22 @@ pub fn width_of(code: u32) -> usize
     4
 }
 
-#[derive(Drop)]
-pub enum Place {
-    At { source: usize },
-    Nothing,
-}
-
 // How many bytes of `s` stand before byte place `place` of their replaced text.
-pub fn find_place(s: &[u8], place: usize) -> Place
+pub fn find_place(s: &[u8], place: usize) -> Option<usize>
     ensures { place_told result ≡ place_of place s.now }
 {
     let mut left = place;
     let mut at = 0;
     while 0 < left {
-        let character = utf8_at(&*s, at);
-        let Character::Read { code, next } = character else {
-            return Place::Nothing;
-        };
-        let size = width_of(code);
+        let character = utf8_at(s, at)?;
+        let size = width_of(character.value);
         if left < size {
-            return Place::Nothing;
+            return None;
         }
         left -= size;
-        at = next;
+        at = character.next;
     }
-    Place::At { source: at }
+    Some(at)
 }
 
 // Some bytes in the area; a write past its end is left out.

@@ -5,20 +5,11 @@ ghost use Rattle.characters.specs.Characters.{is_high, is_low, from_utf16, utf8}
 ghost use Rattle.characters.specs.told.Places.{part_from};
 ghost use Rattle.characters.specs.told.Sizes.{unit_size, units_size};
 
-fn wide(size: u16) -> usize
-    ensures { result ≡ size }
-{
-    size as usize
-}
-
 // Are two units the halves of a pair?
 fn is_pair(unit: u16, next: u16) -> bool
     ensures { result ≡ (is_high unit && is_low next) }
 {
-    if unit / 1024 != 54 {
-        return false;
-    }
-    next / 1024 == 55
+    unit / 1024 == 54 && next / 1024 == 55
 }
 
 // How many bytes a unit adds, by the unit after it.
@@ -42,31 +33,29 @@ fn block_size(units: &[u16], from: usize, to: usize) -> u16
     requires { (from ≤ to) × (to < length units.now) × (to - from ≤ 16384) }
     ensures { (end : ℕ) → to < end → end ≤ length units.now → result + units_size (part_from to end units.now) ≡ units_size (part_from from end units.now) }
 {
-    let mut size: u16 = 0;
-    let mut i = from;
-    while i < to {
+    let mut size = 0;
+    for i in from..to {
         size += unit_size(units[i], units[i + 1]);
-        i += 1;
     }
     size
 }
 
-// How many bytes UTF-8 gives the text of the units from `start` to `end`.
-// Callers show that `end` isn't past the units, by a test, and that the number fits 64 bits: names::stream and lookup::strings by what they require.
-pub fn utf8_size(units: &[u16], start: usize, end: usize) -> usize
-    requires { (end ≤ length units.now) × (length (utf8 (from_utf16 (part_from start end units.now))) < 2 ^ 64) }
-    ensures { result ≡ length (utf8 (from_utf16 (part_from start end units.now))) }
+// How many bytes UTF-8 gives the text of some units.
+// Callers show that the number fits 64 bits: names::stream and lookup::strings by what they require.
+pub fn utf8_size(units: &[u16]) -> usize
+    requires { length (utf8 (from_utf16 units.now)) < 2 ^ 64 }
+    ensures { result ≡ length (utf8 (from_utf16 units.now)) }
 {
-    if end <= start {
+    if units.is_empty() {
         return 0;
     }
-    let last = end - 1;
-    let mut size: usize = 0;
-    let mut i = start;
+    let last = units.len() - 1;
+    let mut size = 0;
+    let mut i = 0;
     while 16384 < last - i {
-        size += wide(block_size(&*units, i, i + 16384));
+        size += usize::from(block_size(units, i, i + 16384));
         i += 16384;
     }
-    size += wide(block_size(&*units, i, last));
-    size + wide(unit_size(units[last], 0))
+    size += usize::from(block_size(units, i, last));
+    size + usize::from(unit_size(units[last], 0))
 }

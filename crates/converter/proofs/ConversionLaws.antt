@@ -1,8 +1,8 @@
 -- Laws of what both conversions answer, at each of their returns.
 -- Assumes nothing.
-use mathlib.Core.Path.{◌≡◌, refl, sym, ap, ◌∙◌}
+use mathlib.Core.Path.{◌≡◌, sym, ap, ◌∙◌}
 use mathlib.Core.List.{List, ◌∷◌}
-use mathlib.Core.Option.{Option, none, some}
+use mathlib.Core.Option.{Option, none}
 use Prim.Native.Nat.{ℕ, ◌+◌, ◌-◌, ◌*◌, ◌/◌, ◌≤◌, ◌<◌}
 use native.Mathlib.Omega.{arith}
 use borrow.Author.Tests.{lt-ltb, le-ltb}
@@ -12,32 +12,25 @@ use Rattle.foundation.proofs.DigitLaws.{length_digits}
 use Rattle.foundation.proofs.OverlayLaws.{sets_front}
 use Rattle.encoding.specs.Encoding.{byte_string_marker, unpacked}
 use Rattle.encoding.proofs.EncodingLaws.{after_marker, length-unpacked}
-use Rattle.converter.specs.Conversions.{ConversionFault, fault_number, fault_detail, old_units, conversion}
-use Rattle.converter.specs.told.ConversionTold.{checked_of, converted_by}
-use Rattle.converter.specs.declared.Checked.{Checked}
-use Rattle.converter.specs.declared.Checked.TheVariants.{Faulty, Convertible}
-use Rattle.converter.specs.declared.Converted.{Converted}
+use Rattle.std.specs.Prelude.{Result, Ok, Err}
+use Rattle.converter.specs.Conversions.{ConversionFault, old_units, conversion}
+use Rattle.converter.specs.told.ConversionTold.{checked_told, converted_by}
+use Rattle.converter.specs.declared.ConvertFault.{ConvertFault}
+use Rattle.converter.specs.declared.ConvertFault.TheVariants.{NoRoom}
 
 -- what the check found, and what is then answered
-pub check_none : (o : Option ConversionFault) {r : Checked} → r ≡ checked_of o → r ≡ Convertible → o ≡ none
-check_none none e f = refl
-check_none (some fault) e f = cc
+pub check_none : (o : Option ConversionFault) {r : Result (Unit {0}) ConvertFault} (u : Unit {0}) → o ≡ checked_told r → r ≡ Ok u → o ≡ none
+check_none o u e f = e ∙ ap checked_told f
 
-pub fault_told_lem : (area units : List ℕ) (o : Option ConversionFault) {checked : Checked} {n d : ℕ} (r : Converted)
-    → checked ≡ checked_of o → checked ≡ Faulty n d → r ≡ record { number = n; detail = d; length = 0 }
-    → conversion area o units ≡ converted_by r area
-fault_told_lem area units none r e f h = let z : ◌≡◌ {A = ℕ} 0 1 = cc in absurd (omega arith)
-fault_told_lem area units (some fault) {checked} {n} {d} r e f h =
-    let p : n ≡ fault_number fault = cc in
-    let q : d ≡ fault_detail fault = cc in
-    rw (h, p, q)
+pub refused_told : (area units : List ℕ) (o : Option ConversionFault) {r : Result (Unit {0}) ConvertFault} {fault : ConvertFault}
+    → o ≡ checked_told r → r ≡ Err fault → conversion area o units ≡ converted_by (Err fault) area
+refused_told area units o e f = ap (λ (x : Option ConversionFault). conversion area x units) (e ∙ ap checked_told f)
 
 module _ (area units : List ℕ) {o : Option ConversionFault} (sound : o ≡ none) (n : ℕ) (is : n ≡ length units) where
-  pub short-told : (r : Converted) → length area < n → r ≡ record { number = 12; detail = 0; length = 0 } → conversion area o units ≡ converted_by r area
-  short-told r h e = rw (sound, lt-ltb (length area) (length units) (omega arith), e)
+  pub short-told : length area < n → conversion area o units ≡ converted_by (Err NoRoom) area
+  short-told h = rw (sound, lt-ltb (length area) (length units) (omega arith))
 
-  pub placed-told : (after : List ℕ) → n ≤ length area → after ≡ sets area 0 units
-      → conversion area o units ≡ converted_by (record { number = 0; detail = 0; length = n }) after
+  pub placed-told : (after : List ℕ) → n ≤ length area → after ≡ sets area 0 units → conversion area o units ≡ converted_by (Ok n) after
   placed-told after h a =
       let r : length units ≤ length area = omega arith in
       rw (sound, le-ltb (length area) (length units) r, is, a, sets_front units area r)

@@ -1,4 +1,4 @@
--- Laws of packing: bytes cut into groups of 7 bits, group by group; and of bytes written as units.
+-- Laws of packing: bytes cut into groups of 7 bits, group by group.
 -- Assumes nothing.
 use mathlib.Core.Path.{◌≡◌, refl, sym, ap, ◌∙◌}
 use mathlib.Core.List.{List, [], ◌∷◌, map}
@@ -7,11 +7,11 @@ use Prim.Native.Nat.{ℕ, zero, suc, ◌+◌, ◌-◌, ◌*◌, ◌/◌, ◌%◌
 use native.Mathlib.Nat.{zero-add, sub-zero, one-mul, pow-suc, add-mul-mod_self_left, add-mul-div_left, mul-le-mul_right}
 use native.Mathlib.Numerals.{add-one}
 use native.Mathlib.Omega.{arith}
-use lib.ListN.{length, get_or, drop, set, length-set, drop_of_length-le}
+use lib.ListN.{length, get_or, drop, set, length-set}
 use lib.Pow.{pow_mono}
-use lib.Seq.{sets, drop-cons}
+use lib.Seq.{sets}
 use Rattle.foundation.specs.Digits.{number, digits}
-use Rattle.encoding.specs.Encoding.{byte_string_marker, first_above255}
+use Rattle.encoding.specs.Encoding.{first_above255}
 use Rattle.encoding.proofs.EncodingLaws.{byte_at}
 use Rattle.converter.specs.Conversions.{carrying, old_units}
 
@@ -44,10 +44,6 @@ pack_start bs before = record {
   same = refl;
   rest = simp (sub-zero, one-mul, zero-add);
 }
-
-pub pack_end : (bs before area : List ℕ) (buffer scale i j : ℕ) → count bs ≤ j → Packing bs before area buffer scale i j
-    → area ≡ sets before 0 (old_units bs)
-pack_end bs before area buffer scale i j h p = let e : count bs - j ≡ 0 = omega arith in sym (p.rest ∙ rw e)
 
 -- the next byte, of those that come: 0 past the last
 from_next : (bs : List ℕ) (i : ℕ) → number 256 (drop i bs) ≡ get_or bs i 0 + 256 * number 256 (drop (suc i) bs)
@@ -113,12 +109,12 @@ module _ (bs before area : List ℕ) (buffer scale i j : ℕ) (inside : j < coun
 
     -- else the next byte's bits come
     pub pack-byte : (area' : List ℕ) (u : ℕ) → (scale ≡ 128 → ⊥) → u ≡ carrying ((buffer + d * scale) % 128) → area' ≡ set area j u
-        → Packing bs before area' ((buffer + d * scale) / 128) (2 * scale) (i + 1) (j + 1)
+        → Packing bs before area' ((buffer + d * scale) / 128) (scale * 2) (i + 1) (j + 1)
     pack-byte area' u h unit e =
         let taken = buffer + d * scale in
         let n = number 256 (drop (i + 1) bs) in
         let coming : number 256 (drop i bs) ≡ d + 256 * n = next_byte bs i ∙ ap (λ (x : ℕ). x + 256 * n) (sym is) in
-        let t : buffer + scale * number 256 (drop i bs) ≡ taken + 128 * (2 * scale * n) = rw coming (omega arith) in
+        let t : buffer + scale * number 256 (drop i bs) ≡ taken + 128 * (scale * 2 * n) = rw coming (omega arith) in
         record {
           bits = suc p.bits;
           power = omega (arith, p.power, pow-suc 2 p.bits);
@@ -126,16 +122,5 @@ module _ (bs before area : List ℕ) (buffer scale i j : ℕ) (inside : j < coun
           below = omega (arith, taken-below);
           behind = omega (arith, p.behind);
           same = ap length e ∙ length-set area j u ∙ p.same;
-          rest = p.rest ∙ ap (sets area j) (next_group _ _ taken (2 * scale * n) _ one_less t) ∙ rw (e, unit, add-one j);
+          rest = p.rest ∙ ap (sets area j) (next_group _ _ taken (scale * 2 * n) _ one_less t) ∙ rw (e, unit, add-one j);
         }
-
--- the marker and bytes, unit by unit
-module _ {whole : List ℕ} (bs area : List ℕ) (i : ℕ) (e : whole ≡ sets area (suc i) (drop i bs)) where
-  pub mark-step : (area' : List ℕ) → i < length bs → area' ≡ set area (i + 1) (get_or bs i 0) → whole ≡ sets area' (suc (i + 1)) (drop (i + 1) bs)
-  mark-step area' h a = e ∙ rw (a, drop-cons bs i 0 h, add-one i)
-
-  pub mark-end : (before marked : List ℕ) → length bs ≤ i → marked ≡ set before 0 byte_string_marker → whole ≡ sets marked 1 bs
-      → area ≡ sets before 0 (byte_string_marker ∷ bs)
-  mark-end before marked h m w =
-      let z : area ≡ whole = sym (e ∙ rw (drop_of_length-le bs h)) in
-      z ∙ w ∙ ap (λ (x : List ℕ). sets x 1 bs) m

@@ -1,7 +1,7 @@
 // Both conversions on the inputs of BitEncoding's own test, and on cases made for each refusal. README.md says what a line shows.
 #![tactic(auto)]
 
-use converter::{new_to_old, old_to_new};
+use converter::{ConvertFault, new_to_old, old_to_new};
 use std::io;
 
 // What came of several inputs: how many were converted, how many of these came back, and a checksum of the old units.
@@ -73,14 +73,15 @@ fn counted(n: u64, more: bool) -> u64 {
 
 // One input of the test: from new to old and back.
 fn convert(d1: &[u16], units: &mut [u16], back: &mut [u16], tally: Tally) -> Tally {
-    let r = new_to_old(d1, units);
-    if r.number != 0 {
+    let Ok(length) = new_to_old(d1, units) else {
         return tally;
-    }
-    let old = &units[..r.length];
+    };
+    let old = &units[..length];
     let sum = checksum(tally.sum, old);
-    let s = old_to_new(old, back);
-    let again = same(&back[..s.length], d1);
+    let again = match old_to_new(old, back) {
+        Ok(n) => same(&back[..n], d1),
+        Err(_) => false,
+    };
     Tally {
         converted: counted(tally.converted, true),
         back: counted(tally.back, again),
@@ -122,8 +123,10 @@ fn show(
     let tally = convert_all(100, d1, units, back);
     write_tally(rt, length, tally)?;
     fill(d1, 1);
-    let r = new_to_old(&*d1, units);
-    write_units(rt, &units[..r.length])?;
+    match new_to_old(d1, units) {
+        Ok(length) => write_units(rt, &units[..length])?,
+        Err(_) => write_units(rt, &[])?,
+    }
     println!(rt)
 }
 
@@ -160,11 +163,16 @@ fn long(rt: &impl Print, length: usize) -> io::Result<()> {
 // Number, detail, length, and the whole area afterwards.
 fn write_answer(
     rt: &impl Print,
-    number: u64,
-    detail: u64,
-    length: usize,
+    answer: Result<usize, ConvertFault>,
     area: &[u16],
 ) -> io::Result<()> {
+    let (number, detail, length) = match answer {
+        Ok(length) => (0, 0, length),
+        Err(fault) => {
+            let (number, detail) = fault.numbered();
+            (number, detail, 0)
+        }
+    };
     write_number(rt, number)?;
     write_number(rt, detail)?;
     write_number(rt, length as u64)?;
@@ -174,11 +182,11 @@ fn write_answer(
 // An input both ways, into areas of nine units.
 fn both(rt: &impl Print, d1: &[u16]) -> io::Result<()> {
     let mut area = [0xeeu16; 9];
-    let r = old_to_new(d1, &mut area);
-    write_answer(rt, r.number, r.detail, r.length, &area)?;
+    let answer = old_to_new(d1, &mut area);
+    write_answer(rt, answer, &area)?;
     let mut other = [0xeeu16; 9];
-    let s = new_to_old(d1, &mut other);
-    write_answer(rt, s.number, s.detail, s.length, &other)?;
+    let answer = new_to_old(d1, &mut other);
+    write_answer(rt, answer, &other)?;
     println!(rt)
 }
 

@@ -24,7 +24,7 @@ use Rattle.sheet.specs.told.Put.{PutHead, PutRows, past}
 use Rattle.sheet.specs.declared.State.{State}
 use Rattle.sheet.proofs.RowLaws.{sheet-append, texts-append}
 use Rattle.sheet.proofs.PutLaws.{put-sheet, put-text, put-types, put_none, rows_then}
-use Rattle.declaration_rows.specs.Declarations.{Constructor, Declarations}
+use Rattle.declaration_rows.specs.Declarations.{Declarations}
 use Rattle.declaration_rows.specs.Rows.{property_rows, alias_rows, aliases_rows}
 use Rattle.declaration_rows.specs.told.Written.{head_cells, head_counts}
 use Rattle.declaration_rows.proofs.WrittenLaws.{head_small}
@@ -32,19 +32,17 @@ use Rattle.declaration_rows.proofs.RecordLaws.{head-put, aliases-put}
 use Rattle.schema.specs.Reading.{Scope, class_name_in}
 use Rattle.schema.specs.Members.{flags_in, list_in, constructor_in, function_in, property_in, alias_in, head, constructors_in, function_field, property_field, alias_field, lists_in, after_table}
 use Rattle.schema.specs.told.SchemaTold.{Lent, NamesOf, Scoped}
-use Rattle.schema.specs.told.MembersTold.{Affords, Within, ListedWithin, ListedTold, ListTold}
-use Rattle.schema.specs.declared.Listed.{Listed}
-use Rattle.schema.specs.declared.Listed.TheVariants as listed
+use Rattle.schema.specs.told.MembersTold.{ListWalked, section, Affords, Within, ListedTold, ListTold}
+use Rattle.schema.specs.declared.Section.{Section}
 use Rattle.schema.specs.declared.Stop.{Stop}
-use Rattle.schema.proofs.CountLaws.{within_none, within_less, within_then, past-within, affords-less, affords-after, affords-places, head-within, listed-within}
+use Rattle.schema.proofs.CountLaws.{within_none, within_less, within_then, past-within, affords-less, affords-after, affords-places, head-within}
 use Rattle.descriptors.specs.Defaults.{closed_constructor, closed_function}
 use Rattle.members.specs.Lists.{section_rows}
 use Rattle.members.specs.declared.list.Member.TheVariants as member
 use Rattle.declarations.specs.Payload.{head_row, declaration_rows}
-use Rattle.declarations.specs.told.BodyTold.{head_cost, list_cost, aliases_cost, lists_cost, body_cost, BodyHead, ConstructorsTold, AliasesAre, AliasesTold, Reached, ListsAre, ListsTold, BodyTold, BodyWalked}
+use Rattle.declarations.specs.told.BodyTold.{head_cost, list_cost, aliases_cost, lists_cost, body_cost, BodyHead, ConstructorsTold, AliasesAre, AliasesTold, Reached, ListsTold, BodyWalked}
 use Rattle.declarations.specs.declared.body.Sections.{Sections}
-use Rattle.declarations.specs.declared.body.Body.{Body}
-use Rattle.declarations.specs.declared.body.Body.TheVariants as body
+use Rattle.std.proofs.Common.{Ok, Err}
 
 pub no_name : (payload d2 : List ℕ) → name_text payload d2 absent_name ≡ none
 unfolding name_text source_text
@@ -83,14 +81,14 @@ module _ (kind : ℕ) (payload d2 ends notes : List ℕ) (records : ℕ) (msg : 
 
 -- The constructors.
 module _ (e : Lent) (msg : List ℕ) (base : ℕ) (class : Bool) (s : State) (S T : List ℕ) where
-  pub constructors-none : class ≡ false → ConstructorsTold class e msg base s (listed.Done s 0) S S T T
+  pub constructors-none : class ≡ false → ConstructorsTold class e msg base s (Ok (section s 0)) S S T T
   unfolding sheet_from texts
   constructors-none g = record {
     spends = within_less (list_cost (length msg)) (omega arith) (within_none s);
     is = λ c w m f. ([], s.types, rw g, refl, put_none s S T);
   }
 
-  pub constructors-class : (r : Listed) {S' T' : List ℕ} → class ≡ true
+  pub constructors-class : (r : ListWalked) {S' T' : List ℕ} → class ≡ true
       → ListTold constructor_in closed_constructor (list_cost (length msg)) e msg base Class-constructor s r S S' T T'
       → ConstructorsTold class e msg base s r S S' T T'
   constructors-class r {S'} {T'} g t = record {
@@ -161,100 +159,84 @@ reached_then rs qs {s} p q = record {
 -- The aliases: kind 9, the list, and then its count.
 module _ {payload d2 : List ℕ} (e : Lent) (msg : List ℕ) (base : ℕ) (class : Bool) {s s₁ : State} {S S₁ T : List ℕ}
     (a : Affords payload d2 (aliases_cost (length msg)) s) (p : PutHead 9 [] s.types s s₁ S S₁ T T)
-    (F : ℕ) (u : F ≡ alias_field class) (r : Listed) {S₂ T₂ : List ℕ}
-    (t : ListTold alias_in alias_rows (list_cost (length msg)) e msg base F (past 2 s₁) r S₁ S₂ T T₂) where
-  listed-is : (c : Scope) → Scoped e c → (m : Message) → cut (◌from◌ base msg) ≡ ok m → {y : Listed} → r ≡ y
+    (F : ℕ) (u : F ≡ alias_field class) where
+  listed-is : {y : ListWalked} {S₂ T₂ : List ℕ} → ListTold alias_in alias_rows (list_cost (length msg)) e msg base F (past 2 s₁) y S₁ S₂ T T₂
+      → (c : Scope) → Scoped e c → (m : Message) → cut (◌from◌ base msg) ≡ ok m
       → ListedTold (list_in (alias_in c) (alias_field class) m s.types) alias_rows (past 2 s₁) y S₁ S₂ T T₂
-  listed-is c w m f {y} g =
+  listed-is {y} {S₂} {T₂} t c w m f =
       subst (λ (k : ℕ). ListedTold (list_in (alias_in c) k m s.types) alias_rows (past 2 s₁) y S₁ S₂ T T₂) u
-      (subst (λ (b : ℕ). ListedTold (list_in (alias_in c) F m b) alias_rows (past 2 s₁) y S₁ S₂ T T₂) (put-types p)
-      (subst (λ (x : Listed). ListedTold (list_in (alias_in c) F m s₁.types) alias_rows (past 2 s₁) x S₁ S₂ T T₂) g (t.is c w m f)))
+      (subst (λ (b : ℕ). ListedTold (list_in (alias_in c) F m b) alias_rows (past 2 s₁) y S₁ S₂ T T₂) (put-types p) (t.is c w m f))
 
-  pub aliases-refused : {stop : Stop} → r ≡ listed.Refused stop → AliasesTold class e msg base s r S S₂ T T₂
-  aliases-refused g = record {
-    spends = subst (ListedWithin (aliases_cost (length msg)) s) (sym g) tt;
-    is = λ c w m f.
-        subst (λ (x : Listed). AliasesAre (list_in (alias_in c) (alias_field class) m s.types) s x S S₂ T T₂) (sym g) (listed-is c w m f g);
-  }
+  pub aliases-refused : {stop : Stop} {S₂ T₂ : List ℕ}
+      → ListTold alias_in alias_rows (list_cost (length msg)) e msg base F (past 2 s₁) (Err stop) S₁ S₂ T T₂ → AliasesTold class e msg base s (Err stop) S S₂ T T₂
+  aliases-refused t = record { spends = tt; is = listed-is t }
 
-  pub aliases-done : {s₂ : State} {n : ℕ} {S₃ : List ℕ} → r ≡ listed.Done s₂ n → S₃ ≡ sets S₂ s₁.sheet (little 2 n)
-      → AliasesTold class e msg base s (listed.Done s₂ n) S S₃ T T₂
-  aliases-done g q = record {
-    spends = aliases-within (length msg) a p (listed-within t.spends g);
+  pub aliases-done : {x : Section} {S₂ S₃ T₂ : List ℕ}
+      → ListTold alias_in alias_rows (list_cost (length msg)) e msg base F (past 2 s₁) (Ok x) S₁ S₂ T T₂ → S₃ ≡ sets S₂ s₁.sheet (little 2 x.count)
+      → AliasesTold class e msg base s (Ok x) S S₃ T T₂
+  aliases-done {x} {S₂} t q = record {
+    spends = aliases-within (length msg) a p t.spends;
     is = λ c w m f.
-        let x = listed-is c w m f g in
-        let patched = q ∙ ap (λ (k : ℕ). sets S₂ s₁.sheet (little 2 k)) x.3 in
-        (x.0, x.1, x.2, x.3, aliases-put (length x.0) (concat (map alias_rows x.0)) p x.4 patched);
+        let y = listed-is t c w m f in
+        let patched = q ∙ ap (λ (k : ℕ). sets S₂ s₁.sheet (little 2 k)) y.3 in
+        (y.0, y.1, y.2, y.3, aliases-put (length y.0) (concat (map alias_rows y.0)) p y.4 patched);
   }
 
 -- The lists one after the other.
-module _ (e : Lent) (msg : List ℕ) (base : ℕ) (class : Bool) (s : State) {S S₁ T T₁ : List ℕ}
-    (r₁ : Listed) (t₁ : ConstructorsTold class e msg base s r₁ S S₁ T T₁) where
-  pub constructors-refused : {stop : Stop} → r₁ ≡ listed.Refused stop → ListsTold class e msg base s (body.Refused stop) S S₁ T T₁
+module _ (e : Lent) (msg : List ℕ) (base : ℕ) (class : Bool) (s : State) {S S₁ T T₁ : List ℕ} where
+  pub constructors-refused : {stop : Stop} → ConstructorsTold class e msg base s (Err stop) S S₁ T T₁ → ListsTold class e msg base s (Err stop) S S₁ T T₁
   unfolding lists_in
-  constructors-refused g c w m f h =
-      let x = subst (λ (r : Listed). ListedTold (constructors_in class c m s.types) closed_constructor s r S S₁ T T₁) g (t₁.is c w m f) in
-      rw x
+  constructors-refused t c w m f h = rw (t.is c w m f)
 
-  module _ {s₁ : State} {i : ℕ} (g₁ : r₁ ≡ listed.Done s₁ i) (F : ℕ) (u : F ≡ function_field class) {n : ℕ} (r₂ : Listed) {S₂ T₂ : List ℕ}
-      (t₂ : ListTold function_in closed_function n e msg base F s₁ r₂ S₁ S₂ T₁ T₂) where
-    module _ (c : Scope) (w : Scoped e c) (m : Message) (f : cut (◌from◌ base msg) ≡ ok m) where
-      made : (cs : List Constructor) × (b : ℕ) × (constructors_in class c m s.types ≡ ok (cs, b)) × (i ≡ length cs)
-          × PutRows (concat (map closed_constructor cs)) b s s₁ S S₁ T T₁
-      made = subst (λ (r : Listed). ListedTold (constructors_in class c m s.types) closed_constructor s r S S₁ T T₁) g₁ (t₁.is c w m f)
+  module _ {x₁ : Section} (t₁ : ConstructorsTold class e msg base s (Ok x₁) S S₁ T T₁) (F : ℕ) (u : F ≡ function_field class) where
+    called : (c : Scope) (w : Scoped e c) (m : Message) (f : cut (◌from◌ base msg) ≡ ok m) {n : ℕ} {y : ListWalked} {S₂ T₂ : List ℕ}
+        → ListTold function_in closed_function n e msg base F x₁.state y S₁ S₂ T₁ T₂
+        → ListedTold (list_in (function_in c) (function_field class) m (t₁.is c w m f).1) closed_function x₁.state y S₁ S₂ T₁ T₂
+    called c w m f {n} {y} {S₂} {T₂} t =
+        let made = t₁.is c w m f in
+        subst (λ (k : ℕ). ListedTold (list_in (function_in c) k m made.1) closed_function x₁.state y S₁ S₂ T₁ T₂) u
+        (subst (λ (b : ℕ). ListedTold (list_in (function_in c) F m b) closed_function x₁.state y S₁ S₂ T₁ T₂) (put-types made.4) (t.is c w m f))
 
-      called : {y : Listed} → r₂ ≡ y → ListedTold (list_in (function_in c) (function_field class) m made.1) closed_function s₁ y S₁ S₂ T₁ T₂
-      called {y} g =
-          subst (λ (k : ℕ). ListedTold (list_in (function_in c) k m made.1) closed_function s₁ y S₁ S₂ T₁ T₂) u
-          (subst (λ (b : ℕ). ListedTold (list_in (function_in c) F m b) closed_function s₁ y S₁ S₂ T₁ T₂) (put-types made.4)
-          (subst (λ (r : Listed). ListedTold (list_in (function_in c) F m s₁.types) closed_function s₁ r S₁ S₂ T₁ T₂) g (t₂.is c w m f)))
-
-    pub functions-refused : {stop : Stop} → r₂ ≡ listed.Refused stop → ListsTold class e msg base s (body.Refused stop) S S₂ T T₂
+    pub functions-refused : {n : ℕ} {stop : Stop} {S₂ T₂ : List ℕ} → ListTold function_in closed_function n e msg base F x₁.state (Err stop) S₁ S₂ T₁ T₂
+        → ListsTold class e msg base s (Err stop) S S₂ T T₂
     unfolding lists_in
-    functions-refused g c w m f h = rw ((made c w m f).2, called c w m f g)
+    functions-refused t c w m f h = rw ((t₁.is c w m f).2, called c w m f t)
 
-    module _ {s₂ : State} {j : ℕ} (g₂ : r₂ ≡ listed.Done s₂ j) (P : ℕ) (v : P ≡ property_field class) {k : ℕ} (r₃ : Listed) {S₃ T₃ : List ℕ}
-        (t₃ : ListTold property_in property_rows k e msg base P s₂ r₃ S₂ S₃ T₂ T₃) where
-      module _ (c : Scope) (w : Scoped e c) (m : Message) (f : cut (◌from◌ base msg) ≡ ok m) where
-        held : {y : Listed} → r₃ ≡ y
-            → ListedTold (list_in (property_in c) (property_field class) m (called c w m f g₂).1) property_rows s₂ y S₂ S₃ T₂ T₃
-        held {y} g =
-            subst (λ (n : ℕ). ListedTold (list_in (property_in c) n m (called c w m f g₂).1) property_rows s₂ y S₂ S₃ T₂ T₃) v
-            (subst (λ (b : ℕ). ListedTold (list_in (property_in c) P m b) property_rows s₂ y S₂ S₃ T₂ T₃) (put-types (called c w m f g₂).4)
-            (subst (λ (r : Listed). ListedTold (list_in (property_in c) P m s₂.types) property_rows s₂ r S₂ S₃ T₂ T₃) g (t₃.is c w m f)))
+    module _ {n : ℕ} {x₂ : Section} {S₂ T₂ : List ℕ} (t₂ : ListTold function_in closed_function n e msg base F x₁.state (Ok x₂) S₁ S₂ T₁ T₂)
+        (P : ℕ) (v : P ≡ property_field class) where
+      held : (c : Scope) (w : Scoped e c) (m : Message) (f : cut (◌from◌ base msg) ≡ ok m) {k : ℕ} {y : ListWalked} {S₃ T₃ : List ℕ}
+          → ListTold property_in property_rows k e msg base P x₂.state y S₂ S₃ T₂ T₃
+          → ListedTold (list_in (property_in c) (property_field class) m (called c w m f t₂).1) property_rows x₂.state y S₂ S₃ T₂ T₃
+      held c w m f {k} {y} {S₃} {T₃} t =
+          let before = called c w m f t₂ in
+          subst (λ (i : ℕ). ListedTold (list_in (property_in c) i m before.1) property_rows x₂.state y S₂ S₃ T₂ T₃) v
+          (subst (λ (b : ℕ). ListedTold (list_in (property_in c) P m b) property_rows x₂.state y S₂ S₃ T₂ T₃) (put-types before.4) (t.is c w m f))
 
-      pub properties-refused : {stop : Stop} → r₃ ≡ listed.Refused stop → ListsTold class e msg base s (body.Refused stop) S S₃ T T₃
+      pub properties-refused : {k : ℕ} {stop : Stop} {S₃ T₃ : List ℕ} → ListTold property_in property_rows k e msg base P x₂.state (Err stop) S₂ S₃ T₂ T₃
+          → ListsTold class e msg base s (Err stop) S S₃ T T₃
       unfolding lists_in
-      properties-refused g c w m f h = rw ((made c w m f).2, (called c w m f g₂).2, held c w m f g)
+      properties-refused t c w m f h = rw ((t₁.is c w m f).2, (called c w m f t₂).2, held c w m f t)
 
-      module _ {s₃ : State} {l : ℕ} (g₃ : r₃ ≡ listed.Done s₃ l) (r₄ : Listed) {S₄ T₄ : List ℕ}
-          (t₄ : AliasesTold class e msg base s₃ r₄ S₃ S₄ T₃ T₄) where
-        module _ (c : Scope) (w : Scoped e c) (m : Message) (f : cut (◌from◌ base msg) ≡ ok m) where
-          aliased : {y : Listed} → r₄ ≡ y → AliasesAre (list_in (alias_in c) (alias_field class) m (held c w m f g₃).1) s₃ y S₃ S₄ T₃ T₄
-          aliased {y} g =
-              subst (λ (b : ℕ). AliasesAre (list_in (alias_in c) (alias_field class) m b) s₃ y S₃ S₄ T₃ T₄) (put-types (held c w m f g₃).4)
-              (subst (λ (r : Listed). AliasesAre (list_in (alias_in c) (alias_field class) m s₃.types) s₃ r S₃ S₄ T₃ T₄) g (t₄.is c w m f))
+      module _ {k : ℕ} {x₃ : Section} {S₃ T₃ : List ℕ} (t₃ : ListTold property_in property_rows k e msg base P x₂.state (Ok x₃) S₂ S₃ T₂ T₃) where
+        aliased : (c : Scope) (w : Scoped e c) (m : Message) (f : cut (◌from◌ base msg) ≡ ok m) {y : ListWalked} {S₄ T₄ : List ℕ}
+            → AliasesTold class e msg base x₃.state y S₃ S₄ T₃ T₄
+            → AliasesAre (list_in (alias_in c) (alias_field class) m (held c w m f t₃).1) x₃.state y S₃ S₄ T₃ T₄
+        aliased c w m f {y} {S₄} {T₄} t =
+            subst (λ (b : ℕ). AliasesAre (list_in (alias_in c) (alias_field class) m b) x₃.state y S₃ S₄ T₃ T₄) (put-types (held c w m f t₃).4) (t.is c w m f)
 
-        pub lists-refused : {stop : Stop} → r₄ ≡ listed.Refused stop → ListsTold class e msg base s (body.Refused stop) S S₄ T T₄
+        pub lists-refused : {stop : Stop} {S₄ T₄ : List ℕ} → AliasesTold class e msg base x₃.state (Err stop) S₃ S₄ T₃ T₄
+            → ListsTold class e msg base s (Err stop) S S₄ T T₄
         unfolding lists_in
-        lists-refused g c w m f h = rw ((made c w m f).2, (called c w m f g₂).2, (held c w m f g₃).2, aliased c w m f g)
+        lists-refused t c w m f h = rw ((t₁.is c w m f).2, (called c w m f t₂).2, (held c w m f t₃).2, aliased c w m f t)
 
-        pub lists-done : {s₄ : State} {q : ℕ} → r₄ ≡ listed.Done s₄ q
-            → ListsTold class e msg base s
-            (body.Done (record {
-              head = s;
-              constructors = record { state = s₁; count = i };
-              functions = record { state = s₂; count = j };
-              properties = record { state = s₃; count = l };
-              aliases = record { state = s₄; count = q };
-            }))
-            S S₄ T T₄
+        pub lists-done : {x₄ : Section} {S₄ T₄ : List ℕ} → AliasesTold class e msg base x₃.state (Ok x₄) S₃ S₄ T₃ T₄
+            → ListsTold class e msg base s (Ok (record { head = s; constructors = x₁; functions = x₂; properties = x₃; aliases = x₄ })) S S₄ T T₄
         unfolding lists_in
-        lists-done g c w m f =
-            let x = made c w m f in
-            let y = called c w m f g₂ in
-            let z = held c w m f g₃ in
-            let a = aliased c w m f g in
+        lists-done t c w m f =
+            let x = t₁.is c w m f in
+            let y = called c w m f t₂ in
+            let z = held c w m f t₃ in
+            let a = aliased c w m f t in
             let cs = concat (map closed_constructor x.0) in
             let fs = concat (map closed_function y.0) in
             let ps = concat (map property_rows z.0) in
@@ -284,62 +266,57 @@ counts_same o p q r = rw (p, q, r)
 -- The head, the lists, and then the counts.
 module _ (kind : ℕ) (e : Lent) (msg : List ℕ) (base : ℕ) (class : Bool) (k : class ≡ eqb kind 1) {s s₁ : State} {S S₁ T T₁ : List ℕ}
     (h : BodyHead kind e.payload e.d2 e.ends e.notes e.tables.records msg base s s₁ S S₁ T T₁)
-    (r : Body) (S₂ T₂ : List ℕ) (t : ListsTold class e msg base (past 6 s₁) r S₁ S₂ T₁ T₂) where
-  module _ (c : Scope) (w : Scoped e c) (m : Message) (f : cut (◌from◌ base msg) ≡ ok m) where
-    after-head : after_table (eqb kind 1) c m s.types ≡ lists_in class (head h.name h.flags) c m s₁.types
-    unfolding after_table
-    after-head = rw (h.is c w.names m f s.types, ← k, put-types h.put)
+  where
+    module _ (c : Scope) (w : Scoped e c) (m : Message) (f : cut (◌from◌ base msg) ≡ ok m) where
+      after-head : after_table (eqb kind 1) c m s.types ≡ lists_in class (head h.name h.flags) c m s₁.types
+      unfolding after_table
+      after-head = rw (h.is c w.names m f s.types, ← k, put-types h.put)
 
-    lists-are : {y : Body} → r ≡ y → ListsAre class c m (past 6 s₁) y S₁ S₂ T₁ T₂
-    lists-are g = subst (λ (y : Body). ListsAre class c m (past 6 s₁) y S₁ S₂ T₁ T₂) g (t c w m f)
+    pub body-stops : (stop : Stop) (S₂ T₂ : List ℕ) → ListsTold class e msg base (past 6 s₁) (Err stop) S₁ S₂ T₁ T₂ → BodyWalked kind e msg base s (Err stop) S S₂ T T₂
+    body-stops stop S₂ T₂ t c w m f = after-head c w m f ∙ t c w m f (head h.name h.flags)
 
-  pub body-stops : {stop : Stop} → r ≡ body.Refused stop → BodyWalked kind e msg base s r S S₂ T T₂
-  body-stops {stop} g c w m f =
-      let stops = after-head c w m f ∙ lists-are c w m f g (head h.name h.flags) in
-      subst (λ (y : Body). BodyTold kind (after_table (eqb kind 1) c m s.types) s y S S₂ T T₂) (sym g) stops
+    head-reached : (i j l : ℕ) → Reached (row 1 (head_cells kind h.name h.flags ++ head_counts i j l) ∷ []) s (past 6 s₁)
+    unfolding body_bytes sheet_from texts
+    head-reached i j l =
+        let w : PutRows (row 1 (head_cells kind h.name h.flags ++ head_counts i j l) ∷ []) s₁.types s (past 6 s₁) S
+        (sets S₁ s₁.sheet (body_bytes 0 (head_counts i j l))) T T₁ =
+        head-put kind h.name h.flags i j l [] h.put (put_none (past 6 s₁) S₁ T₁) λ o. refl in
+        reached w
 
-  head-reached : (i j l : ℕ) → Reached (row 1 (head_cells kind h.name h.flags ++ head_counts i j l) ∷ []) s (past 6 s₁)
-  unfolding body_bytes sheet_from texts
-  head-reached i j l =
-      let w : PutRows (row 1 (head_cells kind h.name h.flags ++ head_counts i j l) ∷ []) s₁.types s (past 6 s₁) S
-      (sets S₁ s₁.sheet (body_bytes 0 (head_counts i j l))) T T₁ =
-      head-put kind h.name h.flags i j l [] h.put (put_none (past 6 s₁) S₁ T₁) λ o. refl in
-      reached w
-
-  pub body-done : {b : Sections} {S₃ : List ℕ} → r ≡ body.Done b
-      → ((o : ℕ) → S₃ ≡ sets S₂ s₁.sheet (body_bytes o (head_counts b.constructors.count b.functions.count b.properties.count)))
-      → BodyWalked kind e msg base s (body.Done b) S S₃ T T₂
-  unfolding declaration_rows
-  body-done {b} {S₃} g q c w m f =
-      let u = lists-are c w m f g in
-      let d : Declarations = record {
-        name = h.name;
-        flags = h.flags;
-        constructors = u.constructors;
-        functions = u.functions;
-        properties = u.properties;
-        aliases = u.aliases;
-      } in
-      let counts : (o : ℕ) → S₃ ≡ sets S₂ s₁.sheet (body_bytes o (head_counts (length u.constructors) (length u.functions) (length u.properties))) =
-      λ o. q o ∙ ap (sets S₂ s₁.sheet) (counts_same o u.constructor_count u.function_count u.property_count) in
-      let cs = section_rows member.Constructor d in
-      let fs = section_rows member.Function d in
-      let ps = section_rows member.Property d in
-      let above = head-reached (length u.constructors) (length u.functions) (length u.properties) in (
-        d,
-        u.left,
-        after-head c w m f ∙ u.reads (head h.name h.flags),
-        record {
-          head_end = subst (Reached (head_row kind d ∷ []) s) (sym u.head_end) above;
-          constructors_end = reached_then (head_row kind d ∷ []) cs above u.constructors_end;
-          functions_end = reached_then (head_row kind d ∷ []) (cs ++ fs) above u.functions_end;
-          properties_end = reached_then (head_row kind d ∷ []) (cs ++ (fs ++ ps)) above u.properties_end;
-          constructor_count = u.constructor_count;
-          function_count = u.function_count;
-          property_count = u.property_count;
-          alias_count = u.alias_count;
-          put =
-              head-put kind h.name h.flags (length u.constructors) (length u.functions) (length u.properties)
-              (cs ++ (fs ++ (ps ++ aliases_rows d.aliases))) h.put u.put counts;
-        },
-      )
+    pub body-done : {b : Sections} {S₂ S₃ T₂ : List ℕ} → ListsTold class e msg base (past 6 s₁) (Ok b) S₁ S₂ T₁ T₂
+        → ((o : ℕ) → S₃ ≡ sets S₂ s₁.sheet (body_bytes o (head_counts b.constructors.count b.functions.count b.properties.count)))
+        → BodyWalked kind e msg base s (Ok b) S S₃ T T₂
+    unfolding declaration_rows
+    body-done {b} {S₂} {S₃} t q c w m f =
+        let u = t c w m f in
+        let d : Declarations = record {
+          name = h.name;
+          flags = h.flags;
+          constructors = u.constructors;
+          functions = u.functions;
+          properties = u.properties;
+          aliases = u.aliases;
+        } in
+        let counts : (o : ℕ) → S₃ ≡ sets S₂ s₁.sheet (body_bytes o (head_counts (length u.constructors) (length u.functions) (length u.properties))) =
+        λ o. q o ∙ ap (sets S₂ s₁.sheet) (counts_same o u.constructor_count u.function_count u.property_count) in
+        let cs = section_rows member.Constructor d in
+        let fs = section_rows member.Function d in
+        let ps = section_rows member.Property d in
+        let above = head-reached (length u.constructors) (length u.functions) (length u.properties) in (
+          d,
+          u.left,
+          after-head c w m f ∙ u.reads (head h.name h.flags),
+          record {
+            head_end = subst (Reached (head_row kind d ∷ []) s) (sym u.head_end) above;
+            constructors_end = reached_then (head_row kind d ∷ []) cs above u.constructors_end;
+            functions_end = reached_then (head_row kind d ∷ []) (cs ++ fs) above u.functions_end;
+            properties_end = reached_then (head_row kind d ∷ []) (cs ++ (fs ++ ps)) above u.properties_end;
+            constructor_count = u.constructor_count;
+            function_count = u.function_count;
+            property_count = u.property_count;
+            alias_count = u.alias_count;
+            put =
+                head-put kind h.name h.flags (length u.constructors) (length u.functions) (length u.properties)
+                (cs ++ (fs ++ (ps ++ aliases_rows d.aliases))) h.put u.put counts;
+          },
+        )

@@ -17,19 +17,16 @@ use Rattle.foundation.specs.Texts.{Text}
 use Rattle.fields.specs.Fields.{StringTableTypes-record, TypeTable-type, Class-type_table}
 use Rattle.wire.specs.Wire.{Message, cut, read_delimited}
 use Rattle.wire.specs.told.WireTold.{wire_refused, rest_of, part_between}
-use Rattle.messages.specs.told.Asked.{CheckedTold, bodies}
+use Rattle.messages.specs.told.Asked.{bodies}
 use Rattle.wire.specs.declared.WireError.{WireError}
-use Rattle.messages.specs.told.Reader as reader
-use Rattle.messages.specs.declared.reader.Split as parted
-use Rattle.messages.specs.declared.reader.Split.TheVariants as parts
-use Rattle.messages.specs.declared.Checked.{Checked}
-use Rattle.messages.specs.declared.Checked.TheVariants as checked
-use Rattle.messages.proofs.BodyLaws.{part-is, checked_at}
+use Rattle.messages.specs.told.Reader.{SplitTold}
+use Rattle.messages.specs.declared.reader.Parts.{Parts}
+use Rattle.messages.proofs.BodyLaws.{part-is}
 use Rattle.names.specs.Records.{Record}
 use Rattle.names.specs.Names.{Names, ends_fit}
 use Rattle.names.specs.told.Index.{IndexOf, IndexTold}
-use Rattle.names.specs.declared.records.RecordIndex.{RecordIndex}
-use Rattle.names.specs.declared.records.RecordIndex.TheVariants as records
+use Rattle.names.specs.declared.records.IndexError.{IndexError}
+use Rattle.names.specs.declared.records.IndexError.TheVariants as index
 use Rattle.lookup.specs.told.Lookups.{NotesOf}
 use Rattle.lookup.specs.told.Strings.{codes_from, sizes_from, Keeps, SizesOf}
 use Rattle.lookup.proofs.LookupLaws.{index_longer}
@@ -41,13 +38,12 @@ use Rattle.schema.specs.Types.{type_table_in}
 use Rattle.schema.specs.Members.{after_table, body_in}
 use Rattle.schema.specs.told.TableTold.{TypeIndexTold}
 use Rattle.schema.specs.declared.table.TypeIndex.{TypeIndex}
-use Rattle.schema.specs.declared.table.TypeIndex.TheVariants as types
 use Rattle.declarations.specs.Payload.{body_of, payload}
 use Rattle.declarations.specs.told.PayloadTold.{body_from, BodyAt, BodyOpened, NotedOpened, OpenedAt, OpenedTold, LentTold}
 use Rattle.schema.specs.told.SchemaTold.{EntriesOf}
 use Rattle.schema.specs.declared.Tables.{Tables}
 use Rattle.declarations.specs.declared.payload.Opened.{Opened}
-use Rattle.declarations.specs.declared.payload.Opened.TheVariants as opened
+use Rattle.std.proofs.Common.{Result, Ok, Err}
 use Rattle.declarations.proofs.RoomLaws.{bodies_few, inner_few, records-many}
 
 -- A body by its type table, of a class and of a package.
@@ -67,59 +63,37 @@ pub body-after : (kind : ℕ) (names : Names) (m : Message) (l : ℕ) {table : T
     → body_of kind names m l ≡ after_table (eqb kind 1) (scope names table) m l
 body-after kind names m l = table-then names m l (eqb kind 1)
 
--- What neither gives its notes nor is refused had no room.
-pub types-left : (r : TypeIndex) → ((count first : ℕ) → r ≡ types.Types count first → ⊥) → ((error : WireError) → r ≡ types.Refused error → ⊥)
-    → r ≡ types.NoRoom
-types-left (types.Types n first) k l = absurd (k n first refl)
-types-left types.NoRoom k l = refl
-types-left (types.Refused error) k l = absurd (l error refl)
-
-pub records-left : (r : RecordIndex) → ((count : ℕ) → r ≡ records.Records count → ⊥) → ((error : WireError) → r ≡ records.Refused error → ⊥)
-    → r ≡ records.NoRoom
-records-left (records.Records count) k l = absurd (k count refl)
-records-left records.NoRoom k l = refl
-records-left (records.Refused error) k l = absurd (l error refl)
-
--- The body, cut.
-module _ (bytes : List ℕ) (at count : ℕ) (entries : List ℕ) (x : Checked) (t : CheckedTold (cut (◌from◌ at (take (length bytes - at) (drop at bytes)))) x) where
+-- The body, cut, and its type table noted.
+module _ (bytes : List ℕ) (at count : ℕ) (entries : List ℕ) where
   here : ◌from◌ at (take (length bytes - at) (drop at bytes)) ≡ ◌from◌ at (drop at bytes)
   here = ap (λ (l : List ℕ). ◌from◌ at l) (take_all (length bytes - at) (drop at bytes) (omega (arith, length-drop at bytes)))
 
-  pub body_refused : {error err : WireError} → x ≡ checked.Refused error → err ≡ error → BodyOpened bytes at count entries (opened.Refused err)
-  body_refused {error} {err} g e kind names =
-      let refuses : cut (◌from◌ at (drop at bytes)) ≡ wire_refused err = ap cut (sym here) ∙ subst (CheckedTold (cut (◌from◌ at (take (length bytes - at) (drop at bytes))))) g t ∙ ap wire_refused (sym e) in
-      rw refuses
+  pub body_refused : (error : WireError) → cut (◌from◌ at (take (length bytes - at) (drop at bytes))) ≡ wire_refused error
+      → BodyOpened bytes at count entries (Err (index.Wire error))
+  body_refused error e kind names = let refuses = ap cut (sym here) ∙ e in rw refuses
 
-  module _ (g : x ≡ checked.Whole) (r : TypeIndex)
-      (h : (m : Message) → cut (◌from◌ at (drop at bytes)) ≡ ok m → TypeIndexTold bytes at Class-type_table m entries r) where
-    whole : (m : Message) × (cut (◌from◌ at (drop at bytes)) ≡ ok m)
-    whole = let w = subst (CheckedTold (cut (◌from◌ at (take (length bytes - at) (drop at bytes))))) g t in (w.0, ap cut (sym here) ∙ w.1)
+  module _ (m : Message) (e : cut (◌from◌ at (take (length bytes - at) (drop at bytes))) ≡ ok m) where
+    cuts : cut (◌from◌ at (drop at bytes)) ≡ ok m
+    cuts = ap cut (sym here) ∙ e
 
-    told : {y : TypeIndex} → r ≡ y → TypeIndexTold bytes at Class-type_table whole.0 entries y
-    told e = subst (TypeIndexTold bytes at Class-type_table whole.0 entries) e (h whole.0 whole.1)
-
-    pub body_open : {n first : ℕ} → r ≡ types.Types n first
-        → BodyOpened bytes at count entries (opened.Body at (record { records = count; types = n; first_nullable = first }))
-    body_open e =
-        let w = told e in (
-          refl,
-          refl,
-          record { body = whole.0; cuts = whole.1; table = w.0; reads = w.1; noted = w.2; nullable = w.3 },
-        )
-
-    pub body-table-refused : {error : WireError} → r ≡ types.Refused error → BodyOpened bytes at count entries (opened.Refused error)
-    body-table-refused {error} e kind names = rw whole.1 (table-refuses names whole.0 allowance (eqb kind 1) error (told e allowance))
-
-    pub body-no-room : r ≡ types.NoRoom → BodyOpened bytes at count entries opened.NoRoom
-    body-no-room e room =
-        told e (record {
+    pub body_unnoted : (error : IndexError) → ((t : Message) → cut (◌from◌ at (drop at bytes)) ≡ ok t → TypeIndexTold bytes at Class-type_table t entries (Err error))
+        → BodyOpened bytes at count entries (Err error)
+    body_unnoted (index.Wire error) h = λ kind names. rw cuts (table-refuses names m allowance (eqb kind 1) error (h m cuts allowance))
+    body_unnoted index.NoRoom h = λ room.
+        h m cuts (record {
           inside = room.inside;
           short = room.short;
           entries = λ table f.
-              let few = inner_few Class-type_table TypeTable-type (◌from◌ at (drop at bytes)) whole.1 f in
+              let few = inner_few Class-type_table TypeTable-type (◌from◌ at (drop at bytes)) cuts f in
               let l = length-drop at bytes in
               record { long = omega (arith, room.long, room.inside) };
         })
+
+    pub body_open : (x : TypeIndex) → ((t : Message) → cut (◌from◌ at (drop at bytes)) ≡ ok t → TypeIndexTold bytes at Class-type_table t entries (Ok x))
+        → BodyOpened bytes at count entries (Ok (record { at = at; tables = record { records = count; types = x.count; first_nullable = x.first } }))
+    body_open x h =
+        let w = h m cuts in
+        (refl, refl, record { body = m; cuts = cuts; table = w.0; reads = w.1; noted = w.2; nullable = w.3 })
 
 -- What was lent from a place on, put back.
 put_back : (l part : List ℕ) (n : ℕ) → n ≤ length l → drop n (put_mid n (length l - n) l part) ≡ part
@@ -132,7 +106,7 @@ put_back l part n h =
 -- The notes of the body's type table stand after those of the records, which they leave as they are.
 pub noted_then : (bytes : List ℕ) (rest count : ℕ) (before worked : List ℕ)
     → ((rs : List Record) → length bytes < 65536 → IndexOf bytes before count rs → NotesOf bytes worked count rs) → 3 * count ≤ length worked
-    → (part : List ℕ) → length part ≡ length (mid_of (3 * count) (length worked - 3 * count) worked) → (r : Opened) → BodyOpened bytes rest count part r
+    → (part : List ℕ) → length part ≡ length (mid_of (3 * count) (length worked - 3 * count) worked) → (r : Result Opened IndexError) → BodyOpened bytes rest count part r
     → NotedOpened bytes rest count before (put_mid (3 * count) (length worked - 3 * count) worked part) r
 noted_then bytes rest count before worked u h part same r t =
     let n = 3 * count in record {
@@ -143,99 +117,90 @@ noted_then bytes rest count before worked u h part same r t =
     }
 
 -- The name table, cut, and then the body.
-module _ (bytes : List ℕ) (start end rest : ℕ) (o : start ≤ end) (i : end ≤ rest) (k : rest ≤ length bytes) (x : Checked) (u : CheckedTold (cut (◌from◌ start (take (end - start) (drop start bytes)))) x) where
-  t : CheckedTold (cut (rest_of 0 (take end bytes) start)) x
-  t = subst (λ (p : Part). CheckedTold (cut p) x) (sym (part-is 0 bytes start end o)) (checked_at bytes start end x u)
+module _ (bytes : List ℕ) (parts : Parts) (d : SplitTold bytes (read_delimited (◌from◌ 0 bytes)) (Ok parts)) where
+  abbrev start : ℕ
+  start = parts.table.start
 
-  -- the name table and the rest
-  abbrev Delimited : Type 0
-  Delimited = read_delimited (◌from◌ 0 bytes) ≡ got (part_between 0 bytes start end) (rest_of 0 bytes rest)
+  abbrev end : ℕ
+  end = parts.table.end
 
-  pub table-refused : Delimited → {error err : WireError} → x ≡ checked.Refused error → err ≡ error → (notes : List ℕ) → OpenedTold bytes notes (opened.Refused err)
+  abbrev rest : ℕ
+  rest = parts.rest
+
+  -- what is cut of the name table, at its place in the payload
+  abbrev Cut : Res Message → Type 0
+  Cut r = cut (◌from◌ start (take (end - start) (drop start bytes))) ≡ r
+
+  placed : {r : Res Message} → Cut r → cut (part_between 0 bytes start end) ≡ r
+  placed e = ap (λ (n : ℕ). cut (◌from◌ n (take (end - start) (drop start bytes)))) (zero-add start) ∙ e
+
+  pub table-refused : (error : WireError) → Cut (wire_refused error) → (notes : List ℕ) → OpenedTold bytes notes (Err (index.Wire error))
   unfolding payload
-  table-refused d {error} {err} g e notes kind d2 =
-      let refuses : cut (part_between 0 bytes start end) ≡ wire_refused err =
-      ap cut (sym (part-is 0 bytes start end o)) ∙ subst (CheckedTold (cut (rest_of 0 (take end bytes) start))) g t ∙ ap wire_refused (sym e) in
-      rw (d, refuses)
+  table-refused error e notes kind d2 = rw (d.0, placed e)
 
-  module _ (g : x ≡ checked.Whole) (before : List ℕ) (r : RecordIndex)
-      (h : (m : Message) → cut (rest_of 0 (take end bytes) start) ≡ ok m → IndexTold (take end bytes) start m before r) where
-    table : (m : Message) × (cut (rest_of 0 (take end bytes) start) ≡ ok m)
-    table = subst (CheckedTold (cut (rest_of 0 (take end bytes) start))) g t
+  module _ (m : Message) (e : Cut (ok m)) (before : List ℕ) where
+    stands : cut (rest_of 0 (take end bytes) start) ≡ ok m
+    stands = ap cut (part-is 0 bytes start end d.2) ∙ placed e
 
-    cuts : cut (part_between 0 bytes start end) ≡ ok table.0
-    cuts = ap cut (sym (part-is 0 bytes start end o)) ∙ table.1
-
-    indexed : {y : RecordIndex} → r ≡ y → IndexTold (take end bytes) start table.0 before y
-    indexed e = subst (IndexTold (take end bytes) start table.0 before) e (h table.0 table.1)
-
-    few : 2 * length (bodies StringTableTypes-record table.0) ≤ end - start
+    few : 2 * length (bodies StringTableTypes-record m) ≤ end - start
     few =
         let l = length-take end bytes in
         let n = length-drop start (take end bytes) in
-        omega (arith, bodies_few StringTableTypes-record (rest_of 0 (take end bytes) start) table.1)
+        omega (arith, bodies_few StringTableTypes-record (rest_of 0 (take end bytes) start) stands)
 
-    pub records-refused : Delimited → {error : WireError} → r ≡ records.Refused error → OpenedTold bytes before (opened.Refused error)
+    pub records_unnoted : (error : IndexError)
+        → ((t : Message) → cut (rest_of 0 (take end bytes) start) ≡ ok t → IndexTold (take end bytes) start t before (Err error)) → OpenedTold bytes before (Err error)
     unfolding payload
-    records-refused d e kind d2 = rw (d, cuts, indexed e)
-
-    pub records-no-room : r ≡ records.NoRoom → OpenedTold bytes before opened.NoRoom
-    records-no-room e room =
+    records_unnoted (index.Wire error) h = λ kind d2. rw (d.0, placed e, h m stands)
+    records_unnoted index.NoRoom h = λ room.
         let l = length-take end bytes in
-        indexed e (record {
-          inside = omega arith;
+        h m stands (record {
+          inside = omega (arith, d.2, d.3, d.4);
           short = omega (arith, room.short);
-          long = omega (arith, room.long, few);
+          long = omega (arith, room.long, few, d.2, d.3, d.4);
         })
 
-    module _ {count : ℕ} (e : r ≡ records.Records count) where
-      opens : Delimited → (kind : ℕ) (d2 : ℕ → Res (Option Text))
-          → payload kind d2 bytes ≡ body_from kind (record { records = (indexed e).0; d2 = d2 }) bytes rest
+    module _ (count : ℕ) (h : (t : Message) → cut (rest_of 0 (take end bytes) start) ≡ ok t → IndexTold (take end bytes) start t before (Ok count)) where
+      indexed : IndexTold (take end bytes) start m before (Ok count)
+      indexed = h m stands
+
+      opens : (kind : ℕ) (d2 : ℕ → Res (Option Text)) → payload kind d2 bytes ≡ body_from kind (record { records = indexed.0; d2 = d2 }) bytes rest
       unfolding payload
-      opens d kind d2 =
-          rw (d, cuts, (indexed e).1)
-          (ap (λ (n : ℕ). Results.◌>>=◌ (cut (◌from◌ n (drop rest bytes))) λ body. body_of kind (record { records = (indexed e).0; d2 = d2 }) body allowance) (zero-add rest))
+      opens kind d2 =
+          rw (d.0, placed e, indexed.1)
+          (ap (λ (n : ℕ). Results.◌>>=◌ (cut (◌from◌ n (drop rest bytes))) λ body. body_of kind (record { records = indexed.0; d2 = d2 }) body allowance) (zero-add rest))
 
       pub records-long : 3 * count ≤ length before
-      records-long = (indexed e).2.sums.long
+      records-long = indexed.2.sums.long
 
       count-few : 2 * count ≤ end - start
-      count-few = omega (arith, few, (indexed e).2.sums.many, records-many table.0 (indexed e).1)
+      count-few = omega (arith, few, indexed.2.sums.many, records-many m indexed.1)
 
-      pub opened-then : Delimited → (after : List ℕ) → length after ≡ length before → (y : Opened) → NotedOpened bytes rest count before after y
+      pub opened-then : (after : List ℕ) → length after ≡ length before → (y : Result Opened IndexError) → NotedOpened bytes rest count before after y
           → length bytes < 65536 → OpenedTold bytes after y
-      opened-then d after l (opened.Body at tables) w s =
+      opened-then after l (Ok o) w s =
           let p = w.body.0 in
           let q = w.body.1 in
           record {
-            inside = rw p k;
+            inside = rw p d.4;
             is =
-                subst (λ (n : ℕ). BodyAt bytes n (drop (3 * tables.records) after) tables) (sym p)
-                (subst (λ (n : ℕ). BodyAt bytes rest (drop (3 * n) after) tables) (sym q) w.body.2);
-            records = (indexed e).0;
-            names = rw q (w.names (indexed e).0 s (index_longer bytes end before count (indexed e).0 (indexed e).2));
-            opens = λ kind d2. opens d kind d2 ∙ rw p;
+                subst (λ (n : ℕ). BodyAt bytes n (drop (3 * o.tables.records) after) o.tables) (sym p)
+                (subst (λ (n : ℕ). BodyAt bytes rest (drop (3 * n) after) o.tables) (sym q) w.body.2);
+            records = indexed.0;
+            names = rw q (w.names indexed.0 s (index_longer bytes end before count indexed.0 indexed.2));
+            opens = λ kind d2. opens kind d2 ∙ rw p;
           }
-      opened-then d after l (opened.Refused error) w s = λ kind d2. opens d kind d2 ∙ w.body kind (record { records = (indexed e).0; d2 = d2 })
-      opened-then d after l opened.NoRoom w s = λ room.
+      opened-then after l (Err (index.Wire error)) w s = λ kind d2. opens kind d2 ∙ w.body kind (record { records = indexed.0; d2 = d2 })
+      opened-then after l (Err index.NoRoom) w s = λ room.
           let n = length-drop (3 * count) after in
           let c = count-few in
-          w.body (record { inside = k; short = omega (arith, room.short); long = omega (arith, room.long) })
+          w.body (record { inside = d.4; short = omega (arith, room.short); long = omega (arith, room.long, d.2, d.3, d.4) })
 
-pub payload-refused : (bytes notes : List ℕ) (x : parted.Split) → reader.SplitTold bytes (read_delimited (◌from◌ 0 bytes)) x
-    → {error err : WireError} → x ≡ parts.Refused error → err ≡ error → OpenedTold bytes notes (opened.Refused err)
+pub payload-refused : (bytes notes : List ℕ) (error : WireError) → read_delimited (◌from◌ 0 bytes) ≡ wire_refused error → OpenedTold bytes notes (Err (index.Wire error))
 unfolding payload
-payload-refused bytes notes x t {error} {err} g e kind d2 =
-    let refuses : read_delimited (◌from◌ 0 bytes) ≡ wire_refused err = subst (reader.SplitTold bytes (read_delimited (◌from◌ 0 bytes))) g t ∙ ap wire_refused (sym e) in
-    rw refuses
+payload-refused bytes notes error e kind d2 = rw e
 
-pub payload-parts : (bytes : List ℕ) (x : parted.Split) → reader.SplitTold bytes (read_delimited (◌from◌ 0 bytes)) x → {a b c : ℕ} → x ≡ parts.Parts a b c
-    → (read_delimited (◌from◌ 0 bytes) ≡ got (part_between 0 bytes a b) (rest_of 0 bytes c)) × (a ≤ b) × (b ≤ c) × (c ≤ length bytes)
-payload-parts bytes x t g =
-    let w = subst (reader.SplitTold bytes (read_delimited (◌from◌ 0 bytes))) g t in
-    (w.0, w.2, w.3, w.4)
-
-pub payload_too_long : (bytes notes : List ℕ) → 65535 < length bytes → OpenedTold bytes notes opened.NoRoom
+pub payload_too_long : (bytes notes : List ℕ) → 65535 < length bytes → OpenedTold bytes notes (Err index.NoRoom)
 payload_too_long bytes notes h room = omega (arith, room.short)
 
 -- What is lent besides stands after the notes of both tables.
@@ -275,7 +240,7 @@ opened_longer bytes a b at tables e o = record {
 
 -- The tables' part opened, then codes and sizes noted after it.
 module _ (bytes d2 ends notes : List ℕ) (limit : ℕ) (c : limit ≡ codes_from (length notes)) (part : List ℕ)
-    (l : length part ≡ length (take limit notes)) (r : Opened) (t : OpenedTold bytes part r) where
+    (l : length part ≡ length (take limit notes)) where
   -- with the part opened
   abbrev all : List ℕ
   all = part ++ drop limit notes
@@ -289,11 +254,11 @@ module _ (bytes d2 ends notes : List ℕ) (limit : ℕ) (c : limit ≡ codes_fro
   all-length : length all ≡ length notes
   all-length = let i = limit-inside in omega (arith, length-append part (drop limit notes), length-drop limit notes, part_length)
 
-  pub lent-body : {at : ℕ} {tables : Tables} → r ≡ opened.Body at tables → (coded sized : List ℕ)
+  pub lent-body : (o : Opened) → OpenedTold bytes part (Ok o) → (coded sized : List ℕ)
       → Keeps (codes_from (length all)) all coded → Keeps (sizes_from (length coded)) coded sized
-      → (ends_fit 0 ends (length d2) ≡ true → SizesOf d2 ends sized) → LentTold bytes d2 ends sized (opened.Body at tables)
-  lent-body {at} {tables} e coded sized k m s = record {
-    opened = opened_longer bytes part sized at tables kept (subst (OpenedTold bytes part) e t);
+      → (ends_fit 0 ends (length d2) ≡ true → SizesOf d2 ends sized) → LentTold bytes d2 ends sized (Ok o)
+  lent-body o t coded sized k m s = record {
+    opened = opened_longer bytes part sized o.at o.tables kept t;
     sizes = s;
   }
     where
@@ -311,15 +276,9 @@ module _ (bytes d2 ends notes : List ℕ) (limit : ℕ) (c : limit ≡ codes_fro
           ∙ ap (λ (n : ℕ). take n all) (sym part_length)
           ∙ take-append_seam part (drop limit notes)
 
-  lent-no-room : r ≡ opened.NoRoom → LentTold bytes d2 ends all opened.NoRoom
-  lent-no-room e room =
+  -- Where the tables aren't noted, that is the answer.
+  pub lent_stopped : (e : IndexError) → OpenedTold bytes part (Err e) → LentTold bytes d2 ends all (Err e)
+  lent_stopped (index.Wire error) t = t
+  lent_stopped index.NoRoom t = λ room.
       let z : codes_from (length all) ≡ length part = ap codes_from all-length ∙ sym c ∙ sym part_length in
-      subst (OpenedTold bytes part) e t (record { short = room.short; long = subst (λ (n : ℕ). 3 * length bytes ≤ 2 * n) z room.long })
-
--- Where the tables aren't noted, that is the answer.
-pub lent_stopped : (bytes d2 ends notes : List ℕ) (limit : ℕ) → limit ≡ codes_from (length notes) → (part : List ℕ) → length part ≡ length (take limit notes)
-    → (r : Opened) → ((at : ℕ) (tables : Tables) → r ≡ opened.Body at tables → ⊥) → OpenedTold bytes part r
-    → LentTold bytes d2 ends (part ++ drop limit notes) r
-lent_stopped bytes d2 ends notes limit c part l (opened.Body at tables) k t = absurd (k at tables refl)
-lent_stopped bytes d2 ends notes limit c part l (opened.Refused error) k t = t
-lent_stopped bytes d2 ends notes limit c part l opened.NoRoom k t = lent-no-room bytes d2 ends notes limit c part l opened.NoRoom t refl
+      t (record { short = room.short; long = subst (λ (n : ℕ). 3 * length bytes ≤ 2 * n) z room.long })

@@ -15,17 +15,10 @@ use members::list::{Member, MemberList, members_in};
 use names::name::absent;
 use schema::flags::flags_in;
 use schema::name::class_name_in;
-use schema::{Listed, Stop, Tables};
+use schema::{Section, Stop, Tables};
 use sheet::State;
 
-// After a list: how far both areas are written, and how many it has.
-#[derive(Clone, Copy)]
-pub struct Section {
-    pub state: State,
-    pub count: usize,
-}
-
-// The same after the head, which has no count, and after each list. Kind 9 stands where the properties end.
+// How far both areas are written after the head, which has no count, and after each list, and how many each list has. Kind 9 stands where the properties end.
 #[derive(Clone, Copy)]
 pub struct Sections {
     pub head: State,
@@ -33,24 +26,6 @@ pub struct Sections {
     pub functions: Section,
     pub properties: Section,
     pub aliases: Section,
-}
-
-#[derive(Clone, Copy)]
-pub enum Body {
-    Done { sections: Sections },
-    Refused { stop: Stop },
-}
-
-impl Body {
-    // The refusal of a refused answer.
-    pub fn stop(self) -> Stop
-        ensures { (s : Stop) → self ≡ Body.Refused s → result ≡ s }
-    {
-        match self {
-            Body::Done { sections: _ } => Stop::TooManyTypes,
-            Body::Refused { stop } => stop,
-        }
-    }
 }
 
 fn function_field(class: bool) -> u32
@@ -130,12 +105,12 @@ fn constructors_in(
     state: State,
     sheet: &mut [u8],
     text: &mut [u8],
-) -> Listed
+) -> Result<Section, Stop>
     requires { Affords payload.now d2.now (list_cost (length msg.now)) state × Stands payload.now msg.now base }
     ensures { ConstructorsTold class (lent payload.now d2.now ends.now notes.now tables) msg.now base state result sheet.old sheet.new text.old text.new }
 {
     if !class {
-        return Listed::Done { state, count: 0 };
+        return Ok(Section { state, count: 0 });
     }
     members_in(
         MemberList {
@@ -168,19 +143,17 @@ fn aliases_in(
     state: State,
     sheet: &mut [u8],
     text: &mut [u8],
-) -> Listed
+) -> Result<Section, Stop>
     requires { Affords payload.now d2.now (aliases_cost (length msg.now)) state × Stands payload.now msg.now base }
     ensures { AliasesTold class (lent payload.now d2.now ends.now notes.now tables) msg.now base state result sheet.old sheet.new text.old text.new }
 {
     let begun = put_aliases(state, sheet);
     let place = begun.sheet;
-    let past = place + 2;
     let first = State {
-        sheet: past,
-        text: begun.text,
-        types: begun.types,
+        sheet: place + 2,
+        ..begun
     };
-    let listed = members_in(
+    let aliases = members_in(
         MemberList {
             member: Member::Alias,
             number: alias_field(class),
@@ -195,12 +168,9 @@ fn aliases_in(
         first,
         sheet,
         text,
-    );
-    let Listed::Done { state: last, count } = listed else {
-        return listed;
-    };
-    put_count(sheet, place, count);
-    Listed::Done { state: last, count }
+    )?;
+    put_count(sheet, place, aliases.count);
+    Ok(aliases)
 }
 
 // Constructors, functions, properties, type aliases, after the head.
@@ -216,21 +186,14 @@ fn lists_in(
     head: State,
     sheet: &mut [u8],
     text: &mut [u8],
-) -> Body
+) -> Result<Sections, Stop>
     requires { Affords payload.now d2.now (lists_cost (length msg.now)) head × Stands payload.now msg.now base }
     ensures { ListsTold class (lent payload.now d2.now ends.now notes.now tables) msg.now base head result sheet.old sheet.new text.old text.new }
 {
-    let made = constructors_in(
+    let constructors = constructors_in(
         class, msg, base, payload, d2, ends, notes, tables, head, sheet, text,
-    );
-    let Listed::Done {
-        state: after_constructors,
-        count: constructors,
-    } = made
-    else {
-        return Body::Refused { stop: made.stop() };
-    };
-    let called = members_in(
+    )?;
+    let functions = members_in(
         MemberList {
             member: Member::Function,
             number: function_field(class),
@@ -242,20 +205,11 @@ fn lists_in(
         ends,
         notes,
         tables,
-        after_constructors,
+        constructors.state,
         sheet,
         text,
-    );
-    let Listed::Done {
-        state: after_functions,
-        count: functions,
-    } = called
-    else {
-        return Body::Refused {
-            stop: called.stop(),
-        };
-    };
-    let held = members_in(
+    )?;
+    let properties = members_in(
         MemberList {
             member: Member::Property,
             number: property_field(class),
@@ -267,18 +221,11 @@ fn lists_in(
         ends,
         notes,
         tables,
-        after_functions,
+        functions.state,
         sheet,
         text,
-    );
-    let Listed::Done {
-        state: after_properties,
-        count: properties,
-    } = held
-    else {
-        return Body::Refused { stop: held.stop() };
-    };
-    let aliased = aliases_in(
+    )?;
+    let aliases = aliases_in(
         class,
         msg,
         base,
@@ -287,40 +234,17 @@ fn lists_in(
         ends,
         notes,
         tables,
-        after_properties,
+        properties.state,
         sheet,
         text,
-    );
-    let Listed::Done {
-        state: after_aliases,
-        count: aliases,
-    } = aliased
-    else {
-        return Body::Refused {
-            stop: aliased.stop(),
-        };
-    };
-    Body::Done {
-        sections: Sections {
-            head,
-            constructors: Section {
-                state: after_constructors,
-                count: constructors,
-            },
-            functions: Section {
-                state: after_functions,
-                count: functions,
-            },
-            properties: Section {
-                state: after_properties,
-                count: properties,
-            },
-            aliases: Section {
-                state: after_aliases,
-                count: aliases,
-            },
-        },
-    }
+    )?;
+    Ok(Sections {
+        head,
+        constructors,
+        functions,
+        properties,
+        aliases,
+    })
 }
 
 // A whole body, after its type table.
@@ -337,7 +261,7 @@ pub fn body_in(
     state: State,
     sheet: &mut [u8],
     text: &mut [u8],
-) -> Body
+) -> Result<Sections, Stop>
     requires { Affords payload.now d2.now (body_cost (length msg.now)) state × Stands payload.now msg.now base }
     ensures { BodyWalked kind (lent payload.now d2.now ends.now notes.now tables) msg.now base state result sheet.old sheet.new text.old text.new }
 {
@@ -357,10 +281,9 @@ pub fn body_in(
     let place = begun.sheet;
     let head = State {
         sheet: place + 6,
-        text: begun.text,
-        types: begun.types,
+        ..begun
     };
-    let lists = lists_in(
+    let sections = lists_in(
         kind == 1,
         msg,
         base,
@@ -372,19 +295,13 @@ pub fn body_in(
         head,
         sheet,
         text,
-    );
-    let Body::Done { sections } = lists else {
-        return lists;
-    };
-    let constructors = sections.constructors;
-    let functions = sections.functions;
-    let properties = sections.properties;
+    )?;
     put_head_counts(
         sheet,
         place,
-        constructors.count,
-        functions.count,
-        properties.count,
+        sections.constructors.count,
+        sections.functions.count,
+        sections.properties.count,
     );
-    Body::Done { sections }
+    Ok(sections)
 }

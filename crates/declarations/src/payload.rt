@@ -1,60 +1,57 @@
 // The decoded bytes opened: a length-delimited name table, its records noted, then the body and its type table. The definition:
 // specs/Payload.antt, `payload`; what the answers tell: specs/told/PayloadTold.antt.
-ghost use Rattle.std.specs.Prelude.{◌≡◌, ◌*◌, ◌≤◌, ◌<◌, length};
-ghost use Rattle.foundation.specs.Results.{◌from◌, got};
+ghost use Rattle.std.specs.Prelude.{◌≡◌, ◌*◌, ◌≤◌, ◌<◌, length, Ok};
+ghost use Rattle.foundation.specs.Results.{◌from◌};
 ghost use Rattle.wire.specs.Wire.{read_delimited};
-ghost use Rattle.wire.specs.told.WireTold.{part_between, rest_of};
+ghost use Rattle.messages.specs.told.Reader.{SplitTold};
 ghost use Rattle.declarations.specs.told.PayloadTold.{BodyOpened, NotedOpened, OpenedTold, LentTold};
 
 use fields::CLASS_TYPE_TABLE;
 use lookup::codes::{codes_from, note_codes};
 use lookup::resolve::resolve;
 use lookup::strings::note_strings;
-use messages::reader::{Split, split_payload};
-use messages::{Checked, check};
-use names::records::{RECORD_WORDS, RecordIndex, index_records};
+use messages::check;
+use messages::reader::{Parts, split_payload};
+use names::records::{IndexError, RECORD_WORDS, index_records};
 use schema::Tables;
-use schema::table::{TypeIndex, index_types};
-use wire::WireError;
+use schema::table::index_types;
 
-// The body begins at a place of the decoded bytes, or why there is none.
+// The body begins at a place of the decoded bytes.
 #[derive(Clone, Copy)]
-pub enum Opened {
-    Body { at: usize, tables: Tables },
-    Refused { error: WireError },
-    NoRoom,
+pub struct Opened {
+    pub at: usize,
+    pub tables: Tables,
 }
 
 // The body from `at` on is cut, and where the entries of its type table stand is noted.
-fn open_body(bytes: &[u8], at: usize, records: usize, entries: &mut [u64]) -> Opened
+fn open_body(
+    bytes: &[u8],
+    at: usize,
+    records: usize,
+    entries: &mut [u64],
+) -> Result<Opened, IndexError>
     requires { (at ≤ length bytes.now) × (length bytes.now < 65536) }
     ensures { BodyOpened bytes.now at records entries.new result }
 {
-    let checked = check(&bytes[at..], at as u32);
-    let Checked::Whole = checked else {
-        return Opened::Refused {
-            error: checked.error(),
-        };
-    };
-    let types = index_types(bytes, at, CLASS_TYPE_TABLE, entries);
-    let TypeIndex::Types { count, first } = types else {
-        let TypeIndex::Refused { error } = types else {
-            return Opened::NoRoom;
-        };
-        return Opened::Refused { error };
-    };
-    Opened::Body {
+    check(&bytes[at..], at as u32)?;
+    let types = index_types(bytes, at, CLASS_TYPE_TABLE, entries)?;
+    Ok(Opened {
         at,
         tables: Tables {
             records,
-            types: count,
-            first_nullable: first,
+            types: types.count,
+            first_nullable: types.first,
         },
-    }
+    })
 }
 
 // The records are noted: each is worked out once, and the body from `rest` on opened, with its notes after theirs.
-fn open_noted(bytes: &[u8], rest: usize, count: usize, notes: &mut [u64]) -> Opened
+fn open_noted(
+    bytes: &[u8],
+    rest: usize,
+    count: usize,
+    notes: &mut [u64],
+) -> Result<Opened, IndexError>
     requires { (3 * count ≤ length notes.old) × (rest ≤ length bytes.now) × (length bytes.now < 65536) }
     ensures { NotedOpened bytes.now rest count notes.old notes.new result }
 {
@@ -62,55 +59,42 @@ fn open_noted(bytes: &[u8], rest: usize, count: usize, notes: &mut [u64]) -> Ope
     open_body(bytes, rest, count, &mut notes[RECORD_WORDS * count..])
 }
 
-// The name table from a place to another is cut and its records noted; then the body from `rest` on.
-fn open_table(bytes: &[u8], start: usize, end: usize, rest: usize, notes: &mut [u64]) -> Opened
-    requires { (start ≤ end) × (end ≤ rest) × (rest ≤ length bytes.now) × (length bytes.now < 65536) }
-    ensures { read_delimited (◌from◌ 0 bytes.now) ≡ got (part_between 0 bytes.now start end) (rest_of 0 bytes.now rest) → OpenedTold bytes.now notes.new result }
+// The name table of a payload's parts is cut and its records noted; then the body after it.
+fn open_table(bytes: &[u8], parts: Parts, notes: &mut [u64]) -> Result<Opened, IndexError>
+    requires { SplitTold bytes.now (read_delimited (◌from◌ 0 bytes.now)) (Ok parts) × (length bytes.now < 65536) }
+    ensures { OpenedTold bytes.now notes.new result }
 {
-    let checked = check(&bytes[start..end], start as u32);
-    let Checked::Whole = checked else {
-        return Opened::Refused {
-            error: checked.error(),
-        };
-    };
-    let records = index_records(&bytes[..end], start, notes);
-    let RecordIndex::Records { count } = records else {
-        let RecordIndex::Refused { error } = records else {
-            return Opened::NoRoom;
-        };
-        return Opened::Refused { error };
-    };
-    open_noted(bytes, rest, count, notes)
+    let table = parts.table;
+    check(&bytes[table.start..table.end], table.start as u32)?;
+    let count = index_records(&bytes[..table.end], table.start, notes)?;
+    open_noted(bytes, parts.rest, count, notes)
 }
 
 // The decoded bytes opened, their tables noted in what is lent.
-fn open_payload(bytes: &[u8], notes: &mut [u64]) -> Opened
+fn open_payload(bytes: &[u8], notes: &mut [u64]) -> Result<Opened, IndexError>
     ensures { OpenedTold bytes.now notes.new result }
 {
     if 65535 < bytes.len() {
-        return Opened::NoRoom; // a place in a note has 16 bits
+        return Err(IndexError::NoRoom); // a place in a note has 16 bits
     }
-    let table = split_payload(bytes);
-    let Split::Parts { start, end, rest } = table else {
-        return Opened::Refused {
-            error: table.error(),
-        };
-    };
-    open_table(bytes, start, end, rest, notes)
+    let parts = split_payload(bytes)?;
+    open_table(bytes, parts, notes)
 }
 
 // The same, and after both tables' notes a code for each of the first indices and the sizes of d2's long strings.
 // Callers show that d2 is within its limit: passes from its `InLimits`.
-pub fn open_lent(bytes: &[u8], d2: &[u16], ends: &[u32], notes: &mut [u64]) -> Opened
+pub fn open_lent(
+    bytes: &[u8],
+    d2: &[u16],
+    ends: &[u32],
+    notes: &mut [u64],
+) -> Result<Opened, IndexError>
     requires { length d2.now ≤ 32768 }
     ensures { LentTold bytes.now d2.now ends.now notes.new result }
 {
     let limit = codes_from(notes.len());
-    let opened = open_payload(bytes, &mut notes[..limit]);
-    let Opened::Body { at, tables } = opened else {
-        return opened;
-    };
-    note_codes(notes, tables.records);
+    let opened = open_payload(bytes, &mut notes[..limit])?;
+    note_codes(notes, opened.tables.records);
     note_strings(d2, ends, notes);
-    Opened::Body { at, tables }
+    Ok(opened)
 }

@@ -15,8 +15,6 @@ use Rattle.wire.specs.Wire.{Message, cut}
 use Rattle.wire.specs.Messages.{cut_all, messages}
 use Rattle.wire.specs.told.WireTold.{rest_of, part_between}
 use Rattle.messages.specs.told.Asked.{bodies, NextIs, NextBodyTold, PieceInside, PieceAfter}
-use Rattle.wire.specs.declared.Piece.{Piece}
-use Rattle.wire.specs.declared.Piece.TheVariants as piece
 use Rattle.wire.proofs.WalkLaws.{whole, ok_same}
 use Rattle.characters.specs.told.Places.{part_from}
 use Rattle.declaration_rows.specs.Declarations.{Ty, Parameter}
@@ -25,40 +23,41 @@ use Rattle.schema.specs.Types.{max_depth}
 use Rattle.schema.specs.Members.{parameter_in, parameters_in}
 use Rattle.schema.specs.told.SchemaTold.{Lent, Scoped, EntryAt, Stands}
 use Rattle.schema.specs.told.TypesTold.{or_nullable}
-use Rattle.schema.specs.told.PlacesTold.{TableOf, TypeFound, FoundTypeTold, FoundTypeInside, FoundTypeFalls, DeclaredFound}
+use Rattle.schema.specs.told.PlacesTold.{found_type, TableOf, TypeFound, FoundTypeTold, FoundTypeInside, FoundTypeFalls, DeclaredFound}
 use Rattle.schema.specs.declared.FoundType.{FoundType}
-use Rattle.schema.specs.declared.FoundType.TheVariants as found
 use Rattle.schema.proofs.ListLaws.{First, cut-first}
 use Rattle.schema.proofs.StandsLaws.{part-ends, stands-cut, stands-entry, body-stands}
 use Rattle.erasure.specs.Erasure.{print_returned}
 use Rattle.erasure.specs.declared.Position.{Position}
 use Rattle.erasure.specs.declared.Position.TheVariants as position
-use Rattle.erasure.specs.declared.Part as code
-use Rattle.erasure.specs.declared.Part.TheVariants as part
+use Rattle.std.specs.Prelude as std
+use Rattle.std.specs.Prelude.{Some, None}
 use Rattle.descriptors.specs.told.DefaultsTold.{erased_at, part_cost, PartWithin, PartTold, ErasedTold, parameters_part, ParametersTold}
 use Rattle.descriptors.specs.told.PartsTold.{PartRoom, Gave, PartOf, TypeGiven, type_part, preceded}
 use Rattle.descriptors.proofs.GivenLaws.{parameters-given, FirstGiven, first-given, none-given, parameter_type}
 use Rattle.descriptors.proofs.JoinLaws.{both, parameters_cons, text_none, text_then, told_then, told_absent, told_same, preceded-sum}
+use Rattle.foundation.specs.declared.Span.{Span}
+use Rattle.messages.specs.told.Asked.{span}
 
 -- A declaration's own type at its position, by the place of its message.
-module _ (e : Lent) (at : ℕ) (position : Position) {start end inline indexed : ℕ} {x : FoundType}
+module _ (e : Lent) (at : ℕ) (position : Position) {start end inline indexed : ℕ} {x : std.Option FoundType}
     (t : DeclaredFound e.payload e.notes e.tables start end inline indexed x) where
-  place : {y : FoundType} → x ≡ y → (c : Scope) → Scoped e c → (m : Message) → EntryAt e.payload start end m → (o : Option Ty)
+  place : {y : std.Option FoundType} → x ≡ y → (c : Scope) → Scoped e c → (m : Message) → EntryAt e.payload start end m → (o : Option Ty)
       → TypeGiven inline indexed c m o → FoundTypeTold e.payload c o y
   place g c s m k o h =
       let table : TableOf e.payload e.notes e.tables c = record { entries = s.entries; nullable = s.nullable } in
       subst (FoundTypeTold e.payload c o) g (t.is c table m k o h.before h.after h.is)
 
-  pub type-nowhere : x ≡ found.Nothing → {A A₁ : List ℕ} → PartOf (TypeGiven inline indexed) (type_part position) part_cost e start end at part.Absent A A₁
+  pub type-nowhere : x ≡ None → {A A₁ : List ℕ} → PartOf (TypeGiven inline indexed) (type_part position) part_cost e start end at None A A₁
   type-nowhere g = record { within = tt; is = λ c s m k o h. rw (place g c s m k o h) }
 
-  module _ {here to left : ℕ} {nullable : Bool} (g : x ≡ found.Type here to nullable left) where
+  module _ {here to left : ℕ} {nullable : Bool} (g : x ≡ Some (found_type here to nullable left)) where
     pub type-inside : (here ≤ to) × (to ≤ length e.payload) × (left ≤ max_depth)
     type-inside =
         let i = subst (FoundTypeInside e.payload) g t.inside in
         (i.0, i.1, (subst (FoundTypeFalls max_depth start end) g t.falls).0)
 
-    pub type-there : {r : code.Part} {A A₁ : List ℕ}
+    pub type-there : {r : std.Option ℕ} {A A₁ : List ℕ}
         → ErasedTold e here (here + length (part_from here to e.payload)) left nullable position at r A A₁
         → PartOf (TypeGiven inline indexed) (type_part position) part_cost e start end at r A A₁
     type-there {r} {A} {A₁} p = record {
@@ -80,7 +79,7 @@ pub record Rest (c : Scope) (msg : List ℕ) (base number at : ℕ) (ps : List P
   pub many : cut_all (bodies number rest) ≡ ok left
   pub later : List Parameter
   pub reads : Gave (each (parameter_in c) left) later
-  pub told : (r : code.Part) (A₁ : List ℕ) → PartTold (parameters_part later) (at + size) r A A₁ → PartTold (parameters_part ps) at (preceded size r) A₀ A₁
+  pub told : (r : std.Option ℕ) (A₁ : List ℕ) → PartTold (parameters_part later) (at + size) r A A₁ → PartTold (parameters_part ps) at (preceded size r) A₀ A₁
 
 pub record Parting (e : Lent) (msg : List ℕ) (base number at : ℕ) (A₀ : List ℕ) (here size : ℕ) (A : List ℕ) : Type 0 where
   pub inside : here ≤ length msg
@@ -88,9 +87,9 @@ pub record Parting (e : Lent) (msg : List ℕ) (base number at : ℕ) (A₀ : Li
   pub going : (c : Scope) → Scoped e c → (m : Message) → EntryAt e.payload base (base + length msg) m → (ps : List Parameter)
       → Gave (parameters_in c number m) ps → Rest c msg base number at ps A₀ here size A
 
-told-start : (o : Option (List ℕ)) (at : ℕ) (r : code.Part) (A A₁ : List ℕ) → PartTold o (at + 0) r A A₁ → PartTold o at (preceded 0 r) A A₁
-told-start o at (part.Written n) A A₁ (t, e, p) = (t, e, text_then (text_none at A) p)
-told-start o at part.Absent A A₁ e = e
+told-start : (o : Option (List ℕ)) (at : ℕ) (r : std.Option ℕ) (A A₁ : List ℕ) → PartTold o (at + 0) r A A₁ → PartTold o at (preceded 0 r) A A₁
+told-start o at (Some n) A A₁ (t, e, p) = (t, e, text_then (text_none at A) p)
+told-start o at None A A₁ e = e
 
 pub parts-start : (e : Lent) (msg : List ℕ) (base number at : ℕ) (A₀ : List ℕ) → Stands e.payload msg base → Parting e msg base number at A₀ 0 0 A₀
 unfolding messages
@@ -111,12 +110,12 @@ parts-start e msg base number at A₀ st = record {
 }
 
 module _ {e : Lent} {msg : List ℕ} {base number at : ℕ} {A₀ : List ℕ} {here size : ℕ} {A : List ℕ} (p : Parting e msg base number at A₀ here size A)
-    {x : Piece} (t : NextBodyTold base msg number here x) where
-  next-is : {y : Piece} → x ≡ y → {c : Scope} {ps : List Parameter} (g : Rest c msg base number at ps A₀ here size A)
+    {x : std.Option Span} (t : NextBodyTold base msg number here x) where
+  next-is : {y : std.Option Span} → x ≡ y → {c : Scope} {ps : List Parameter} (g : Rest c msg base number at ps A₀ here size A)
       → NextIs base msg number g.rest y
   next-is q g = subst (NextIs base msg number g.rest) q (t.is g.rest g.cuts)
 
-  pub parts-end : x ≡ piece.Nothing → ParametersTold e base (base + length msg) number at (part.Written size) A₀ A
+  pub parts-end : x ≡ None → ParametersTold e base (base + length msg) number at (Some size) A₀ A
   unfolding cut_all
   parts-end q = record {
     within = omega (arith, p.few, p.inside);
@@ -124,12 +123,12 @@ module _ {e : Lent} {msg : List ℕ} {base number at : ℕ} {A₀ : List ℕ} {h
         let g = p.going c s m k ps (record { before = l; after = b; is = h }) in
         let none_left : g.left ≡ [] = ok_same (sym g.many ∙ ap cut_all (next-is q g)) in
         let done : g.later ≡ [] = none-given c (subst (λ (ms : List Message). Gave (each (parameter_in c) ms) g.later) none_left g.reads) in
-        let last : PartTold (parameters_part g.later) (at + size) (part.Written 0) A A =
-        told_same {x = some []} {y = parameters_part g.later} (at + size) (part.Written 0) A A (ap parameters_part (sym done)) ([], refl, text_none (at + size) A) in
-        subst (λ (n : ℕ). PartTold (parameters_part ps) at (part.Written n) A₀ A) (add-zero size) (g.told (part.Written 0) A last);
+        let last : PartTold (parameters_part g.later) (at + size) (Some 0) A A =
+        told_same {x = some []} {y = parameters_part g.later} (at + size) (Some 0) A A (ap parameters_part (sym done)) ([], refl, text_none (at + size) A) in
+        subst (λ (n : ℕ). PartTold (parameters_part ps) at (Some n) A₀ A) (add-zero size) (g.told (Some 0) A last);
   }
 
-  module _ {a b : ℕ} (q : x ≡ piece.Body a b) where
+  module _ {a b : ℕ} (q : x ≡ Some (span a b)) where
     pub part_in : (a ≤ b) × (b ≤ length msg) × (here < b)
     part_in = let i = subst (PieceInside msg) q t.inside in (i.0, i.1, subst (PieceAfter here) q t.later)
 
@@ -142,7 +141,7 @@ module _ {e : Lent} {msg : List ℕ} {base number at : ℕ} {A₀ : List ℕ} {h
       room = omega (arith, part_in, p.few, h.room);
     }
 
-    module _ (st : Stands e.payload msg base) {r : code.Part} {A₁ : List ℕ}
+    module _ (st : Stands e.payload msg base) {r : std.Option ℕ} {A₁ : List ℕ}
         (u : PartOf (TypeGiven ValueParameter-type ValueParameter-type_id) (type_part position.Parameter) part_cost e (base + a) (base + a + length (take (b - a) (drop a msg))) (at + size) r A A₁) where
       -- what is told of the parameter, and of those after it
       module _ (c : Scope) (s : Scoped e c) (m : Message) (k : EntryAt e.payload base (base + length msg) m) (ps : List Parameter)
@@ -162,21 +161,21 @@ module _ {e : Lent} {msg : List ℕ} {base number at : ℕ} {A₀ : List ℕ} {h
         both-are : both (type_part position.Parameter first.one.type) (parameters_part first.others) ≡ parameters_part g.later
         both-are = sym (ap parameters_part first.are ∙ parameters_cons first.one first.others)
 
-        first-told : {y : code.Part} → r ≡ y → PartTold (type_part position.Parameter first.one.type) (at + size) y A A₁
+        first-told : {y : std.Option ℕ} → r ≡ y → PartTold (type_part position.Parameter first.one.type) (at + size) y A A₁
         first-told w =
-            subst (λ (y : code.Part). PartTold (type_part position.Parameter first.one.type) (at + size) y A A₁) w
+            subst (λ (y : std.Option ℕ). PartTold (type_part position.Parameter first.one.type) (at + size) y A A₁) w
             (u.is c s one.first (stands-entry (body-stands st a b part_in.0 part_in.1) one.cuts) first.one.type (parameter_type c one.first first.first))
 
-      pub parts-absent : r ≡ part.Absent → ParametersTold e base (base + length msg) number at part.Absent A₀ A₁
+      pub parts-absent : r ≡ None → ParametersTold e base (base + length msg) number at None A₀ A₁
       parts-absent w = record {
         within = tt;
         is = λ c s m k ps l b h.
             let g = p.going c s m k ps (record { before = l; after = b; is = h }) in
             let none_of = told_absent (type_part position.Parameter (first c s m k ps g).one.type) (parameters_part (first c s m k ps g).others) (first-told c s m k ps g w) in
-            g.told part.Absent A₁ (sym (both-are c s m k ps g) ∙ none_of);
+            g.told None A₁ (sym (both-are c s m k ps g) ∙ none_of);
       }
 
-      pub parts_next : {more : ℕ} → r ≡ part.Written more → Parting e msg base number at A₀ b (size + more) A₁
+      pub parts_next : {more : ℕ} → r ≡ Some more → Parting e msg base number at A₀ b (size + more) A₁
       unfolding the_rest
       parts_next {more} w =
           let i : more ≤ part_cost = subst (PartWithin part_cost) w u.within in
@@ -197,6 +196,6 @@ module _ {e : Lent} {msg : List ℕ} {base number at : ℕ} {A₀ : List ℕ} {h
                       let v' = subst (λ (n : ℕ). PartTold (parameters_part f.others) n y A₁ A₂) (sym (add_assoc at size more)) v in
                       let two = told_then (type_part position.Parameter f.one.type) (parameters_part f.others) (at + size) more y A A₁ A₂ (first-told c s m k ps g w) v' in
                       let all = told_same {x = both (type_part position.Parameter f.one.type) (parameters_part f.others)} {y = parameters_part g.later} (at + size) (preceded more y) A A₂ (both-are c s m k ps g) two in
-                      subst (λ (r : code.Part). PartTold (parameters_part ps) at r A₀ A₂) (preceded-sum size more y) (g.told (preceded more y) A₂ all);
+                      subst (λ (r : std.Option ℕ). PartTold (parameters_part ps) at r A₀ A₂) (preceded-sum size more y) (g.told (preceded more y) A₂ all);
                 };
           }

@@ -3,6 +3,8 @@
 use mathlib.Core.Path.{◌≡◌, refl, ap, sym, subst, ◌∙◌}
 use mathlib.Core.Bool.{Bool, true, false, ◌||◌}
 use mathlib.Core.List.{List, [], ◌∷◌, ◌++◌, map}
+use Rattle.std.specs.Prelude as std
+use Rattle.std.specs.Prelude.{Some, None}
 use mathlib.Core.Option.{Option, none, some}
 use Prim.Native.Nat.{ℕ, suc, ◌+◌, ◌-◌, ◌≤◌, ◌<◌}
 use native.Mathlib.Nat.{zero-add}
@@ -45,14 +47,15 @@ use Rattle.schema.proofs.StandsLaws.{stands-cut}
 use Rattle.schema.proofs.FoundLaws.{bind_given, first-same}
 use Rattle.schema.proofs.GivenLaws.{Entered, type_entered}
 use Rattle.erasure.specs.Erasure.{slashed, meaning_of, Erased, class, array_of, first_erased, erased, of_type, erased_return, print, print_returned}
-use Rattle.erasure.specs.told.ErasureTold.{Means, PutSized, PutPart, fixed_part, part_at, printed_told, PrintsAs}
+use Rattle.erasure.specs.told.ErasureTold.{Means, PutSized, PutPart, fixed_told, part_at, printed_told, PrintsAs}
 use Rattle.erasure.specs.declared.Meaning.{Meaning}
 use Rattle.erasure.specs.declared.Meaning.TheVariants.{Other}
 use Rattle.erasure.specs.declared.Position.{Position}
 use Rattle.erasure.specs.declared.Position.TheVariants.{Parameter, Element, Return}
+use Rattle.erasure.specs.declared.Part.{Part}
 use Rattle.erasure.specs.declared.Printed.{Printed}
 use Rattle.erasure.specs.declared.Printed.TheVariants as prints
-use Rattle.erasure.proofs.ListedLaws.{too_long, no_kotlin, means-past}
+use Rattle.erasure.proofs.ListedLaws.{too_long, no_kotlin, means_none}
 use Rattle.erasure.proofs.PartLaws.{first-at, element_at, return_at, part-told, part-short}
 use Rattle.descriptors.specs.told.DefaultsTold.{erased_at}
 use Rattle.descriptors.specs.told.ErasedTold.{TypePartIs, PrintedPut, TypePartTold}
@@ -96,12 +99,12 @@ not_listed payload d2 name s {h} e {code} {rest} f {c} q g =
     ∙ ap (source_bytes name.size h) (source-units payload d2 name s ∙ ap some f) in
     let other : get_or (name_bytes payload d2 name true) 0 0 ≡ 0x6b → ⊥ =
     λ k. g (q ∙ sized-first name.size (changed h code) (map (changed h) rest) (ap (λ (l : List ℕ). get_or l 0 0) (sym bytes) ∙ k)) in
-    means-past (name_bytes payload d2 name true) 36 (no_kotlin other) (omega arith)
+    means_none (name_bytes payload d2 name true) (no_kotlin other)
 
 -- What a name means, by its bytes in an area that holds every listed name.
 module _ (bytes : List ℕ) {before area : List ℕ} {size : ℕ} (p : stream.PutText bytes 0 size before area) where
   pub means-long : 36 < size → Means bytes Other
-  means-long h = means-past bytes 36 (too_long (omega (arith, p.place))) (omega arith)
+  means-long h = means_none bytes (too_long (omega (arith, p.place)))
 
   short-taken : length before ≡ 36 → size ≤ 36 → take size area ≡ bytes
   short-taken f h =
@@ -138,29 +141,26 @@ class-text : (payload d2 : List ℕ) (name : Name) (n : Text) → name_text payl
 unfolding print
 class-text payload d2 name n e = ap (λ (l : List ℕ). 0x4c ∷ (l ++ (0x3b ∷ []))) (sym (name-slashed payload d2 name n e))
 
-by_answer : {x y : Printed} → x ≡ y → (n : Text) (inner : Option Erased)
+by_answer : {x y : std.Option Printed} → x ≡ y → (n : Text) (inner : Option Erased)
     → map_option print_returned (printed_told (slashed n) inner x) ≡ map_option print_returned (printed_told (slashed n) inner y)
-by_answer e n inner = ap (λ (y : Printed). map_option print_returned (printed_told (slashed n) inner y)) e
+by_answer e n inner = ap (λ (y : std.Option Printed). map_option print_returned (printed_told (slashed n) inner y)) e
 
 module _ (payload d2 : List ℕ) (name : Name) {printed : Printed} {at : ℕ} {A A' : List ℕ} where
-  pub printed-fixed : {part r : ℕ} → printed ≡ prints.Fixed part → PutPart part at r A A' → PrintedPut payload d2 name printed at (type_part.Whole r) A A'
+  pub printed-fixed : {part : Part} {r : ℕ} → printed ≡ prints.Fixed part → PutPart part at r A A' → PrintedPut payload d2 name printed at (type_part.Whole r) A A'
   printed-fixed {part} e p = record {
     within = omega (arith, p.size, part-short part);
-    is = λ n g inner. (print_returned (fixed_part part), by_answer e n inner, p);
+    is = λ n g inner. (print_returned (fixed_told part), by_answer (ap Some e) n inner, p);
   }
 
   pub printed-array : printed ≡ prints.ThroughArray → A' ≡ set A at 0x5b → PrintedPut payload d2 name printed at type_part.Bracket A A'
-  printed-array e q = record { within = tt; is = λ n g inner. (by_answer e n inner ∙ array-text inner, record { size = refl; area = q }) }
+  printed-array e q = record { within = tt; is = λ n g inner. (by_answer (ap Some e) n inner ∙ array-text inner, record { size = refl; area = q }) }
 
   pub printed-class : length payload ≤ 32768 → length d2 ≤ 32768 → printed ≡ prints.ClassItself → {r : ℕ}
       → PutSized (0x4c ∷ (name_bytes payload d2 name true ++ (0x3b ∷ []))) at r A A' → PrintedPut payload d2 name printed at (type_part.Whole r) A A'
   printed-class f g e p = record {
     within = omega (arith, p.size, length-append (name_bytes payload d2 name true) (0x3b ∷ []), name-short payload d2 name f g);
-    is = λ n h inner. (0x4c ∷ (name_bytes payload d2 name true ++ (0x3b ∷ [])), by_answer e n inner ∙ ap some (class-text payload d2 name n h), p);
+    is = λ n h inner. (0x4c ∷ (name_bytes payload d2 name true ++ (0x3b ∷ [])), by_answer (ap Some e) n inner ∙ ap some (class-text payload d2 name n h), p);
   }
-
-  pub printed-nothing : printed ≡ prints.Nothing → PrintedPut payload d2 name printed at type_part.Absent A A'
-  printed-nothing e = record { within = tt; is = λ n g inner. by_answer e n inner }
 
 -- The erasure of a type at its position, by its name.
 erased-named : (position : Position) (t : Ty) (n : Text) → t.name ≡ some n
@@ -216,7 +216,7 @@ module _ (e : Lent) (msg : List ℕ) (base : ℕ) (nullable : Bool) (position : 
         class_characters c Type-class_name f.message 0 0 n (lent-strings e c o u)
         (i c o.names f.message (stands-cut st f.at) 0 ∙ ap (λ (x : Option Text). pure x 0) g)
 
-  pub type-absent : is_some (name_text e.payload e.d2 name) ≡ false → {A A' : List ℕ} → TypePartTold e base (base + length msg) nullable position at type_part.Absent A A'
+  pub type-absent : is_some (name_text e.payload e.d2 name) ≡ false → {A A' : List ℕ} → TypePartTold e base (base + length msg) nullable position at None A A'
   type-absent h = record {
     within = tt;
     is = λ c o left t f.
@@ -226,7 +226,7 @@ module _ (e : Lent) (msg : List ℕ) (base : ℕ) (nullable : Bool) (position : 
 
   module _ (units : Units e.d2) (meaning : Meaning) (m : Means (name_bytes e.payload e.d2 name true) meaning) {either : Bool}
       (n : (m : Message) → cut (◌from◌ base msg) ≡ ok m → (nullable || flag Type-nullable m) ≡ either)
-      (printed : Printed) (p : PrintsAs meaning either position printed) where
+      (printed : std.Option Printed) (p : PrintsAs meaning either position printed) where
     type-printed : (c : Scope) (o : Scoped e c) (left : ℕ) (t : Ty) (f : TypeFound e.payload c base (base + length msg) left t) (x : Text)
         → name_text e.payload e.d2 name ≡ some x
         → erased_at position (or_nullable nullable t) ≡ printed_told (slashed x) (first_erased true t.arguments) printed
@@ -240,13 +240,23 @@ module _ (e : Lent) (msg : List ℕ) (base : ℕ) (nullable : Bool) (position : 
         (slashed_characters x (name-characters c o left t f units x g))
         (sym (name-slashed e.payload e.d2 name x g))
 
-    pub type-part : is_some (name_text e.payload e.d2 name) ≡ true → {r : TypePart} {A A' : List ℕ}
-        → PrintedPut e.payload e.d2 name printed at r A A' → TypePartTold e base (base + length msg) nullable position at r A A'
-    type-part h {r} {A} {A'} q = record {
+    pub type-nothing : is_some (name_text e.payload e.d2 name) ≡ true → printed ≡ None → {A A' : List ℕ}
+        → TypePartTold e base (base + length msg) nullable position at None A A'
+    type-nothing h q = record {
+      within = tt;
+      is = λ c o left t f.
+          let x = some_is (name_text e.payload e.d2 name) h in
+          ap (map_option print_returned) (type-printed c o left t f x.0 x.1) ∙ by_answer q x.0 (first_erased true t.arguments);
+    }
+
+    pub type-part : is_some (name_text e.payload e.d2 name) ≡ true → {here : Printed} → printed ≡ Some here → {r : TypePart} {A A' : List ℕ}
+        → PrintedPut e.payload e.d2 name here at r A A' → TypePartTold e base (base + length msg) nullable position at (Some r) A A'
+    type-part h {here} w {r} {A} {A'} q = record {
       within = q.within;
       is = λ c o left t f.
           let x = some_is (name_text e.payload e.d2 name) h in
-          subst (λ y. TypePartIs (map_option print_returned y) (first_erased true t.arguments) at r A A')
-          (sym (type-printed c o left t f x.0 x.1))
+          let same : erased_at position (or_nullable nullable t) ≡ printed_told (slashed x.0) (first_erased true t.arguments) (Some here) =
+          type-printed c o left t f x.0 x.1 ∙ ap (printed_told (slashed x.0) (first_erased true t.arguments)) w in
+          subst (λ y. TypePartIs (map_option print_returned y) (first_erased true t.arguments) at (Some r) A A') (sym same)
           (q.is x.0 x.1 (first_erased true t.arguments));
     }

@@ -3,6 +3,7 @@
 use mathlib.Core.Path.{◌≡◌, refl, ap, sym, subst, ◌∙◌}
 use mathlib.Core.Bool.{Bool, true}
 use mathlib.Core.List.{List, [], ◌∷◌, ◌++◌, append_assoc}
+use Rattle.std.specs.Prelude as std
 use mathlib.Core.Option.{Option, none, some}
 use Prim.Native.Nat.{ℕ, ◌+◌, ◌-◌, ◌≤◌, ◌<◌}
 use native.Mathlib.Nat.{mul-le-mul_right}
@@ -16,16 +17,15 @@ use Rattle.schema.specs.Reading.{Scope}
 use Rattle.schema.specs.Types.{max_depth}
 use Rattle.schema.specs.told.SchemaTold.{Lent, Scoped, EntryAt}
 use Rattle.schema.specs.told.TypesTold.{or_nullable}
-use Rattle.schema.specs.told.PlacesTold.{TableOf, TypeFound, FoundTypeInside, reach, FoundTypeFalls, head_type, Unnamed, ElementTold, ArgumentFound}
+use Rattle.schema.specs.told.PlacesTold.{found_type, TableOf, TypeFound, FoundTypeInside, reach, FoundTypeFalls, head_type, Unnamed, ElementTold, ArgumentFound}
 use Rattle.schema.specs.declared.FoundType.{FoundType}
-use Rattle.schema.specs.declared.FoundType.TheVariants as found
 use Rattle.schema.proofs.StandsLaws.{part-ends}
 use Rattle.schema.proofs.GivenLaws.{Entered, type_entered}
 use Rattle.erasure.specs.Erasure.{Erased, first_erased, of_type, print, print_returned}
 use Rattle.erasure.specs.told.ErasureTold.{PutSized}
 use Rattle.erasure.specs.declared.Position.{Position}
 use Rattle.erasure.specs.declared.Position.TheVariants.{Element}
-use Rattle.erasure.specs.declared.Part.TheVariants as part
+use Rattle.std.specs.Prelude.{Some, None}
 use Rattle.descriptors.specs.told.DefaultsTold.{erased_at, ErasedTold}
 use Rattle.descriptors.specs.told.ErasedTold.{TypePartIs, TypePartWithin, TypePartTold}
 use Rattle.descriptors.specs.declared.erased.TypePart.{TypePart}
@@ -122,18 +122,18 @@ module _ {e : Lent} {start end : ℕ} {nullable : Bool} {left : ℕ} {position :
   here-ends : first + length (part_from first last e.payload) ≡ last
   here-ends = part-ends e.payload first last w.ordered w.inside
 
-  module _ {r : TypePart} {A₁ : List ℕ} (p : TypePartTold e first (first + length (part_from first last e.payload)) said here next r A A₁) where
-    part-is : (c : Scope) → Scoped e c → (u : Ty) → TypeFound e.payload c first last deep u → {y : TypePart} → r ≡ y
+  module _ {r : std.Option TypePart} {A₁ : List ℕ} (p : TypePartTold e first (first + length (part_from first last e.payload)) said here next r A A₁) where
+    part-is : (c : Scope) → Scoped e c → (u : Ty) → TypeFound e.payload c first last deep u → {y : std.Option TypePart} → r ≡ y
         → TypePartIs (text_at here said u) (first_erased true u.arguments) next y A A₁
     part-is c o u f q =
         let f' = subst (λ (n : ℕ). TypeFound e.payload c first n deep u) (sym here-ends) f in
-        subst (λ (y : TypePart). TypePartIs (text_at here said u) (first_erased true u.arguments) next y A A₁) q (p.is c o deep u f')
+        subst (λ (y : std.Option TypePart). TypePartIs (text_at here said u) (first_erased true u.arguments) next y A A₁) q (p.is c o deep u f')
 
-    pub whole-short : {size : ℕ} → r ≡ type_part.Whole size → size ≤ 131093
+    pub whole-short : {size : ℕ} → r ≡ Some (type_part.Whole size) → size ≤ 131093
     whole-short q = subst TypePartWithin q p.within
 
-    pub walking-whole : left ≤ 64 → end ≤ length e.payload → length e.payload ≤ 32768 → {size : ℕ} → r ≡ type_part.Whole size
-        → ErasedTold e start end left nullable position at (part.Written (next + size - at)) A₀ A₁
+    pub walking-whole : left ≤ 64 → end ≤ length e.payload → length e.payload ≤ 32768 → {size : ℕ} → r ≡ Some (type_part.Whole size)
+        → ErasedTold e start end left nullable position at (Some (next + size - at)) A₀ A₁
     walking-whole h g k {size} q = record {
       within = omega (arith, walking-few h g k, whole-short q);
       is = λ c o t i.
@@ -147,20 +147,20 @@ module _ {e : Lent} {start end : ℕ} {nullable : Bool} {left : ℕ} {position :
           );
     }
 
-    pub walking-absent : r ≡ type_part.Absent → ErasedTold e start end left nullable position at part.Absent A₀ A₁
+    pub walking-absent : r ≡ None → ErasedTold e start end left nullable position at None A₀ A₁
     walking-absent q = record {
       within = tt;
       is = λ c o t i. let u = w.rest c o t i in u.is ∙ ap (after u.front) (part-is c o u.type u.found q);
     }
 
-    module _ (q : r ≡ type_part.Bracket) {less : ℕ} (l : less ≡ deep - 1) {s : FoundType}
+    module _ (q : r ≡ Some type_part.Bracket) {less : ℕ} (l : less ≡ deep - 1) {s : std.Option FoundType}
         (a : ArgumentFound e.payload e.notes e.tables first (first + length (part_from first last e.payload)) less s) where
       -- the first kept argument of the type here
       module _ (c : Scope) (o : Scoped e c) (u : Ty) (f : TypeFound e.payload c first last deep u) where
         given : Entered c f.depth f.message u
         given = type_entered c f.depth f.message u f.before f.after f.given
 
-        argument_is : {y : FoundType} → s ≡ y → ElementTold e.payload c (head_type given.types) y
+        argument_is : {y : std.Option FoundType} → s ≡ y → ElementTold e.payload c (head_type given.types) y
         argument_is g =
             let table : TableOf e.payload e.notes e.tables c = record { entries = o.entries; nullable = o.nullable } in
             let deeper : less ≡ max_depth - (f.depth + 1) = omega (arith, f.deep) in
@@ -174,7 +174,7 @@ module _ {e : Lent} {start end : ℕ} {nullable : Bool} {left : ℕ} {position :
         text-is : text_at here said u ≡ map_option (λ e. 0x5b ∷ print e) (first_erased true (types_of given.types))
         text-is = (part-is c o u f q).0 ∙ ap (map_option (λ e. 0x5b ∷ print e)) inner-is
 
-      pub walking-empty : s ≡ found.Nothing → ErasedTold e start end left nullable position at part.Absent A₀ A₁
+      pub walking-empty : s ≡ None → ErasedTold e start end left nullable position at None A₀ A₁
       walking-empty g = record {
         within = tt;
         is = λ c o t i.
@@ -183,7 +183,7 @@ module _ {e : Lent} {start end : ℕ} {nullable : Bool} {left : ℕ} {position :
             u.is ∙ ap (after u.front) (text-is c o u.type u.found ∙ ap (map_option (λ e. 0x5b ∷ print e)) none_kept);
       }
 
-      module _ {start' end' left' : ℕ} {nullable' : Bool} (g : s ≡ found.Type start' end' nullable' left') where
+      module _ {start' end' left' : ℕ} {nullable' : Bool} (g : s ≡ Some (found_type start' end' nullable' left')) where
         falls : (left' ≤ less) × (reach left' start' end' < reach less first last)
         falls = subst (FoundTypeFalls less first last) g (subst (λ (n : ℕ). FoundTypeFalls less first n s) here-ends a.falls)
 

@@ -21,10 +21,12 @@ use Rattle.schema.specs.Members.{bit_of, flags_in, receiver_in}
 use Rattle.schema.specs.told.SchemaTold.{Lent, EntryAt, Stands}
 use Rattle.schema.proofs.StandsLaws.{stands-cut}
 use Rattle.erasure.specs.Erasure.{Returned, of_type, erased_return, print, print_returned}
-use Rattle.erasure.specs.told.ErasureTold.{fixed_part, PutSized, PutPart}
+use Rattle.erasure.specs.told.ErasureTold.{fixed_told, PutSized, PutPart}
 use Rattle.erasure.specs.declared.Position.TheVariants as position
-use Rattle.erasure.specs.declared.Part.{Part}
-use Rattle.erasure.specs.declared.Part.TheVariants as part
+use Rattle.erasure.specs.declared.Class.TheVariants as classes
+use Rattle.erasure.specs.declared.Part.TheVariants as parts
+use Rattle.std.specs.Prelude as std
+use Rattle.std.specs.Prelude.{Some, None}
 use Rattle.erasure.proofs.PartLaws.{part-short}
 use Rattle.descriptors.specs.Defaults.{suspends, continuation_class, object, function_parts, constructor_parts, descriptor}
 use Rattle.descriptors.specs.told.DefaultsTold.{part_cost, parameters_part, ParametersTold, ConstructorDefault, FunctionDefault}
@@ -59,7 +61,7 @@ room_less n₁ at₁ h p = record {
 
 -- A part after a (.
 opened : {D : Type 0} (p s : D → Option (List ℕ)) → ((d : D) → s d ≡ both (some (0x28 ∷ [])) (p d))
-    → {given : Scope → Message → D → Type 0} {n : ℕ} (n₁ : ℕ) → 1 + n ≤ n₁ → {e : Lent} {start end at : ℕ} {r r₁ : Part} {A A₁ A₂ : List ℕ}
+    → {given : Scope → Message → D → Type 0} {n : ℕ} (n₁ : ℕ) → 1 + n ≤ n₁ → {e : Lent} {start end at : ℕ} {r r₁ : std.Option ℕ} {A A₁ A₂ : List ℕ}
     → A₁ ≡ set A at 0x28 → PartOf given p n e start end (at + 1) r A₁ A₂ → preceded 1 r ≡ r₁ → PartOf given s n₁ e start end at r₁ A A₂
 opened p s joined n₁ h f u w = part-answer w (part-more n₁ h (part_then (λ d. some (0x28 ∷ [])) p s joined (part-fixed (text-byte f)) u))
 
@@ -70,27 +72,27 @@ parameters d = parameters_part d.parameters
 abbrev ended : Constructor → Option (List ℕ)
 ended d = both (parameters_part d.parameters) (some (0x29 ∷ 0x56 ∷ []))
 
-module _ {e : Lent} {start end : ℕ} (at : ℕ) (A : List ℕ) {A₁ A₂ : List ℕ} (f : A₁ ≡ set A at 0x28) {r : Part}
+module _ {e : Lent} {start end : ℕ} (at : ℕ) (A : List ℕ) {A₁ A₂ : List ℕ} (f : A₁ ≡ set A at 0x28) {r : std.Option ℕ}
     (u : ParametersTold e start end Constructor-value_parameter (at + 1) r A₁ A₂) where
-  parameters-are : {y : Part} → r ≡ y → PartOf ConstructorGiven parameters (part_cost * (end - start)) e start end (at + 1) y A₁ A₂
+  parameters-are : {y : std.Option ℕ} → r ≡ y → PartOf ConstructorGiven parameters (part_cost * (end - start)) e start end (at + 1) y A₁ A₂
   parameters-are w = part-answer w (record { within = u.within; is = λ c s m k d g. u.is c s m k d.parameters g.before g.after g.is })
 
-  constructor-told : {n : ℕ} → 1 + n ≤ part_cost * (4 + (end - start)) → {y z : Part} {A₃ : List ℕ} → PartOf ConstructorGiven ended n e start end (at + 1) y A₁ A₃ → preceded 1 y ≡ z
+  constructor-told : {n : ℕ} → 1 + n ≤ part_cost * (4 + (end - start)) → {y z : std.Option ℕ} {A₃ : List ℕ} → PartOf ConstructorGiven ended n e start end (at + 1) y A₁ A₃ → preceded 1 y ≡ z
       → ConstructorDefault e start end at z A A₃
   constructor-told h p w =
       let q = opened ended (λ d. map_option descriptor (constructor_parts d)) constructor_text (part_cost * (4 + (end - start))) h f p w in
       record { within = q.within; is = λ c s m k d l b g. q.is c s m k d (constructor_given c m d l b g) }
 
-  pub constructor-absent : r ≡ part.Absent → ConstructorDefault e start end at part.Absent A A₂
+  pub constructor-absent : r ≡ None → ConstructorDefault e start end at None A A₂
   constructor-absent w =
       constructor-told {n = 0} (omega arith) (part-absent parameters (λ d. some (0x29 ∷ 0x56 ∷ [])) ended (λ d. refl) 0 (parameters-are w)) refl
 
-  pub constructor-done : {size : ℕ} → r ≡ part.Written size → {A₃ : List ℕ} → A₃ ≡ sets A₂ (at + 1 + size) (0x29 ∷ 0x56 ∷ [])
-      → ConstructorDefault e start end at (part.Written (3 + size)) A A₃
+  pub constructor-done : {size : ℕ} → r ≡ Some size → {A₃ : List ℕ} → A₃ ≡ sets A₂ (at + 1 + size) (0x29 ∷ 0x56 ∷ [])
+      → ConstructorDefault e start end at (Some (3 + size)) A A₃
   constructor-done {size} w g =
       constructor-told {n = part_cost * (end - start) + 2} (omega arith)
       (part_then parameters (λ d. some (0x29 ∷ 0x56 ∷ [])) ended (λ d. refl) (parameters-are w) (part-fixed (record { size = refl; area = g })))
-      (let i : 1 + (size + 2) ≡ 3 + size = omega arith in ap part.Written i)
+      (let i : 1 + (size + 2) ≡ 3 + size = omega arith in ap Some i)
 
 -- A function's receiver.
 module _ (e : Lent) (msg : List ℕ) (base at : ℕ) (st : Stands e.payload msg base) {b : Bool}
@@ -102,7 +104,7 @@ module _ (e : Lent) (msg : List ℕ) (base at : ℕ) (st : Stands e.payload msg 
       let h : f.has_receiver ≡ y = g.has_receiver ∙ t c m g.receiver.before f.receiver g.receiver.after (stands-cut st k) g.receiver.is ∙ q in
       ap (λ (x : Bool). if x then type_part position.Parameter f.receiver else some []) (sym h)
 
-  pub receiver-there : b ≡ true → {r : Part} {A A₁ : List ℕ}
+  pub receiver-there : b ≡ true → {r : std.Option ℕ} {A A₁ : List ℕ}
       → PartOf (TypeGiven Function-receiver_type Function-receiver_type_id) (type_part position.Parameter) part_cost e base (base + length msg) at r A A₁
       → PartOf FunctionGiven receiver_part part_cost e base (base + length msg) at r A A₁
   receiver-there q {r} {A} {A₁} u = record {
@@ -112,20 +114,20 @@ module _ (e : Lent) (msg : List ℕ) (base at : ℕ) (st : Stands e.payload msg 
         (u.is c s m k f.receiver g.receiver);
   }
 
-  pub receiver-none : b ≡ false → (A : List ℕ) → PartOf FunctionGiven receiver_part part_cost e base (base + length msg) at (part.Written 0) A A
+  pub receiver-none : b ≡ false → (A : List ℕ) → PartOf FunctionGiven receiver_part part_cost e base (base + length msg) at (Some 0) A A
   receiver-none q A = record {
     within = omega arith;
     is = λ c s m k f g.
-        told_same {x = some []} {y = receiver_part f} at (part.Written 0) A A (received c m k f g q) ([], refl, text_none at A);
+        told_same {x = some []} {y = receiver_part f} at (Some 0) A A (received c m k f g q) ([], refl, text_none at A);
   }
 
 -- What stands before the ): the receiver, then the parameters.
-module _ {e : Lent} (msg : List ℕ) {base at : ℕ} {r : Part} {A A₁ : List ℕ} (u : PartOf FunctionGiven receiver_part part_cost e base (base + length msg) at r A A₁) where
-  pub before-absent : r ≡ part.Absent → PartOf FunctionGiven before_part (part_cost * (1 + length msg)) e base (base + length msg) at part.Absent A A₁
+module _ {e : Lent} (msg : List ℕ) {base at : ℕ} {r : std.Option ℕ} {A A₁ : List ℕ} (u : PartOf FunctionGiven receiver_part part_cost e base (base + length msg) at r A A₁) where
+  pub before-absent : r ≡ None → PartOf FunctionGiven before_part (part_cost * (1 + length msg)) e base (base + length msg) at None A A₁
   before-absent w =
       part-absent receiver_part (λ f. parameters_part f.parameters) before_part before-part (part_cost * (1 + length msg)) (part-answer w u)
 
-  pub before-done : {size : ℕ} → r ≡ part.Written size → {y z : Part} {A₂ : List ℕ} → ParametersTold e base (base + length msg) Function-value_parameter (at + size) y A₁ A₂
+  pub before-done : {size : ℕ} → r ≡ Some size → {y z : std.Option ℕ} {A₂ : List ℕ} → ParametersTold e base (base + length msg) Function-value_parameter (at + size) y A₁ A₂
       → z ≡ preceded size y → PartOf FunctionGiven before_part (part_cost * (1 + length msg)) e base (base + length msg) at z A A₂
   before-done {size} w {y} {z} {A₂} v q =
       let p : PartOf FunctionGiven (λ f. parameters_part f.parameters) (part_cost * (base + length msg - base)) e base (base + length msg) (at + size) y A₁ A₂ = record {
@@ -137,12 +139,10 @@ module _ {e : Lent} (msg : List ℕ) {base at : ℕ} {r : Part} {A A₁ : List �
       (part_then receiver_part (λ f. parameters_part f.parameters) before_part before-part (part-answer w u) p))
 
 -- The parts that the code names.
-pub object-part : fixed_part 24 ≡ of_type object
-unfolding fixed_part
+pub object-part : fixed_told (parts.Class classes.Object) ≡ of_type object
 object-part = refl
 
-pub continuation-part : fixed_part 38 ≡ of_type continuation_class
-unfolding fixed_part
+pub continuation-part : fixed_told parts.Continuation ≡ of_type continuation_class
 continuation-part = refl
 
 -- What stands after them.
@@ -152,21 +152,19 @@ suspended = some (print continuation_class ++ (0x29 ∷ print object))
 abbrev returned : Function → Option (List ℕ)
 returned f = map_option (λ r. 0x29 ∷ print_returned r) (if_some f.returned none erased_return)
 
-pub suspended_put : {at first last : ℕ} {A A₁ A₂ A₃ : List ℕ} → PutPart 38 at first A A₁ → A₂ ≡ set A₁ (at + first) 0x29
-    → PutPart 24 (at + first + 1) last A₂ A₃ → PutSized (print continuation_class ++ (0x29 ∷ print object)) at (first + 1 + last) A A₃
+pub suspended_put : {at first last : ℕ} {A A₁ A₂ A₃ : List ℕ} → PutPart parts.Continuation at first A A₁ → A₂ ≡ set A₁ (at + first) 0x29
+    → PutPart (parts.Class classes.Object) (at + first + 1) last A₂ A₃ → PutSized (print continuation_class ++ (0x29 ∷ print object)) at (first + 1 + last) A A₃
 suspended_put {at} {first} {last} {A} {A₁} {A₂} {A₃} p e q =
-    let p' : PutSized (print continuation_class) at first A A₁ = rw continuation-part at p in
-    let q' : PutSized (print object) (at + first + 1) last A₂ A₃ = rw object-part at q in
+    let p' : PutSized (print continuation_class) at first A A₁ = p in
+    let q' : PutSized (print object) (at + first + 1) last A₂ A₃ = q in
     let q'' : PutSized (print object) (at + (first + 1)) last A₂ A₃ = rw add_assoc at q' in
     let all = text_then (text_then p' (text-byte e)) q'' in
     subst (λ (t : List ℕ). PutSized t at (first + 1 + last) A A₃) (append_assoc (print continuation_class) (0x29 ∷ []) (print object)) all
 
 suspended_short : length (print continuation_class ++ (0x29 ∷ print object)) ≤ 67
 suspended_short =
-    let c : length (print_returned (fixed_part 38)) ≤ 33 = part-short 38 in
-    let o : length (print_returned (fixed_part 24)) ≤ 33 = part-short 24 in
-    let c' : length (print continuation_class) ≤ 33 = rw continuation-part at c in
-    let o' : length (print object) ≤ 33 = rw object-part at o in
+    let c : length (print continuation_class) ≤ 33 = part-short parts.Continuation in
+    let o : length (print object) ≤ 33 = part-short (parts.Class classes.Object) in
     omega (arith, length-append (print continuation_class) (0x29 ∷ print object))
 
 returned-text : (o : Option Ty) → both (some (0x29 ∷ [])) (type_part position.Return o) ≡ map_option (λ r. 0x29 ∷ print_returned r) (if_some o none erased_return)
@@ -183,16 +181,16 @@ module _ (e : Lent) (msg : List ℕ) (base at : ℕ) (st : Stands e.payload msg 
   suspending c m k f g q = ap (bit_of 13) g.flags ∙ t m (stands-cut st k) ∙ q
 
   pub after-suspended : b ≡ true → {size : ℕ} {A A₁ : List ℕ} → PutSized (print continuation_class ++ (0x29 ∷ print object)) at size A A₁
-      → PartOf FunctionGiven after_part (part_cost * 2) e base (base + length msg) at (part.Written size) A A₁
+      → PartOf FunctionGiven after_part (part_cost * 2) e base (base + length msg) at (Some size) A A₁
   after-suspended q {size} {A} {A₁} u = record {
     within = omega (arith, u.size, suspended_short);
     is = λ c s m k f g.
-        told_same {x = suspended} {y = after_part f} at (part.Written size) A A₁
+        told_same {x = suspended} {y = after_part f} at (Some size) A A₁
         (ap (λ (x : Bool). if x then suspended else returned f) (sym (suspending c m k f g q)))
         (print continuation_class ++ (0x29 ∷ print object), refl, u);
   }
 
-  pub after-returned : b ≡ false → {A A₁ A₂ : List ℕ} → A₁ ≡ set A at 0x29 → {r z : Part}
+  pub after-returned : b ≡ false → {A A₁ A₂ : List ℕ} → A₁ ≡ set A at 0x29 → {r z : std.Option ℕ}
       → PartOf (TypeGiven Function-return_type Function-return_type_id) (type_part position.Return) part_cost e base (base + length msg) (at + 1) r A₁ A₂
       → z ≡ preceded 1 r → PartOf FunctionGiven after_part (part_cost * 2) e base (base + length msg) at z A A₂
   after-returned q {A} {A₁} {A₂} i {r} {z} u w =
@@ -213,18 +211,18 @@ module _ (e : Lent) (msg : List ℕ) (base at : ℕ) (st : Stands e.payload msg 
 abbrev inner : Function → Option (List ℕ)
 inner f = both (before_part f) (after_part f)
 
-module _ {e : Lent} (msg : List ℕ) {base : ℕ} (at : ℕ) (A : List ℕ) {A₁ A₂ : List ℕ} (h : A₁ ≡ set A at 0x28) {r : Part}
+module _ {e : Lent} (msg : List ℕ) {base : ℕ} (at : ℕ) (A : List ℕ) {A₁ A₂ : List ℕ} (h : A₁ ≡ set A at 0x28) {r : std.Option ℕ}
     (u : PartOf FunctionGiven before_part (part_cost * (1 + length msg)) e base (base + length msg) (at + 1) r A₁ A₂) where
-  function-told : {n : ℕ} → 1 + n ≤ part_cost * (4 + (base + length msg - base)) → {y z : Part} {A₃ : List ℕ} → PartOf FunctionGiven inner n e base (base + length msg) (at + 1) y A₁ A₃
+  function-told : {n : ℕ} → 1 + n ≤ part_cost * (4 + (base + length msg - base)) → {y z : std.Option ℕ} {A₃ : List ℕ} → PartOf FunctionGiven inner n e base (base + length msg) (at + 1) y A₁ A₃
       → preceded 1 y ≡ z → FunctionDefault e base (base + length msg) at z A A₃
   function-told i p w =
       let q = opened inner (λ f. map_option descriptor (function_parts f)) function_text (part_cost * (4 + (base + length msg - base))) i h p w in
       record { within = q.within; is = λ c s m k f l b g. q.is c s m k f (function_given c m f l b g) }
 
-  pub function-absent : r ≡ part.Absent → FunctionDefault e base (base + length msg) at part.Absent A A₂
+  pub function-absent : r ≡ None → FunctionDefault e base (base + length msg) at None A A₂
   function-absent w = function-told {n = 0} (omega arith) (part-absent before_part after_part inner (λ f. refl) 0 (part-answer w u)) refl
 
-  pub function-done : {size : ℕ} → r ≡ part.Written size → {y z : Part} {A₃ : List ℕ}
+  pub function-done : {size : ℕ} → r ≡ Some size → {y z : std.Option ℕ} {A₃ : List ℕ}
       → PartOf FunctionGiven after_part (part_cost * 2) e base (base + length msg) (at + 1 + size) y A₂ A₃ → z ≡ preceded (1 + size) y → FunctionDefault e base (base + length msg) at z A A₃
   function-done {size} w {y} v q =
       function-told {n = part_cost * (1 + length msg) + part_cost * 2} (omega arith) (part_then before_part after_part inner (λ f. refl) (part-answer w u) v)

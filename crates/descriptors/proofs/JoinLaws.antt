@@ -18,8 +18,8 @@ use Rattle.schema.specs.told.SchemaTold.{Lent}
 use Rattle.erasure.specs.Erasure.{Erased, erased, Returned, of_type, erased_return, print, print_returned}
 use Rattle.erasure.specs.told.ErasureTold.{PutSized}
 use Rattle.erasure.specs.declared.Position.TheVariants as position
-use Rattle.erasure.specs.declared.Part.{Part}
-use Rattle.erasure.specs.declared.Part.TheVariants as part
+use Rattle.std.specs.Prelude as std
+use Rattle.std.specs.Prelude.{Some, None}
 use Rattle.descriptors.specs.Defaults.{
   parts,
   erased_option,
@@ -119,40 +119,40 @@ text_then {s} {t} {at} {n} {k} {A} p q = record {
 }
 
 -- and parts
-pub told_then : (x y : Option (List ℕ)) (at n : ℕ) (r : Part) (A A₁ A₂ : List ℕ) → PartTold x at (part.Written n) A A₁
+pub told_then : (x y : Option (List ℕ)) (at n : ℕ) (r : std.Option ℕ) (A A₁ A₂ : List ℕ) → PartTold x at (Some n) A A₁
     → PartTold y (at + n) r A₁ A₂ → PartTold (both x y) at (preceded n r) A A₂
-told_then x y at n (part.Written k) A A₁ A₂ (s, e, p) (t, f, q) = (s ++ t, rw (e, f), text_then p q)
-told_then x y at n part.Absent A A₁ A₂ (s, e, p) q = rw (e, q)
+told_then x y at n (Some k) A A₁ A₂ (s, e, p) (t, f, q) = (s ++ t, rw (e, f), text_then p q)
+told_then x y at n None A A₁ A₂ (s, e, p) q = rw (e, q)
 
 pub told_absent : (x y : Option (List ℕ)) → x ≡ none → both x y ≡ none
 told_absent x y e = rw e
 
-pub told_same : {x y : Option (List ℕ)} (at : ℕ) (r : Part) (A A₁ : List ℕ) → x ≡ y → PartTold x at r A A₁ → PartTold y at r A A₁
+pub told_same : {x y : Option (List ℕ)} (at : ℕ) (r : std.Option ℕ) (A A₁ : List ℕ) → x ≡ y → PartTold x at r A A₁ → PartTold y at r A A₁
 told_same at r A A₁ e p = subst (λ (o : Option (List ℕ)). PartTold o at r A A₁) e p
 
-within_then : (n n₁ k : ℕ) (r : Part) → k ≤ n → PartWithin n₁ r → PartWithin (n + n₁) (preceded k r)
-within_then n n₁ k (part.Written j) h i = omega arith
-within_then n n₁ k part.Absent h i = tt
+within_then : (n n₁ k : ℕ) (r : std.Option ℕ) → k ≤ n → PartWithin n₁ r → PartWithin (n + n₁) (preceded k r)
+within_then n n₁ k (Some j) h i = omega arith
+within_then n n₁ k None h i = tt
 
-pub within_more : {n n₁ : ℕ} (r : Part) → n ≤ n₁ → PartWithin n r → PartWithin n₁ r
-within_more (part.Written k) h i = omega arith
-within_more part.Absent h i = tt
+pub within_more : {n n₁ : ℕ} (r : std.Option ℕ) → n ≤ n₁ → PartWithin n r → PartWithin n₁ r
+within_more (Some k) h i = omega arith
+within_more None h i = tt
 
 -- how many bytes were written
-pub written-within : (n : ℕ) {r : Part} {k : ℕ} → PartWithin n r → r ≡ part.Written k → k ≤ n
+pub written-within : (n : ℕ) {r : std.Option ℕ} {k : ℕ} → PartWithin n r → r ≡ Some k → k ≤ n
 written-within n h e = subst (PartWithin n) e h
 
-pub preceded-sum : (n k : ℕ) (r : Part) → preceded n (preceded k r) ≡ preceded (n + k) r
-preceded-sum n k (part.Written i) = ap part.Written (sym (add_assoc n k i))
-preceded-sum n k part.Absent = refl
+pub preceded-sum : (n k : ℕ) (r : std.Option ℕ) → preceded n (preceded k r) ≡ preceded (n + k) r
+preceded-sum n k (Some i) = ap Some (sym (add_assoc n k i))
+preceded-sum n k None = refl
 
 -- What is told of two parts of one thing is told of both.
 module _ {D : Type 0} (p q s : D → Option (List ℕ)) (joined : (d : D) → s d ≡ both (p d) (q d)) {given : Scope → Message → D → Type 0} {n : ℕ}
     {e : Lent} {start end at : ℕ} {A A₁ : List ℕ} where
-  pub part-absent : (n₂ : ℕ) → PartOf given p n e start end at part.Absent A A₁ → {A₂ : List ℕ} → PartOf given s n₂ e start end at part.Absent A A₂
+  pub part-absent : (n₂ : ℕ) → PartOf given p n e start end at None A A₁ → {A₂ : List ℕ} → PartOf given s n₂ e start end at None A A₂
   part-absent n₂ u = record { within = tt; is = λ c o m k d g. joined d ∙ told_absent (p d) (q d) (u.is c o m k d g) }
 
-  pub part_then : {n₁ j : ℕ} {r : Part} {A₂ : List ℕ} → PartOf given p n e start end at (part.Written j) A A₁ → PartOf given q n₁ e start end (at + j) r A₁ A₂
+  pub part_then : {n₁ j : ℕ} {r : std.Option ℕ} {A₂ : List ℕ} → PartOf given p n e start end at (Some j) A A₁ → PartOf given q n₁ e start end (at + j) r A₁ A₂
       → PartOf given s (n + n₁) e start end at (preceded j r) A A₂
   part_then {n₁} {j} {r} {A₂} u v = record {
     within = within_then n n₁ j r u.within v.within;
@@ -163,17 +163,17 @@ module _ {D : Type 0} (p q s : D → Option (List ℕ)) (joined : (d : D) → s 
 
 module _ {D : Type 0} {given : Scope → Message → D → Type 0} {e : Lent} {start end at : ℕ} where
   -- a text that is the same whatever was read
-  pub part-fixed : {t : List ℕ} {k : ℕ} {A A₁ : List ℕ} → PutSized t at k A A₁ → PartOf given (λ d. some t) k e start end at (part.Written k) A A₁
+  pub part-fixed : {t : List ℕ} {k : ℕ} {A A₁ : List ℕ} → PutSized t at k A A₁ → PartOf given (λ d. some t) k e start end at (Some k) A A₁
   part-fixed {t} {k} u = record { within = le_refl k; is = λ c o m i d g. (t, refl, u) }
 
-  pub part-more : {p : D → Option (List ℕ)} {n : ℕ} (n₁ : ℕ) {r : Part} {A A₁ : List ℕ} → n ≤ n₁ → PartOf given p n e start end at r A A₁
+  pub part-more : {p : D → Option (List ℕ)} {n : ℕ} (n₁ : ℕ) {r : std.Option ℕ} {A A₁ : List ℕ} → n ≤ n₁ → PartOf given p n e start end at r A A₁
       → PartOf given p n₁ e start end at r A A₁
   part-more n₁ {r} h u = record { within = within_more r h u.within; is = u.is }
 
   -- the same answer, said otherwise
-  pub part-answer : {p : D → Option (List ℕ)} {n : ℕ} {r r₁ : Part} {A A₁ : List ℕ} → r ≡ r₁ → PartOf given p n e start end at r A A₁
+  pub part-answer : {p : D → Option (List ℕ)} {n : ℕ} {r r₁ : std.Option ℕ} {A A₁ : List ℕ} → r ≡ r₁ → PartOf given p n e start end at r A A₁
       → PartOf given p n e start end at r₁ A A₁
-  part-answer {p} {n} {A = A} {A₁} h u = subst (λ (r : Part). PartOf given p n e start end at r A A₁) h u
+  part-answer {p} {n} {A = A} {A₁} h u = subst (λ (r : std.Option ℕ). PartOf given p n e start end at r A A₁) h u
 
 -- one byte
 pub text-byte : {b at : ℕ} {A A₁ : List ℕ} → A₁ ≡ set A at b → PutSized (b ∷ []) at 1 A A₁

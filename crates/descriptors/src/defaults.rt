@@ -10,10 +10,10 @@ ghost use Rattle.erasure.specs.Erasure.{print};
 ghost use Rattle.erasure.specs.told.ErasureTold.{PutSized};
 ghost use Rattle.descriptors.specs.Defaults.{continuation_class, object};
 ghost use Rattle.descriptors.specs.told.DefaultsTold.{part_cost, PartWithin, ParametersTold, ConstructorDefault, FunctionDefault};
-ghost use Rattle.descriptors.specs.told.PartsTold.{PartRoom, PartOf, TypeGiven, type_part, FunctionGiven, receiver_part, before_part, after_part, preceded};
+ghost use Rattle.descriptors.specs.told.PartsTold.{PartRoom, PartOf, TypeGiven, type_part, FunctionGiven, receiver_part, before_part, after_part};
 
 use crate::erased::{Placement, put_erased};
-use erasure::{CONTINUATION, OBJECT, Part, Position, put_part};
+use erasure::{Class, Part, Position, put_part};
 use fields::{
     CONSTRUCTOR_VALUE_PARAMETER, FUNCTION_FLAGS, FUNCTION_RECEIVER_TYPE, FUNCTION_RECEIVER_TYPE_ID,
     FUNCTION_RETURN_TYPE, FUNCTION_RETURN_TYPE_ID, FUNCTION_VALUE_PARAMETER, OMITTED_FLAGS,
@@ -23,9 +23,8 @@ use messages::next_body;
 use schema::flags::flags_in;
 use schema::places::declared_place;
 use schema::receiver::has_receiver;
-use schema::{FoundType, Tables, TypeSlot};
+use schema::{Tables, TypeSlot};
 use sheet::{put, put_all};
-use wire::Piece;
 
 // A declaration's own type at its position. A type that isn't there has no descriptor. The slot's role is not looked at.
 fn type_part(
@@ -40,28 +39,19 @@ fn type_part(
     tables: Tables,
     area: &mut [u8],
     at: usize,
-) -> Part
+) -> Option<usize>
     requires { PartRoom payload.now d2.now msg.now base part_cost at }
     ensures { PartOf (TypeGiven slot.inline slot.indexed) (type_part position) part_cost (lent payload.now d2.now ends.now notes.now tables) base (base + length msg.now) at result area.old area.new }
 {
-    let found = declared_place(msg, base, slot, payload, notes, tables);
-    let FoundType::Type {
-        start: from,
-        end: to,
-        nullable,
-        left,
-    } = found
-    else {
-        return Part::Absent;
-    };
+    let found = declared_place(msg, base, slot, payload, notes, tables)?;
     let placed = Placement {
-        nullable,
-        left,
+        nullable: found.nullable,
+        left: found.left,
         position,
     };
     put_erased(
-        &payload[from..to],
-        from as u32,
+        &payload[found.start..found.end],
+        found.start as u32,
         placed,
         payload,
         d2,
@@ -85,21 +75,17 @@ fn parameter_parts(
     tables: Tables,
     area: &mut [u8],
     at: usize,
-) -> Part
+) -> Option<usize>
     requires { PartRoom payload.now d2.now msg.now base (part_cost * length msg.now) at }
     ensures { ParametersTold (lent payload.now d2.now ends.now notes.now tables) base (base + length msg.now) number at result area.old area.new }
 {
     let mut from = 0;
     let mut size = 0;
-    loop {
-        let piece = next_body(msg, base, number, from);
-        let Piece::Body { start, end } = piece else {
-            return Part::Written { size };
-        };
-        from = end;
-        let part = type_part(
-            &msg[start..end],
-            base + start as u32,
+    while let Some(parameter) = next_body(msg, base, number, from) {
+        from = parameter.end;
+        size += type_part(
+            &msg[parameter.start..parameter.end],
+            base + parameter.start as u32,
             TypeSlot {
                 inline: VALUE_PARAMETER_TYPE,
                 indexed: VALUE_PARAMETER_TYPE_ID,
@@ -113,24 +99,9 @@ fn parameter_parts(
             tables,
             area,
             at + size,
-        );
-        let Part::Written { size: more } = part else {
-            return Part::Absent;
-        };
-        size += more;
+        )?;
     }
-}
-
-// A part with some bytes before it.
-fn preceded(size: usize, part: Part) -> Part
-    requires { (size ≤ 2 ^ 61) × PartWithin (2 ^ 61) part }
-    ensures { result ≡ preceded size part }
-{
-    let Part::Written { size: more } = part else {
-        return Part::Absent;
-    };
-    let whole = size + more;
-    Part::Written { size: whole }
+    Some(size)
 }
 
 // The default descriptor of a constructor, which returns V.
@@ -145,12 +116,12 @@ pub fn constructor_default(
     tables: Tables,
     area: &mut [u8],
     at: usize,
-) -> Part
+) -> Option<usize>
     requires { PartRoom payload.now d2.now msg.now base (part_cost * (4 + length msg.now)) at }
     ensures { ConstructorDefault (lent payload.now d2.now ends.now notes.now tables) base (base + length msg.now) at result area.old area.new }
 {
     put(area, at, b'(');
-    let before = parameter_parts(
+    let size = parameter_parts(
         msg,
         base,
         CONSTRUCTOR_VALUE_PARAMETER,
@@ -161,12 +132,9 @@ pub fn constructor_default(
         tables,
         area,
         at + 1,
-    );
-    let Part::Written { size } = before else {
-        return Part::Absent;
-    };
+    )?;
     put_all(area, at + 1 + size, b")V");
-    Part::Written { size: 3 + size }
+    Some(3 + size)
 }
 
 // The receiver's part. Without a receiver there is no text.
@@ -180,7 +148,7 @@ fn receiver_part(
     tables: Tables,
     area: &mut [u8],
     at: usize,
-) -> Part
+) -> Option<usize>
     requires { PartRoom payload.now d2.now msg.now base part_cost at }
     ensures { PartOf FunctionGiven receiver_part part_cost (lent payload.now d2.now ends.now notes.now tables) base (base + length msg.now) at result area.old area.new }
 {
@@ -203,7 +171,7 @@ fn receiver_part(
             at,
         );
     }
-    Part::Written { size: 0 }
+    Some(0)
 }
 
 // The parts of the types before the return: the receiver's and the parameters'.
@@ -217,14 +185,11 @@ fn before_part(
     tables: Tables,
     area: &mut [u8],
     at: usize,
-) -> Part
+) -> Option<usize>
     requires { PartRoom payload.now d2.now msg.now base (part_cost * (1 + length msg.now)) at }
     ensures { PartOf FunctionGiven before_part (part_cost * (1 + length msg.now)) (lent payload.now d2.now ends.now notes.now tables) base (base + length msg.now) at result area.old area.new }
 {
-    let receiver = receiver_part(msg, base, payload, d2, ends, notes, tables, area, at);
-    let Part::Written { size } = receiver else {
-        return Part::Absent;
-    };
+    let receiver = receiver_part(msg, base, payload, d2, ends, notes, tables, area, at)?;
     let parameters = parameter_parts(
         msg,
         base,
@@ -235,9 +200,9 @@ fn before_part(
         notes,
         tables,
         area,
-        at + size,
-    );
-    preceded(size, parameters)
+        at + receiver,
+    )?;
+    Some(receiver + parameters)
 }
 
 // Does a function suspend? Bit 13 of its flags.
@@ -253,9 +218,9 @@ fn put_suspended(area: &mut [u8], at: usize) -> usize
     requires { at ≤ 2 ^ 61 }
     ensures { PutSized (print continuation_class ++ (0x29 ∷ print object)) at result area.old area.new }
 {
-    let first = put_part(area, at, CONTINUATION);
+    let first = put_part(area, at, Part::Continuation);
     put(area, at + first, b')');
-    let last = put_part(area, at + first + 1, OBJECT);
+    let last = put_part(area, at + first + 1, Part::Class(Class::Object));
     first + 1 + last
 }
 
@@ -270,13 +235,12 @@ fn after_part(
     tables: Tables,
     area: &mut [u8],
     at: usize,
-) -> Part
+) -> Option<usize>
     requires { PartRoom payload.now d2.now msg.now base (part_cost * 2) at }
     ensures { PartOf FunctionGiven after_part (part_cost * 2) (lent payload.now d2.now ends.now notes.now tables) base (base + length msg.now) at result area.old area.new }
 {
     if suspends(msg, base) {
-        let size = put_suspended(area, at);
-        return Part::Written { size };
+        return Some(put_suspended(area, at));
     }
     put(area, at, b')');
     let returned = type_part(
@@ -295,8 +259,8 @@ fn after_part(
         tables,
         area,
         at + 1,
-    );
-    preceded(1, returned)
+    )?;
+    Some(1 + returned)
 }
 
 // The default descriptor of a function.
@@ -311,15 +275,12 @@ pub fn function_default(
     tables: Tables,
     area: &mut [u8],
     at: usize,
-) -> Part
+) -> Option<usize>
     requires { PartRoom payload.now d2.now msg.now base (part_cost * (4 + length msg.now)) at }
     ensures { FunctionDefault (lent payload.now d2.now ends.now notes.now tables) base (base + length msg.now) at result area.old area.new }
 {
     put(area, at, b'(');
-    let before = before_part(msg, base, payload, d2, ends, notes, tables, area, at + 1);
-    let Part::Written { size } = before else {
-        return Part::Absent;
-    };
+    let before = before_part(msg, base, payload, d2, ends, notes, tables, area, at + 1)?;
     let after = after_part(
         msg,
         base,
@@ -329,7 +290,7 @@ pub fn function_default(
         notes,
         tables,
         area,
-        at + 1 + size,
-    );
-    preceded(1 + size, after)
+        at + 1 + before,
+    )?;
+    Some(1 + before + after)
 }

@@ -8,15 +8,14 @@ ghost use Rattle.descriptors.specs.told.ErasedTold.{PrintedPut, TypePartTold};
 ghost use Rattle.descriptors.specs.told.DefaultsTold.{ErasedTold};
 ghost use Rattle.erasure.specs.declared.Meaning.TheVariants.{Other};
 
-use characters::{Character, utf16_at};
-use erasure::{Meaning, Part, Position, Printed, meaning_of, printed_as, put_part};
-use names::name::{Name, change_of, character_of, is_there};
+use characters::utf16_at;
+use erasure::{Meaning, Position, Printed, meaning_of, printed_as, put_part};
+use names::name::{Name, change_of, character_of, is_there, part_of};
 use names::stream::put_name;
+use schema::Tables;
 use schema::head::type_head;
 use schema::name::class_name_at;
 use schema::places::first_argument;
-use schema::types::{either, less};
-use schema::{FoundType, Tables};
 use sheet::put;
 
 // How a type is placed: whether it is nullable by its place in the type table, what is left of the depth there, and its position in the
@@ -28,15 +27,13 @@ pub(crate) struct Placement {
     pub position: Position,
 }
 
-// What one type comes to.
+// What is written of one type.
 #[derive(Clone, Copy)]
 enum TypePart {
-    // Its part is written.
+    // Its part.
     Whole { size: usize },
-    // [ is written, and its first kept argument is to follow as an element.
+    // [, and its first kept argument is to follow as an element.
     Bracket,
-    // It has no descriptor.
-    Absent,
 }
 
 // Can a name, dots turned into slashes, be listed? All that are begin with k.
@@ -47,11 +44,10 @@ fn may_be_listed(payload: &[u8], d2: &[u16], name: Name) -> bool
     if source != 3 {
         return true;
     }
-    let character = utf16_at(d2, name.start, name.end);
-    let Character::Read { code, next: _ } = character else {
+    let Some(character) = utf16_at(part_of(d2, name.start, name.end), 0) else {
         return true;
     };
-    character_of(change_of(name, true), code) == 0x6b
+    character_of(change_of(name, true), character.value) == 0x6b
 }
 
 // What a name, dots turned into slashes, means. No listed name is longer than 36 bytes.
@@ -94,7 +90,7 @@ fn put_printed(
     ensures { PrintedPut payload.now d2.now name printed at result area.old area.new }
 {
     match printed {
-        Printed::Fixed { part } => TypePart::Whole {
+        Printed::Fixed(part) => TypePart::Whole {
             size: put_part(area, at, part),
         },
         Printed::ThroughArray => {
@@ -104,11 +100,10 @@ fn put_printed(
         Printed::ClassItself => TypePart::Whole {
             size: put_class(payload, d2, name, area, at),
         },
-        Printed::Nothing => TypePart::Absent,
     }
 }
 
-// One type, by its class name.
+// One type, by its class name; nothing if it has no descriptor.
 fn put_type_part(
     msg: &[u8],
     base: u32,
@@ -120,23 +115,23 @@ fn put_type_part(
     tables: Tables,
     area: &mut [u8],
     at: usize,
-) -> TypePart
+) -> Option<TypePart>
     requires { Stands payload.now msg.now base × (length payload.now ≤ 32768) × (length d2.now ≤ 32768) × (at ≤ 2 ^ 62) }
     ensures { TypePartTold (lent payload.now d2.now ends.now notes.now tables) base (base + length msg.now) placed.nullable placed.position at result area.old area.new }
 {
     let head = type_head(msg, base);
-    let found = head.name;
-    let name = class_name_at(found, payload, d2, ends, notes, tables.records);
+    let name = class_name_at(head.name, payload, d2, ends, notes, tables.records);
     if !is_there(name) {
-        return TypePart::Absent;
+        return None;
     }
     let meaning = name_meaning(payload, d2, name);
-    let position = placed.position;
-    let printed = printed_as(meaning, either(placed.nullable, head.nullable), position);
-    put_printed(printed, payload, d2, name, area, at)
+    let nullable = placed.nullable || head.nullable;
+    let printed = printed_as(meaning, nullable, placed.position)?;
+    Some(put_printed(printed, payload, d2, name, area, at))
 }
 
-// The part of the type in a message: as many [ as arrays are nested, then what the innermost comes to.
+// The part of the type in a message: as many [ as arrays are nested, then what the innermost comes to. Answers how many bytes it takes; nothing
+// if the type has no descriptor.
 pub(crate) fn put_erased(
     msg: &[u8],
     base: u32,
@@ -148,7 +143,7 @@ pub(crate) fn put_erased(
     tables: Tables,
     area: &mut [u8],
     at: usize,
-) -> Part
+) -> Option<usize>
     requires { Stands payload.now msg.now base × (placed.left ≤ 64) × (length payload.now ≤ 32768) × (length d2.now ≤ 32768) × (at ≤ 2 ^ 61) }
     ensures { ErasedTold (lent payload.now d2.now ends.now notes.now tables) base (base + length msg.now) placed.left placed.nullable placed.position at result area.old area.new }
 {
@@ -168,38 +163,24 @@ pub(crate) fn put_erased(
             tables,
             area,
             next,
-        );
+        )?;
         match one {
-            TypePart::Whole { size } => {
-                let past = next + size;
-                let whole = past - at;
-                return Part::Written { size: whole };
-            }
-            TypePart::Absent => return Part::Absent,
+            TypePart::Whole { size } => return Some(next + size - at),
             TypePart::Bracket => {}
         }
         let found = first_argument(
             &payload[start..end],
             start as u32,
-            less(here.left),
+            here.left.saturating_sub(1),
             payload,
             notes,
             tables,
-        );
-        let FoundType::Type {
-            start: first,
-            end: last,
-            nullable,
-            left,
-        } = found
-        else {
-            return Part::Absent;
-        };
-        start = first;
-        end = last;
+        )?;
+        start = found.start;
+        end = found.end;
         here = Placement {
-            nullable,
-            left,
+            nullable: found.nullable,
+            left: found.left,
             position: Position::Element,
         };
         next += 1;

@@ -2,17 +2,18 @@
 -- Assumes nothing.
 use mathlib.Core.Path.{◌≡◌, refl, sym, ap, ◌∙◌}
 use mathlib.Core.Bool.{Bool, true, false}
-use mathlib.Core.List.{List, [], ◌∷◌, map}
+use mathlib.Core.List.{List, [], ◌∷◌, ◌++◌, map}
 use mathlib.Core.Option.{Option, none, some}
-use Prim.Native.Nat.{ℕ, zero, suc, ◌+◌, ◌-◌, ◌*◌, ◌/◌, ◌≤◌, ◌<◌}
-use native.Mathlib.Numerals.{add-one}
+use Prim.Native.Nat.{ℕ, zero, suc, ◌-◌, ◌*◌, ◌/◌, ◌≤◌, ◌<◌}
 use native.Mathlib.Omega.{arith}
-use borrow.Author.Tests.{lt-ltb, le-ltb, eq-eqb, ne_eqb, ltb-false}
+use borrow.Author.Tests.{le-ltb, eq-eqb, ne_eqb, ltb-false}
 use lib.Bits.{bit_or, or_add_and, and_le_l, and_le_r}
 use lib.Dec.{eqb, ltb}
-use lib.ListN.{length, get_or, take, drop, set, length-drop, drop_of_length-le}
-use lib.Seq.{sets, drop-cons, take_all}
-use Rattle.std.specs.Prelude.{if◌then◌else◌}
+use lib.ListN.{length, get_or, take, drop, length-drop}
+use lib.Seq.{take_all}
+use Rattle.std.specs.Prelude.{if◌then◌else◌, Some, None}
+use Rattle.std.specs.Prelude as std
+use Rattle.std.specs.List.{find}
 use Rattle.foundation.specs.Choices.{if_some}
 use Rattle.foundation.specs.Results.{empty_payload, not_a_byte, Res, ok, refused}
 use Rattle.foundation.specs.Digits.{number}
@@ -21,45 +22,41 @@ use Rattle.foundation.proofs.ResultLaws.{Gives}
 use Rattle.foundation.proofs.DigitLaws.{Below, length_digits, digits-below}
 use Rattle.encoding.specs.Encoding.{byte_string_marker, low_seven, unpacked, first_above255, decoded}
 use Rattle.encoding.specs.told.Outcome.{above_of}
-use Rattle.encoding.specs.declared.Above.{Above}
-use Rattle.encoding.specs.declared.Above.TheVariants as above
 
--- units above 255, from a place on
-module _ (us : List ℕ) (i : ℕ) (inside : i < length us) where
-  pub above-found : 255 < get_or us i 0 → first_above255 (drop i us) ≡ some (get_or us i 0)
-  unfolding first_above255
-  above-found h = rw (drop-cons us i 0 inside) (simp (lt-ltb _ _ h))
-
-  pub above-passed : get_or us i 0 ≤ 255 → first_above255 (drop i us) ≡ first_above255 (drop (i + 1) us)
-  unfolding first_above255
-  above-passed h = rw (drop-cons us i 0 inside, add-one i) (simp (le-ltb _ _ h))
-
-pub above_end : (us : List ℕ) (i : ℕ) → length us ≤ i → first_above255 (drop i us) ≡ none
-unfolding first_above255
-above_end us i h = rw (drop_of_length-le us h)
-
--- the bits of all units before a place are those of a byte: none of them is above 255
-pub bytes_next : {w : Option ℕ} (us : List ℕ) (i all : ℕ) → i < length us → (all < 256 → first_above255 (drop i us) ≡ w)
-    → bit_or all (get_or us i 0) < 256
-    → first_above255 (drop (i + 1) us) ≡ w
-bytes_next us i all inside h o =
-    let unit = get_or us i 0 in
-    sym (above-passed us i inside (omega (arith, or_add_and all unit, and_le_l all unit)))
-    ∙ h (omega (arith, or_add_and all unit, and_le_r all unit))
-
-pub above_unit : (o : Option ℕ) {unit : ℕ} {r : Above} → r ≡ above_of o → r ≡ above.Unit unit → o ≡ some unit
-above_unit none e f = cc
-above_unit (some u) e f = cc
-
-pub above_nothing : (o : Option ℕ) {r : Above} → r ≡ above_of o → r ≡ above.Nothing → o ≡ none
-above_nothing none e f = refl
-above_nothing (some u) e f = cc
-
--- where there is none, each unit is a byte
+-- where there is none, nor is there among the others
 no_choice : (t : Bool) (u : ℕ) (later : Option ℕ) → (if t then some u else later) ≡ none → (t ≡ false) × (later ≡ none)
 no_choice true u later h = (cc, cc)
 no_choice false u later h = (refl, h)
 
+-- the bits of all units so far are those of a byte: none of them is above 255
+above-last : (us : List ℕ) (unit : ℕ) → first_above255 us ≡ none → unit ≤ 255 → first_above255 (us ++ unit ∷ []) ≡ none
+unfolding first_above255
+above-last [] unit e l = simp (le-ltb _ _ l)
+above-last (u ∷ us) unit e l = let n = no_choice (ltb 255 u) u (first_above255 us) e in simp (n.0, above-last us unit n.1 l)
+
+pub bytes_next : (us : List ℕ) (all unit : ℕ) → (all < 256 → first_above255 us ≡ none) → bit_or all unit < 256 → first_above255 (us ++ unit ∷ []) ≡ none
+bytes_next us all unit h o =
+    above-last us unit (h (omega (arith, or_add_and all unit, and_le_r all unit))) (omega (arith, or_add_and all unit, and_le_l all unit))
+
+-- the search, as `find` has it
+pub above-found : (us : List ℕ) → find (ltb 255) us ≡ above_of (first_above255 us)
+unfolding first_above255
+above-found [] = refl
+above-found (u ∷ us) = go (ltb 255 u) (above-found us)
+  where
+    go : (t : Bool) → find (ltb 255) us ≡ above_of (first_above255 us) → (if t then Some u else find (ltb 255) us) ≡ above_of (if t then some u else first_above255 us)
+    go true e = refl
+    go false e = e
+
+pub above_unit : (o : Option ℕ) {unit : ℕ} {r : std.Option ℕ} → r ≡ above_of o → r ≡ Some unit → o ≡ some unit
+above_unit none e f = cc
+above_unit (some u) e f = cc
+
+pub above_nothing : (o : Option ℕ) {r : std.Option ℕ} → r ≡ above_of o → r ≡ None → o ≡ none
+above_nothing none e f = refl
+above_nothing (some u) e f = cc
+
+-- where there is none, each unit is a byte
 pub none_above : (us : List ℕ) → first_above255 us ≡ none → Below 256 us
 unfolding first_above255
 none_above [] h = tt
@@ -74,14 +71,6 @@ below_at b (u ∷ us) (suc i) h a = below_at b us i h a.1
 
 pub byte_at : (us : List ℕ) (i : ℕ) → first_above255 us ≡ none → get_or us i 0 < 256
 byte_at us i h = below_at 256 us i (omega arith) (none_above us h)
-
-pub copy_step : (us before area : List ℕ) (i : ℕ) → i < length us → sets before 0 us ≡ sets area i (drop i us)
-    → sets before 0 us ≡ sets (set area i (get_or us i 0)) (i + 1) (drop (i + 1) us)
-copy_step us before area i h e = e ∙ rw (drop-cons us i 0 h, add-one i)
-
-pub copy_end : (us before area : List ℕ) (i : ℕ) → length us ≤ i
-    → sets before 0 us ≡ sets area i (drop i us) → area ≡ sets before 0 us
-copy_end us before area i h e = sym (e ∙ rw (drop_of_length-le us h))
 
 -- the units after the marker, as `&d1[1..]` has them
 abbrev pub after_marker : List ℕ → List ℕ

@@ -39,11 +39,6 @@ unpack_start us before = record {
   rest = simp (sub-zero, one-mul, zero-add);
 }
 
-pub unpack_end : (us before area : List ℕ) (buffer scale j i : ℕ) → length us ≤ i → Unpacking us before area buffer scale j i
-    → area ≡ sets before 0 (unpacked us)
-unpack_end us before area buffer scale j i h u =
-    let e : 7 * length us / 8 - j ≡ 0 = omega (arith, u.count, u.few) in sym (u.rest ∙ rw e)
-
 two_even : (b : ℕ) → 2 ^ b ≡ 1 → b ≡ 0
 two_even zero h = refl
 two_even (suc b) h = let e : 2 ^ b * 2 ≡ 1 = rw pow-suc at h in absurd (omega arith)
@@ -105,9 +100,6 @@ module _ (us before area : List ℕ) (buffer scale j i d : ℕ)
     }
 
     -- else a byte is written
-    pub unpack-room : (scale ≡ 1 → ⊥) → 7 * length us / 8 ≤ length before → j < length area
-    unpack-room h r = let s = halved u.bits scale u.power h in omega (arith, u.count, u.few, u.same, s.1.0)
-
     pub unpack-byte : (scale ≡ 1 → ⊥)
         → Unpacking us before (set area j ((buffer + d * scale) % 256)) ((buffer + d * scale) / 256) (scale / 2) (j + 1) (i + 1)
     unpack-byte h =

@@ -7,16 +7,18 @@ ghost use Rattle.std.proofs.lemmas.List.Edits.{sets};
 ghost use Rattle.encoding.specs.Encoding.{low_seven, unpacked, first_above255};
 ghost use Rattle.encoding.specs.told.Outcome.{above_of, limited, DecodeTold};
 
+use std::error::Error;
+use std::fmt;
+
 // Above it d1 is refused, and so is d2: `unit_limit`.
 pub const UNIT_LIMIT: usize = 32768;
 
 // The first unit of the form whose other units are the bytes.
-const BYTE_STRING_MARKER: u16 = 0;
+pub const BYTE_STRING_MARKER: u16 = 0;
 
-#[derive(Clone, Copy)]
-pub enum Decoded {
-    // The bytes stand at the area's front.
-    Bytes { length: usize },
+// Why there are no bytes of d1.
+#[derive(Clone, Copy, Debug, PartialEq, Eq)]
+pub enum DecodeError {
     TooLong,
     Empty,
     NotAByte { unit: u16 },
@@ -24,42 +26,34 @@ pub enum Decoded {
     NoRoom,
 }
 
-// The first, in order, of the units above 255, if there is one.
-#[derive(Clone, Copy)]
-pub enum Above {
-    Unit(u16),
-    Nothing,
+impl fmt::Display for DecodeError {
+    fn fmt<W: fmt::Write>(&self, f: &mut fmt::Formatter<W>) -> fmt::Result {
+        match self {
+            DecodeError::TooLong => write!(f, "more units than d1 may have"),
+            DecodeError::Empty => write!(f, "no unit"),
+            DecodeError::NotAByte { unit } => write!(f, "the unit {unit} is above 255"),
+            DecodeError::NoRoom => write!(f, "the area is shorter than the bytes"),
+        }
+    }
 }
 
-// Are all units bytes? The loop has no way out, so that the machine tests many at once.
+impl Error for DecodeError {}
+
+// Are all units bytes? The fold has no way out, so that the machine tests many at once.
 fn all_bytes(units: &[u16]) -> bool
     ensures { result ≡ true → first_above255 units.now ≡ none }
 {
-    let mut all: u16 = 0;
-    let mut i = 0;
-    while i < units.len() {
-        all |= units[i];
-        i += 1;
-    }
-    all < 256
+    units.iter().fold(0, |all, unit| all | *unit) < 256
 }
 
 // The first, in order, of the units above 255.
-pub fn first_above_255(units: &[u16]) -> Above
+pub fn first_above_255(units: &[u16]) -> Option<u16>
     ensures { result ≡ above_of (first_above255 units.now) }
 {
-    if all_bytes(&*units) {
-        return Above::Nothing;
+    if all_bytes(units) {
+        return None;
     }
-    let mut i = 0;
-    while i < units.len() {
-        let unit = units[i];
-        if 255 < unit {
-            return Above::Unit(unit);
-        }
-        i += 1;
-    }
-    Above::Nothing
+    units.iter().copied().find(|unit| 255 < *unit)
 }
 
 // Units that are bytes, to the area's front.
@@ -67,10 +61,8 @@ fn copy_bytes(units: &[u16], area: &mut [u8])
     requires { (first_above255 units.now ≡ none) × (length units.now ≤ length area.old) }
     ensures { area.new ≡ sets area.old 0 units.now }
 {
-    let mut i = 0;
-    while i < units.len() {
-        area[i] = units[i] as u8;
-        i += 1;
+    for (i, unit) in units.iter().enumerate() {
+        area[i] = *unit as u8;
     }
 }
 
@@ -78,7 +70,7 @@ fn copy_bytes(units: &[u16], area: &mut [u8])
 fn low_seven(unit: u16) -> u32
     ensures { result ≡ low_seven unit }
 {
-    (unit as u32 + 127) % 128
+    (u32::from(unit) + 127) % 128
 }
 
 // The old form's bytes, to the area's front. `buffer` holds the bits taken and not yet written: it is below `scale`, 2 to their number.
@@ -90,10 +82,8 @@ pub fn unpack(units: &[u16], area: &mut [u8])
     let mut buffer: u32 = 0;
     let mut scale: u32 = 1;
     let mut at = 0;
-    let mut i = 0;
-    while i < units.len() {
-        let taken = buffer + low_seven(units[i]) * scale;
-        i += 1;
+    for unit in units {
+        let taken = buffer + low_seven(*unit) * scale;
         if scale == 1 {
             buffer = taken;
             scale = 128;
@@ -102,7 +92,7 @@ pub fn unpack(units: &[u16], area: &mut [u8])
         area[at] = (taken % 256) as u8;
         at += 1;
         buffer = taken / 256;
-        scale = scale / 2;
+        scale /= 2;
     }
 }
 
@@ -115,33 +105,31 @@ pub fn put_unit(area: &mut [u16], at: usize, unit: u16)
     }
 }
 
-// The bytes of d1 at the area's front, or why there are none: then the area is untouched.
-pub fn decode(d1: &[u16], area: &mut [u8]) -> Decoded
+// The bytes of d1, at the area's front: how many. An error leaves the area untouched.
+pub fn decode(d1: &[u16], area: &mut [u8]) -> Result<usize, DecodeError>
     ensures { DecodeTold (limited d1.now) area.old area.new result }
 {
     if UNIT_LIMIT < d1.len() {
-        return Decoded::TooLong;
+        return Err(DecodeError::TooLong);
     }
-    if d1.len() == 0 {
-        return Decoded::Empty;
+    if d1.is_empty() {
+        return Err(DecodeError::Empty);
     }
-    if let Above::Unit(unit) = first_above_255(&*d1) {
-        return Decoded::NotAByte { unit };
+    if let Some(unit) = first_above_255(d1) {
+        return Err(DecodeError::NotAByte { unit });
     }
     if d1[0] == BYTE_STRING_MARKER {
         let bytes = &d1[1..];
         if area.len() < bytes.len() {
-            return Decoded::NoRoom;
+            return Err(DecodeError::NoRoom);
         }
         copy_bytes(bytes, area);
-        return Decoded::Bytes {
-            length: bytes.len(),
-        };
+        return Ok(bytes.len());
     }
     let length = 7 * d1.len() / 8;
     if area.len() < length {
-        return Decoded::NoRoom;
+        return Err(DecodeError::NoRoom);
     }
-    unpack(&*d1, area);
-    Decoded::Bytes { length }
+    unpack(d1, area);
+    Ok(length)
 }

@@ -1,7 +1,7 @@
 // Some inputs of `decode`, a line each: the bytes in hex ("-" if there are none), or document 01's number and detail, or "room".
 #![tactic(auto)]
 
-use encoding::Decoded;
+use encoding::DecodeError;
 use std::io;
 
 fn write_byte(rt: &impl Print, byte: u8) -> io::Result<()> {
@@ -16,18 +16,17 @@ fn write_bytes(rt: &impl Print, bytes: &[u8]) -> io::Result<()> {
 }
 
 fn write_answer(rt: &impl Print, d1: &[u16], area: &mut [u8]) -> io::Result<()> {
-    let answer = encoding::decode(d1, area);
-    match answer {
-        Decoded::Bytes { length } => {
+    match encoding::decode(d1, area) {
+        Ok(length) => {
             if length == 0 {
                 print!(rt; "-")?;
             }
             write_bytes(rt, &area[..length])?;
         }
-        Decoded::TooLong => print!(rt; "1")?,
-        Decoded::Empty => print!(rt; "5")?,
-        Decoded::NotAByte { unit } => print!(rt; "6 {unit:04x}")?,
-        Decoded::NoRoom => print!(rt; "room")?,
+        Err(DecodeError::TooLong) => print!(rt; "1")?,
+        Err(DecodeError::Empty) => print!(rt; "5")?,
+        Err(DecodeError::NotAByte { unit }) => print!(rt; "6 {unit:04x}")?,
+        Err(DecodeError::NoRoom) => print!(rt; "room")?,
     }
     println!(rt)
 }

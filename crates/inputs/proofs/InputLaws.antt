@@ -64,10 +64,6 @@ module _ {whole : Bool} (ends : List ℕ) (units at i : ℕ) where
   seen-over true h f e = cc
   seen-over false h f e = e ∙ ends-over ends units at i h
 
-pub seen_fallen : {whole : Bool} (other falls : Bool) → falls ≡ true → whole ≡ (if falls then false else other) → whole ≡ false
-seen_fallen other true f e = e
-seen_fallen other false f e = cc
-
 -- A number of mv, read from its bits.
 pub major-read : (mv : List ℤ) (b : Bool) → mag (get_or mv 0 (pos 0)) < 2 ^ 31 → lt_z supported_major (to_z w32 (of_z w32 (get_or mv 0 (pos 0)))) ≡ b
     → lt_z supported_major (get_or mv 0 (pos 0)) ≡ b

@@ -17,19 +17,12 @@ const STRING_LIMIT: usize = 4096;
 const SUPPORTED_MAJOR: i32 = 2;
 
 // Refusals 1 to 4.
-#[derive(Clone, Copy)]
+#[derive(Clone, Copy, Debug, PartialEq, Eq)]
 pub enum Fault {
     D1TooLong,
     D2TooLong,
     StringEnds,
     NewerVersion,
-}
-
-// What is found of an input before its payload is looked at.
-#[derive(Clone, Copy)]
-pub enum Inspected {
-    Faulty { fault: Fault },
-    Sound,
 }
 
 // The metadata kind, 1 to 5; another k counts as 1.
@@ -51,51 +44,31 @@ fn ends_fit(ends: &[u32], count: usize) -> bool
 {
     let mut at: u32 = 0;
     let mut falls = false;
-    let mut i = 0;
-    while i < ends.len() {
-        let last = at;
-        at = ends[i];
-        i += 1;
-        if at < last {
+    for end in ends {
+        if *end < at {
             falls = true;
         }
+        at = *end;
     }
-    if falls {
-        return false;
-    }
-    wide(at) == count
+    !falls && wide(at) == count
 }
 
-// The first of refusals 1 to 4 that is due.
-pub fn fault_of(d1: &[u16], d2: &[u16], ends: &[u32], version: [i32; 3]) -> Inspected
+// The first of refusals 1 to 4 that is due, if one is.
+pub fn fault_of(d1: &[u16], d2: &[u16], ends: &[u32], version: [i32; 3]) -> Result<(), Fault>
     ensures { (k : ℤ) → fault_of (input k version d1.now d2.now ends.now) ≡ fault_told result }
 {
     if UNIT_LIMIT < d1.len() {
-        return Inspected::Faulty {
-            fault: Fault::D1TooLong,
-        };
+        return Err(Fault::D1TooLong);
     }
-    if UNIT_LIMIT < d2.len() {
-        return Inspected::Faulty {
-            fault: Fault::D2TooLong,
-        };
+    if UNIT_LIMIT < d2.len() || STRING_LIMIT < ends.len() {
+        return Err(Fault::D2TooLong);
     }
-    if STRING_LIMIT < ends.len() {
-        return Inspected::Faulty {
-            fault: Fault::D2TooLong,
-        };
-    }
-    if !ends_fit(&*ends, d2.len()) {
-        return Inspected::Faulty {
-            fault: Fault::StringEnds,
-        };
+    if !ends_fit(ends, d2.len()) {
+        return Err(Fault::StringEnds);
     }
     // compared as signed: a negative major is read
-    let major = version[0];
-    if SUPPORTED_MAJOR < major {
-        return Inspected::Faulty {
-            fault: Fault::NewerVersion,
-        };
+    if SUPPORTED_MAJOR < version[0] {
+        return Err(Fault::NewerVersion);
     }
-    Inspected::Sound
+    Ok(())
 }

@@ -72,6 +72,13 @@ went_on {t} {u} {r} w p =
 abbrev pub nothing : Taken
 nothing = record { counts = record { d1 = 0; d2 = 0; ends = 0 }; total = 0; kept = 0 }
 
+pub default_nothing : (t : Taken) → ((t.counts.d1 ≡ 0) × ((t.counts.d2 ≡ 0) × (t.counts.ends ≡ 0))) × ((t.total ≡ 0) × (t.kept ≡ 0)) → t ≡ nothing
+default_nothing t h = zeros t.counts.d1 t.counts.d2 t.counts.ends t.total t.kept h.0.0 h.0.1.0 h.0.1.1 h.1.0 h.1.1
+  where
+    zeros : (d1 d2 ends total kept : ℕ) → d1 ≡ 0 → d2 ≡ 0 → ends ≡ 0 → total ≡ 0 → kept ≡ 0
+        → ◌≡◌ {A = Taken} (record { counts = record { d1 = d1; d2 = d2; ends = ends }; total = total; kept = kept }) nothing
+    zeros d1 d2 ends total kept a b c d e = rw (a, b, c, d, e)
+
 abbrev pub all_kept : Taken → Taken
 all_kept t = record { counts = t.counts; total = t.total; kept = t.total }
 

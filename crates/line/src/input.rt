@@ -6,17 +6,11 @@ ghost use Rattle.line.specs.Input.{number_at, numbers_at, signed_of, input_end};
 ghost use Rattle.line.specs.told.Pieces.{byte_in, number_in_piece, counts_in, CountsFit};
 
 // How many units of d1, units of d2 and string ends are announced.
-#[derive(Clone, Copy)]
+#[derive(Clone, Copy, Default)]
 pub struct Counts {
     pub d1: usize,
     pub d2: usize,
     pub ends: usize,
-}
-
-fn wide(byte: u8) -> usize
-    ensures { result ≡ byte }
-{
-    byte as usize
 }
 
 // The byte at a place of the input, 0 if the piece doesn't hold it.
@@ -26,11 +20,10 @@ fn byte_in(piece: &[u8], base: usize, at: usize) -> usize
     if at < base {
         return 0;
     }
-    let i = at - base;
-    if piece.len() <= i {
-        return 0;
+    match piece.get(at - base) {
+        Some(&byte) => usize::from(byte),
+        None => 0,
     }
-    wide(piece[i])
 }
 
 // What the piece gives of a number in 2 bytes.
@@ -70,24 +63,14 @@ pub fn input_end(counts: Counts) -> usize
     28 + 2 * counts.d1 + 2 * counts.d2 + 4 * counts.ends
 }
 
-// A number of 4 bytes with its sign.
-fn signed(n: u32) -> i32
-    ensures { result ≡ signed_of n }
-{
-    if n < 2147483648 {
-        n as i32
-    } else {
-        -1 - (4294967295 - n) as i32
-    }
-}
-
 // The signed number at a place.
 // Callers show that the place can be added to: it is a written number.
 pub fn signed_at(bytes: &[u8], at: usize) -> i32
     requires { at < 2 ^ 50 }
     ensures { result ≡ signed_of (number_at 4 bytes.now at) }
 {
-    signed(four_in(bytes, 0, at) as u32)
+    let n = four_in(bytes, 0, at) as u32;
+    n.cast_signed()
 }
 
 // Units from a place on, as many as are announced and have room.
@@ -96,34 +79,23 @@ pub fn units_at(bytes: &[u8], at: usize, count: usize, units: &mut [u16]) -> usi
     requires { (at < 2 ^ 40) × (length units.old < 2 ^ 20) }
     ensures { (result ≡ min count (length units.old)) × (units.new ≡ sets units.old 0 (numbers_at 2 bytes.now at result)) }
 {
-    let mut place = at;
-    let mut i = 0;
-    while i < units.len() {
-        if count <= i {
-            return i;
-        }
-        units[i] = two_in(bytes, 0, place) as u16;
-        place += 2;
-        i += 1;
+    let size = count.min(units.len());
+    for i in 0..size {
+        units[i] = two_in(bytes, 0, at + 2 * i) as u16;
     }
-    i
+    size
 }
 
-// String ends from a place on, as many as are announced and have room.
+// String ends from a place on, as many as are announced and have room. Beside `units_at` it stands as it is: one function for both would take a
+// trait with a number's width, how it is read and the law of both, which is longer than the two.
 // Callers show that the place is a sum of counts of 4 bytes each, and that their own array is short.
 pub fn ends_at(bytes: &[u8], at: usize, count: usize, ends: &mut [u32]) -> usize
     requires { (at < 2 ^ 40) × (length ends.old < 2 ^ 20) }
     ensures { (result ≡ min count (length ends.old)) × (ends.new ≡ sets ends.old 0 (numbers_at 4 bytes.now at result)) }
 {
-    let mut place = at;
-    let mut i = 0;
-    while i < ends.len() {
-        if count <= i {
-            return i;
-        }
-        ends[i] = four_in(bytes, 0, place) as u32;
-        place += 4;
-        i += 1;
+    let size = count.min(ends.len());
+    for i in 0..size {
+        ends[i] = four_in(bytes, 0, at + 4 * i) as u32;
     }
-    i
+    size
 }

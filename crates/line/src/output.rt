@@ -1,5 +1,5 @@
 // The line that the program prints, written into an area: number and detail in decimal, sheet and text in hex. A write past the area's end is
-// left out.
+// left out, and the place after it counted all the same: `fmt::Write` could tell neither.
 ghost use Rattle.std.specs.Prelude.{◌≡◌, false, ◌+◌, ◌^◌, ◌<◌, length};
 ghost use Rattle.std.specs.Fmt.{digit_glyph};
 ghost use Rattle.line.specs.Line.{decimal, hex_of, part_of, line_of};
@@ -22,7 +22,11 @@ fn glyph(digit: u8) -> u8
     requires { digit < 16 }
     ensures { result ≡ digit_glyph false digit }
 {
-    if digit < 10 { 48 + digit } else { 87 + digit }
+    if digit < 10 {
+        b'0' + digit
+    } else {
+        b'a' + (digit - 10)
+    }
 }
 
 fn put_hex(area: &mut [u8], at: usize, bytes: &[u8]) -> usize
@@ -30,13 +34,10 @@ fn put_hex(area: &mut [u8], at: usize, bytes: &[u8]) -> usize
     ensures { Wrote (hex_of bytes.now) at result area.old area.new }
 {
     let mut place = at;
-    let mut i = 0;
-    while i < bytes.len() {
-        let byte = bytes[i];
+    for &byte in bytes {
         sheet::put(area, place, glyph(byte / 16));
         sheet::put(area, place + 1, glyph(byte % 16));
         place += 2;
-        i += 1;
     }
     place
 }
@@ -46,9 +47,9 @@ fn put_part(area: &mut [u8], at: usize, bytes: &[u8]) -> usize
     requires { (at < 2 ^ 59) × (length bytes.now < 2 ^ 60) }
     ensures { Wrote (part_of bytes.now) at result area.old area.new }
 {
-    sheet::put(area, at, 0x20);
-    if bytes.len() == 0 {
-        sheet::put(area, at + 1, 0x2d);
+    sheet::put(area, at, b' ');
+    if bytes.is_empty() {
+        sheet::put(area, at + 1, b'-');
         return at + 2;
     }
     put_hex(area, at + 1, bytes)
@@ -61,10 +62,10 @@ pub fn put_line(area: &mut [u8], number: u64, detail: u64, sheet: &[u8], text: &
     ensures { Wrote (line_of number detail sheet.now text.now) 0 result area.old area.new }
 {
     let after_number = put_decimal(area, 0, number);
-    sheet::put(area, after_number, 0x20);
+    sheet::put(area, after_number, b' ');
     let after_detail = put_decimal(area, after_number + 1, detail);
     let after_sheet = put_part(area, after_detail, sheet);
     let after_text = put_part(area, after_sheet, text);
-    sheet::put(area, after_text, 0x0a);
+    sheet::put(area, after_text, b'\n');
     after_text + 1
 }

@@ -8,18 +8,15 @@ ghost use Rattle.line.specs.told.Taken.{kept_limit, Begun, PieceGiven, PassedGiv
 use crate::input::{Counts, counts_in};
 use std::io::Read;
 
+// How much is kept: 28 bytes of numbers and counts, 32,768 units of d1 and of d2, and 4,096 ends.
+pub const KEPT: usize = 147484;
+
 // What was read: the counts, how many bytes, and how many of them are kept.
-#[derive(Clone, Copy)]
+#[derive(Clone, Copy, Default)]
 pub struct Taken {
     pub counts: Counts,
     pub total: usize,
     pub kept: usize,
-}
-
-fn least(a: usize, b: usize) -> usize
-    ensures { (result ≤ a) × (result ≤ b) }
-{
-    if a < b { a } else { b }
 }
 
 // Reads until the area is full or the reader's bytes end; a read that fails ends them too. Answers how many bytes stand at the area's beginning:
@@ -32,9 +29,8 @@ pub fn read_full<R: Read>(reader: &mut R, area: &mut [u8]) -> usize
     let mut done = 0;
     while done < area.len() {
         match reader.read(&mut area[done..]) {
-            Ok(0) => return done,
+            Ok(0) | Err(_) => return done,
             Ok(count) => done += count,
-            Err(_) => return done,
         }
     }
     done
@@ -46,13 +42,10 @@ fn take_piece<R: Read>(reader: &mut R, area: &mut [u8], taken: Taken) -> Taken
     ensures { PieceGiven (R.remaining reader.old) (R.remaining reader.new) area.new taken result }
 {
     let size = read_full(reader, area);
-    let base = taken.total;
-    let so_far = taken.counts;
-    let counts = counts_in(&area[..size], base, so_far);
     Taken {
-        counts,
-        total: base + size,
-        kept: taken.kept,
+        counts: counts_in(&area[..size], taken.total, taken.counts),
+        total: taken.total + size,
+        ..taken
     }
 }
 
@@ -62,7 +55,7 @@ fn pass_piece<R: Read>(reader: &mut R, room: usize, taken: Taken) -> Taken
     ensures { PassedGiven (R.remaining reader.old) (R.remaining reader.new) room taken result }
 {
     let mut buffer = [0u8; 65536];
-    let size = least(room, 65536);
+    let size = room.min(65536);
     take_piece(reader, &mut buffer[..size], taken)
 }
 
@@ -84,30 +77,18 @@ fn pass_rest<R: Read>(reader: &mut R, limit: usize, first: Taken) -> Taken
 }
 
 // Reads an input of at most `limit` bytes and keeps its beginning.
-// Callers show that the area has the size of what is kept, by its type, and that places fit 64 bits: answer_lines asks that of its own callers.
-pub fn take_input<R: Read>(reader: &mut R, area: &mut [u8], limit: usize) -> Taken
-    requires { (length area.old ≡ kept_limit) × (limit ≤ 2 ^ 40) }
+// Callers show that places fit 64 bits: answer_lines asks that of its own callers.
+pub fn take_input<R: Read>(reader: &mut R, area: &mut [u8; KEPT], limit: usize) -> Taken
+    requires { limit ≤ 2 ^ 40 }
     ensures { TookGiven (R.remaining reader.old) (R.remaining reader.new) area.new result }
 {
-    let nothing = Taken {
-        counts: Counts {
-            d1: 0,
-            d2: 0,
-            ends: 0,
-        },
-        total: 0,
-        kept: 0,
-    };
-    let most = least(limit, area.len());
-    let first = take_piece(reader, &mut area[..most], nothing);
-    let size = first.total;
-    let counts = first.counts;
+    let most = limit.min(KEPT);
+    let first = take_piece(reader, &mut area[..most], Taken::default());
     let begun = Taken {
-        counts,
-        total: size,
-        kept: size,
+        kept: first.total,
+        ..first
     };
-    if size < 147484 {
+    if begun.total < KEPT {
         return begun;
     }
     pass_rest(reader, limit, begun)

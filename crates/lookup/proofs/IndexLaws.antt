@@ -1,10 +1,10 @@
 -- The record that serves an index, found among running sums; the strings of d2 by their ends.
 -- Assumes nothing.
 use mathlib.Core.Path.{◌≡◌, refl, ap, sym, ◌∙◌, subst}
-use mathlib.Core.Bool.{true, false}
+use mathlib.Core.Bool.{true}
 use mathlib.Core.List.{List, [], ◌∷◌}
 use mathlib.Core.Option.{Option, none, some}
-use Prim.Native.Nat.{ℕ, zero, suc, ◌+◌, ◌-◌, ◌*◌, ◌/◌, ◌≤◌, ◌<◌}
+use Prim.Native.Nat.{ℕ, zero, suc, ◌+◌, ◌-◌, ◌*◌, ◌≤◌, ◌<◌}
 use native.Mathlib.Nat.{le_refl, zero-add}
 use native.Mathlib.Omega.{arith}
 use borrow.Author.Tests.{lt-ltb, le-ltb, leb-true}
@@ -16,7 +16,6 @@ use Rattle.characters.specs.told.Places.{part_from}
 use Rattle.names.specs.Records.{Record}
 use Rattle.names.specs.Names.{record_at, strings_from, ends_fit}
 use Rattle.names.specs.told.Index.{sums_from, ranges_of, served_from, Sums}
-use Rattle.lookup.specs.told.Lookups.{ServesTold}
 
 length-ranges : (rs : List Record) → length (ranges_of rs) ≡ length rs
 length-ranges [] = refl
@@ -57,37 +56,16 @@ unfolding served_from
 first-at notes zero h = absurd (omega arith)
 first-at notes (suc k) h = let e : 3 * k + 2 ≡ 3 * suc k - 1 = omega arith in ap (λ (n : ℕ). get_or notes n 0) e
 
+pub records-there : (notes : List ℕ) (count index : ℕ) → index < served_from notes count → 0 < count
+unfolding served_from
+records-there notes zero index h = absurd (omega arith)
+records-there notes (suc k) index h = omega arith
+
 pub first-least : (notes : List ℕ) (n : ℕ) → served_from notes 0 ≤ n
 unfolding served_from
 first-least notes n = omega arith
 
--- Whether a record serves an index, as the code tests it.
-pub serves_not : {A : Type 0} → false ≡ true → A
-serves_not e = let z : ◌≡◌ {A = ℕ} 0 1 = cc in absurd (omega arith)
-
-module _ (notes : List ℕ) (count k index : ℕ) (h : k < count) where
-  pub serves-first : k ≡ 0 → index < get_or notes (3 * k + 2) 0 → ServesTold notes count k index
-  unfolding served_from
-  serves-first e l = (h, subst (λ (n : ℕ). served_from notes n ≤ index) (sym e) (omega arith), l)
-
-  pub serves-later : (k ≡ 0 → ⊥) → index < get_or notes (3 * k + 2) 0 → leb (get_or notes (3 * k - 1) 0) index ≡ true → ServesTold notes count k index
-  unfolding served_from
-  serves-later n l e =
-      let f = first-at notes k (omega arith) in
-      (h, subst (λ (x : ℕ). x ≤ index) (sym f) (leb-true (get_or notes (3 * k - 1) 0) index e), l)
-
 module _ (notes : List ℕ) (count index : ℕ) (records : List Record) (sums : Sums notes count records) where
-  pub no-sums : length notes / 3 < count → record_at index records ≡ none
-  no-sums h = absurd (omega (arith, sums.long))
-
-  pub no-records : count ≡ 0 → record_at index records ≡ none
-  unfolding record_at
-  no-records h = go records (sums.many ∙ h)
-    where
-      go : (rs : List Record) → length rs ≡ 0 → record_at index rs ≡ none
-      go [] e = refl
-      go (r ∷ rs) e = absurd (omega arith)
-
   pub past_all : served_from notes count ≤ index → record_at index records ≡ none
   past_all h =
       served_none 0 index records

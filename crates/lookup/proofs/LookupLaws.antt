@@ -19,17 +19,15 @@ use Rattle.names.specs.Records.{decides}
 use Rattle.names.specs.Names.{Names, record_at, strings_from, d2_string, string, qualified_name}
 use Rattle.names.specs.told.Name.{source_text, sized, turned, name_text, absent_name}
 use Rattle.names.specs.told.Index.{start_of, end_of, IndexOf}
-use Rattle.lookup.specs.told.Lookups.{found_in, FoundBelow, FindTold, looked_up, NotesOf, WordsAt, DecidedIs, DecidedTold}
-use Rattle.record_names.specs.told.Named.{NamedIs, ClassIs, NoteTold}
-use Rattle.record_names.specs.told.Note.{noted, noted_class, noted_as}
+use Rattle.lookup.specs.told.Lookups.{found_in, FoundBelow, FindTold, NotesOf, NotedWords, DecidedIs, DecidedTold}
+use Rattle.record_names.specs.told.Named.{NamedIs, ClassIs}
+use Rattle.record_names.specs.told.Note.{noted, noted_class}
 use Rattle.record_names.specs.told.Steps.{extent_of}
 use Rattle.names.specs.declared.name.Name.{Name}
-use Rattle.lookup.specs.declared.Served.{Served}
-use Rattle.lookup.specs.declared.Served.TheVariants as found
-use Rattle.record_names.specs.declared.Decided.{Decided}
-use Rattle.record_names.specs.declared.Decided.TheVariants as decided
-use Rattle.record_names.specs.declared.Extent.{Extent}
-use Rattle.record_names.specs.declared.Extent.TheVariants as extent
+use Rattle.record_names.specs.declared.note.Words.{Words}
+use Rattle.foundation.specs.declared.Span.{Span}
+use Rattle.std.specs.Prelude.{Some, None}
+use Rattle.std.specs.declared.option.Option as rust
 use Rattle.names.proofs.FittedLaws.{sized-is}
 use Rattle.lookup.specs.told.Strings.{SizeOf}
 use Rattle.record_names.proofs.PartLaws.{same-substituted}
@@ -40,75 +38,68 @@ elem_some (x ∷ l) zero h = (x, refl)
 elem_some (x ∷ l) (suc k) h = elem_some l k (omega arith)
 
 -- A part of d2 as a name.
-module _ (payload units ends : List ℕ) (index : ℕ) {r : Extent} (e : get_elem? (strings_from 0 ends units) index ≡ extent_of units r) where
-  pub d2-absent : r ≡ extent.Nothing → {n : Name} → n ≡ absent_name → d2_string (strings_from 0 ends units) index ≡ ok (name_text payload units n)
+module _ (payload units ends : List ℕ) (index : ℕ) {r : rust.Option Span} (e : get_elem? (strings_from 0 ends units) index ≡ extent_of units r) where
+  pub d2-absent : r ≡ None → {n : Name} → n ≡ absent_name → d2_string (strings_from 0 ends units) index ≡ ok (name_text payload units n)
   unfolding d2_string name_text source_text
   d2-absent g q = rw (q, e, g)
 
-  pub d2-named : {start end : ℕ} → r ≡ extent.Part start end → (size : ℕ) → SizeOf units ends index size
+  pub d2-named : {p : Span} → r ≡ Some p → (size : ℕ) → SizeOf units ends index size
       → d2_string (strings_from 0 ends units) index
-      ≡ ok (name_text payload units (record { source = 3; start = start; end = end; from = 0; to = 0; operation = 0; qualified = false; size = size }))
+      ≡ ok (name_text payload units (record { source = 3; start = p.start; end = p.end; from = 0; to = 0; operation = 0; qualified = false; size = size }))
   unfolding d2_string name_text source_text turned
-  d2-named {start} {end} g size z =
-      let t = from_utf16 (part_from start end units) in
-      let h : (size ≡ 0 → ⊥) → size ≡ length (utf8 t) = λ n. z n (part_from start end units) (e ∙ ap (extent_of units) g) in
+  d2-named {p} g size z =
+      let t = from_utf16 (part_from p.start p.end units) in
+      let h : (size ≡ 0 → ⊥) → size ≡ length (utf8 t) = λ n. z n (part_from p.start p.end units) (e ∙ ap (extent_of units) g) in
       rw (e, g) (ap (λ (t : Text). ok (some t)) (sym (sized-is size t h) ∙ ap (sized size) (sym (same-substituted t))))
 
--- The look-up.
-module _ (bytes notes : List ℕ) (count : ℕ) (records : List definition.Record) (i : NotesOf bytes notes count records) (d2 : ℕ → Res (Option Text))
-    (index : ℕ) {f : Served} (t : FindTold notes count index f) where
-  abbrev names : Names
-  names = record { records = records; d2 = d2 }
+-- The look-up: the words of the record that serves.
+module _ (notes : List ℕ) (count index : ℕ) {f : rust.Option ℕ} (t : FindTold notes count index f) where
+  pub words-none : f ≡ None → NotedWords notes count index None
+  words-none g bytes records i = t.is records i.sums ∙ ap (found_in records) g
 
-  pub string-none : f ≡ found.Nothing → {x : Res (Option Text)} → d2 index ≡ x → string names index ≡ x
+  pub words-inside : {k : ℕ} → f ≡ Some k → k < count
+  words-inside g = subst (FoundBelow count) g t.below
+
+  pub words-some : {k : ℕ} → f ≡ Some k → NotedWords notes count index (Some record { place = get_or notes (3 * k) 0; steps = get_or notes (3 * k + 1) 0 })
+  words-some {k} g bytes records i =
+      let h : k < count = words-inside g in
+      let one = elem_some records k (omega (arith, i.sums.many)) in
+      (one.0, t.is records i.sums ∙ ap (found_in records) g ∙ one.1, i.each k one.0 one.1)
+
+-- What they say of its name, and of its class name.
+module _ (notes : List ℕ) (count index : ℕ) where
+  pub by-none : (class : Bool) → NotedWords notes count index None → DecidedTold notes count index class None
   unfolding string
-  string-none g e = rw (t.is records i.sums ∙ ap (found_in records) g) e
+  by-none class w bytes units records d2 i = rw (w bytes records i)
 
-  module _ {k : ℕ} (g : f ≡ found.Record k) where
-    below : k < length records
-    below = let h = subst (FoundBelow count) g t.below in omega (arith, i.sums.many)
-
-    one : (r : definition.Record) × (get_elem? records k ≡ some r)
-    one = elem_some records k below
-
-    abbrev the : definition.Record
-    the = one.0
-
-    at : record_at index records ≡ some the
-    at = t.is records i.sums ∙ ap (found_in records) g ∙ one.1
-
-    stands : NoteTold bytes the (get_or notes (3 * k) 0) (get_or notes (3 * k + 1) 0)
-    stands = i.each k the one.1
-
-    named : (units : List ℕ) (r : Decided) → NamedIs bytes units the r → DecidedIs bytes units false names index r
+  module _ {w : Words} (t : NotedWords notes count index (Some w)) where
+    named : (bytes units : List ℕ) (names : Names) (r : definition.Record) (d : rust.Option Name) → record_at index names.records ≡ some r
+        → NamedIs bytes units r d → DecidedIs bytes units false names index d
     unfolding string
-    named units (decided.Yes name) h = rw (at, h.0) (ap ok h.1)
-    named units decided.No h = rw (at, h)
+    named bytes units names r (Some name) e h = rw (e, h.0) (ap ok h.1)
+    named bytes units names r None e h = rw (e, h)
 
-    class-named : (units : List ℕ) (r : Decided) → ClassIs bytes units the r → DecidedIs bytes units true names index r
+    class-named : (bytes units : List ℕ) (names : Names) (r : definition.Record) (d : rust.Option Name) → record_at index names.records ≡ some r
+        → ClassIs bytes units r d → DecidedIs bytes units true names index d
     unfolding string qualified_name
-    class-named units (decided.Yes name) h = rw (at, h.0) (ap ok h.1)
-    class-named units decided.No h = rw (at, h)
+    class-named bytes units names r (Some name) e h = rw (e, h.0) (ap ok h.1)
+    class-named bytes units names r None e h = rw (e, h)
 
-    pub by-noted : (units : List ℕ) (class : Bool) {r : Decided} → WordsAt notes k class r → DecidedIs bytes units class names index r
-    by-noted units class {r} w =
-        let m = i.sums.many in
-        let b = below in
-        let e = w (omega (arith, i.sums.long)) in
-        subst (DecidedIs bytes units class names index) (sym e) (go class)
-      where
-        go : (c : Bool) → DecidedIs bytes units c names index (noted_as c (get_or notes (3 * k) 0) (get_or notes (3 * k + 1) 0))
-        go true = class-named units (noted_class (get_or notes (3 * k) 0) (get_or notes (3 * k + 1) 0)) (stands.class units)
-        go false = named units (noted (get_or notes (3 * k) 0) (get_or notes (3 * k + 1) 0)) (stands.is units)
+    pub by-name : {d : rust.Option Name} → d ≡ noted w.place w.steps → DecidedTold notes count index false d
+    by-name g bytes units records d2 i =
+        let r = t bytes records i in
+        rw g (named bytes units (record { records = records; d2 = d2 }) r.0 (noted w.place w.steps) r.1 (r.2.is units))
+
+    pub by-class : {d : rust.Option Name} → d ≡ noted_class w.place w.steps → DecidedTold notes count index true d
+    by-class g bytes units records d2 i =
+        let r = t bytes records i in
+        rw g (class-named bytes units (record { records = records; d2 = d2 }) r.0 (noted_class w.place w.steps) r.1 (r.2.class units))
 
 -- By whether a record decides.
-module _ (bytes notes : List ℕ) (count index : ℕ) (class : Bool) (r : Decided) (t : DecidedTold notes count index class r)
+module _ (bytes notes : List ℕ) (count index : ℕ) (class : Bool) (r : rust.Option Name) (t : DecidedTold notes count index class r)
     (units : List ℕ) (records : List definition.Record) (d2 : ℕ → Res (Option Text)) (i : NotesOf bytes notes count records) where
-  pub decided-no : r ≡ decided.No → string (record { records = records; d2 = d2 }) index ≡ d2 index
+  pub decided-no : r ≡ None → string (record { records = records; d2 = d2 }) index ≡ d2 index
   decided-no g = subst (DecidedIs bytes units class (record { records = records; d2 = d2 }) index) g (t bytes units records d2 i)
-
-  pub decided-yes : {name : Name} → r ≡ decided.Yes name → looked_up class (record { records = records; d2 = d2 }) index ≡ ok (name_text bytes units name)
-  decided-yes g = subst (DecidedIs bytes units class (record { records = records; d2 = d2 }) index) g (t bytes units records d2 i)
 
 -- The index of the bytes up to some place is one of them all.
 pub part_longer : (bytes : List ℕ) (n start end : ℕ) → start ≤ end → end ≤ length (take n bytes) → part_from start end (take n bytes) ≡ part_from start end bytes

@@ -5,13 +5,12 @@ use mathlib.Core.Bool.{Bool, true, false, ◌&&◌, ◌||◌}
 use mathlib.Core.List.{List, [], ◌∷◌, ◌++◌}
 use mathlib.Core.Option.{Option, some}
 use Prim.Native.Nat.{ℕ, suc, ◌+◌, ◌-◌, ◌≤◌, ◌<◌}
-use native.Mathlib.Nat.{le_refl}
 use native.Mathlib.Omega.{arith}
 use borrow.Author.Tests.{ne_eqb, eqb-true, eqb-false}
 use lib.Dec.{eqb}
 use lib.ListN.{length, take, drop, get_or, get_elem?, length-drop}
 use lib.Seq.{take-suc, get_or-drop}
-use Rattle.std.specs.Prelude.{if◌then◌else◌}
+use Rattle.std.specs.Prelude.{if◌then◌else◌, Some, None}
 use Rattle.foundation.specs.Results.{Res, ok, ◌>>=◌}
 use Rattle.foundation.specs.Texts.{Text}
 use Rattle.characters.specs.Characters.{utf8, from_utf16, is_high, is_low, lone, pair}
@@ -27,9 +26,8 @@ use Rattle.record_names.specs.told.ClassNames.{class_text}
 use Rattle.record_names.specs.told.Note.{class_size}
 use Rattle.lookup.specs.told.Strings.{SizeOf}
 use Rattle.names.specs.declared.name.Name.{Name}
-use Rattle.record_names.specs.declared.Extent.{Extent}
-use Rattle.record_names.specs.declared.Extent.TheVariants as extent
-use Rattle.names.proofs.NameLaws.{part-rest}
+use Rattle.foundation.specs.declared.Span.{Span}
+use Rattle.std.specs.declared.option.Option as rust
 use Rattle.names.proofs.FittedLaws.{sized-is}
 use Rattle.record_names.proofs.PartLaws.{same-substituted}
 use Rattle.record_names.proofs.UnwrapLaws.{unwrap-first, unwrap-alone, unwrap-last, unwrap-both, between-size}
@@ -141,20 +139,20 @@ module _ (l : List ℕ) (start end : ℕ) where
         no = λ e. unclosed (eqb-false (get_or l (end - 1) 0) 0x3b e);
       }
 
-pub clipped_is : (l : List ℕ) (end : ℕ) → length l < end → ClippedTold l end (length l)
-clipped_is l end h = record { inside = le_refl (length l); same = λ start. sym (part-rest l start end (omega arith)) }
-
 -- The class name of a string of d2.
-module _ (payload units ends : List ℕ) (index : ℕ) {r : Extent} (e : get_elem? (strings_from 0 ends units) index ≡ extent_of units r) where
-  pub class-none : r ≡ extent.Nothing → {n : Name} → n ≡ absent_name
+module _ (payload units ends : List ℕ) (index : ℕ) {r : rust.Option Span} (e : get_elem? (strings_from 0 ends units) index ≡ extent_of units r) where
+  pub class-none : r ≡ None → {n : Name} → n ≡ absent_name
       → (d2_string (strings_from 0 ends units) index >>= λ t. ok (class_text t)) ≡ ok (name_text payload units n)
   unfolding d2_string name_text source_text
   class-none g q = rw (q, e, g)
 
-  module _ {start limit : ℕ} (g : r ≡ extent.Part start limit) {end : ℕ} (c : ClippedTold units limit end) where
+  module _ {p : Span} (g : r ≡ Some p) {end : ℕ} (c : ClippedTold units p.end end) where
+    abbrev start : ℕ
+    start = p.start
+
     -- the size that is noted of the string
     sized-part : {size : ℕ} → SizeOf units ends index size → (size ≡ 0 → ⊥) → size ≡ length (utf8 (from_utf16 (part_from start end units)))
-    sized-part z n = z n (part_from start limit units) (e ∙ ap (extent_of units) g) ∙ ap (λ (us : List ℕ). length (utf8 (from_utf16 us))) (c.same start)
+    sized-part z n = z n (part_from start p.end units) (e ∙ ap (extent_of units) g) ∙ ap (λ (us : List ℕ). length (utf8 (from_utf16 us))) (c.same start)
 
     class-units : (a b size : ℕ) → unwrapped (from_utf16 (part_from start end units)) ≡ from_utf16 (part_from a b units)
         → ((size ≡ 0 → ⊥) → size ≡ length (utf8 (from_utf16 (part_from a b units))))

@@ -10,18 +10,16 @@ ghost use Rattle.lookup.specs.told.Qualified.{ClippedTold, WrappedTold, units_na
 ghost use Rattle.lookup.specs.told.Strings.{SizesOf};
 
 use crate::strings::size_at;
-use crate::{by_record, d2_extent};
+use crate::{class_by_record, d2_extent};
+use foundation::Span;
 use names::name::{Name, absent};
 use record_names::note::class_size;
-use record_names::{Decided, Extent};
+use record_names::plain;
 
 fn clipped(units: &[u16], end: usize) -> usize
     ensures { ClippedTold units.now end result }
 {
-    if units.len() < end {
-        return units.len();
-    }
-    end
+    end.min(units.len())
 }
 
 // Do the units begin with L and end with ;?
@@ -29,17 +27,10 @@ fn is_wrapped(units: &[u16], start: usize, end: usize) -> bool
     requires { end ≤ length units.now }
     ensures { WrappedTold units.now start end result }
 {
-    if end <= start {
-        return false;
+    if start < end && start < end - 1 && units[start] == 0x4c {
+        return units[end - 1] == 0x3b;
     }
-    let last = end - 1;
-    if last <= start {
-        return false;
-    }
-    if units[start] != 0x4c {
-        return false;
-    }
-    units[last] == 0x3b
+    false
 }
 
 // A class name made of units of d2.
@@ -47,14 +38,9 @@ fn units_name(start: usize, end: usize, size: usize) -> Name
     ensures { result ≡ units_name start end size }
 {
     Name {
-        source: 3,
-        start,
-        end,
-        from: 0,
-        to: 0,
-        operation: 0,
         qualified: true,
         size,
+        ..plain(3, Span { start, end })
     }
 }
 
@@ -62,13 +48,13 @@ fn units_name(start: usize, end: usize, size: usize) -> Name
 fn qualified_units(notes: &[u64], units: &[u16], ends: &[u32], index: u32) -> Name
     ensures { SizesOf units.now ends.now notes.now → QualifiedUnits units.now ends.now index result }
 {
-    let extent = d2_extent(&*ends, index);
-    let Extent::Part { start, end: limit } = extent else {
+    let Some(part) = d2_extent(ends, index) else {
         return absent();
     };
-    let end = clipped(&*units, limit);
-    let size = size_at(&*notes, index, start, limit);
-    if is_wrapped(&*units, start, end) {
+    let start = part.start;
+    let end = clipped(units, part.end);
+    let size = size_at(notes, index, part);
+    if is_wrapped(units, start, end) {
         return units_name(start + 1, end - 1, class_size(size, start, start + 1));
     }
     units_name(start, end, size)
@@ -85,9 +71,8 @@ pub fn qualified_name(
 ) -> Name
     ensures { (records : List Record) → ends_fit 0 ends.now (length units.now) ≡ true → SizesOf units.now ends.now notes.now → NotesOf bytes.now notes.now count records → qualified_name (record { records = records; d2 = d2_string (strings_from 0 ends.now units.now) }) index ≡ ok (name_text bytes.now units.now result) }
 {
-    let answer = by_record(&*notes, count, index, true);
-    let Decided::Yes { name } = answer else {
-        return qualified_units(&*notes, &*units, &*ends, index);
-    };
-    name
+    match class_by_record(notes, count, index) {
+        Some(name) => name,
+        None => qualified_units(notes, units, ends, index),
+    }
 }

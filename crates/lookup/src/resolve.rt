@@ -7,18 +7,17 @@ ghost use Rattle.lookup.specs.told.Resolved.{OneTold};
 
 use crate::place_of;
 use names::records::RECORD_WORDS;
-use record_names::{Extent, record_words};
+use record_names::record_words;
 
 // Puts what record `at` builds in place of where it stands.
 fn resolve_one(bytes: &[u8], notes: &mut [u64], at: usize)
     requires { length bytes.now < 65536 }
     ensures { OneTold bytes.now notes.old notes.new at }
 {
-    let place = place_of(&*bytes, &*notes, at);
-    let Extent::Part { start, end } = place else {
+    let Some(place) = place_of(bytes, notes, at) else {
         return;
     };
-    let words = record_words(&*bytes, start, end);
+    let words = record_words(bytes, place);
     let i = RECORD_WORDS * at;
     notes[i] = words.place;
     notes[i + 1] = words.steps;
@@ -32,9 +31,7 @@ pub fn resolve(bytes: &[u8], notes: &mut [u64], count: usize)
     if 65535 < bytes.len() {
         return;
     }
-    let mut i = 0;
-    while i < count {
-        resolve_one(&*bytes, notes, i);
-        i += 1;
+    for at in 0..count {
+        resolve_one(bytes, notes, at);
     }
 }

@@ -6,50 +6,47 @@ ghost use Rattle.lookup.specs.told.Strings.{sizes_from, Keeps, SizeOf, SizesOf, 
 use crate::codes::sizes_from;
 use crate::d2_extent;
 use characters::measure::utf8_size;
-use foundation::wide;
-use record_names::Extent;
+use foundation::Span;
 
 // A string of d2 of so many units is long: at most 32 are.
 const LONG: usize = 1024;
 
-// The size that is noted of the string with an index; 0 where none is.
+// The size that is noted of the string with an index; 0 where none is, as in `Name`.
 fn noted_size(notes: &[u64], index: u32) -> usize
     ensures { (units ends : List ℕ) → SizesOf units ends notes.now → SizeOf units ends index result }
 {
-    let wanted = index as u64;
-    let mut i = sizes_from(notes.len());
-    while i < notes.len() {
-        let word = notes[i];
-        if word % 65536 == wanted {
-            return (word / 65536) as usize;
+    let wanted = u64::from(index);
+    for word in &notes[sizes_from(notes.len())..] {
+        if *word % 65536 == wanted {
+            return (*word / 65536) as usize;
         }
-        i += 1;
     }
     0
 }
 
+// Is a string of d2 that stands here long?
+fn is_long(part: Span) -> bool
+    ensures { result ≡ true → part.start ≤ part.end }
+{
+    part.start <= part.end && LONG <= part.end - part.start
+}
+
 // The same, by where the string stands; nothing is noted of a short one.
-pub(crate) fn size_at(notes: &[u64], index: u32, start: usize, end: usize) -> usize
+pub(crate) fn size_at(notes: &[u64], index: u32, part: Span) -> usize
     ensures { (units ends : List ℕ) → SizesOf units ends notes.now → SizeOf units ends index result }
 {
-    if end < start {
-        return 0;
+    if is_long(part) {
+        return noted_size(notes, index);
     }
-    if end - start < LONG {
-        return 0;
-    }
-    noted_size(&*notes, index)
+    0
 }
 
 // No size is noted.
 fn clear_sizes(notes: &mut [u64])
     ensures { Keeps (sizes_from (length notes.old)) notes.old notes.new × ((units ends : List ℕ) → SizesOf units ends notes.new) }
 {
-    let mut i = sizes_from(notes.len());
-    while i < notes.len() {
-        notes[i] = 0;
-        i += 1;
-    }
+    let from = sizes_from(notes.len());
+    notes[from..].fill(0);
 }
 
 // Notes the size of one string at a place among the sizes, if it is long. Answers the place for the next.
@@ -57,27 +54,14 @@ fn note_string(units: &[u16], ends: &[u32], index: u32, notes: &mut [u64], at: u
     requires { (length units.now ≤ 32768) × (length notes.old ≤ at + 32) }
     ensures { StringNoted units.now ends.now notes.old notes.new result }
 {
-    let extent = d2_extent(&*ends, index);
-    let Extent::Part { start, end } = extent else {
+    let Some(part) = d2_extent(ends, index) else {
         return at;
     };
-    if end < start {
+    if !is_long(part) || units.len() < part.end || 65535 < index || notes.len() <= at {
         return at;
     }
-    if end - start < LONG {
-        return at;
-    }
-    if units.len() < end {
-        return at;
-    }
-    if 65535 < index {
-        return at;
-    }
-    if notes.len() <= at {
-        return at;
-    }
-    let size = utf8_size(&*units, start, end);
-    notes[at] = index as u64 + 65536 * (size as u64);
+    let size = utf8_size(&units[part.start..part.end]);
+    notes[at] = u64::from(index) + 65536 * (size as u64);
     at + 1
 }
 
@@ -92,12 +76,7 @@ pub fn note_strings(units: &[u16], ends: &[u32], notes: &mut [u64])
         return;
     }
     let mut at = sizes_from(notes.len());
-    let mut i: u32 = 0;
-    while i < 65535 {
-        if ends.len() <= wide(i) {
-            return;
-        }
-        at = note_string(&*units, &*ends, i, notes, at);
-        i += 1;
+    for index in 0..ends.len().min(65535) {
+        at = note_string(units, ends, index as u32, notes, at);
     }
 }

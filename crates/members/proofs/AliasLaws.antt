@@ -32,11 +32,11 @@ use Rattle.schema.specs.told.TypesTold.{picked_of}
 use Rattle.schema.specs.told.MembersTold.{Affords, Within, member_cost, MemberTold}
 use Rattle.members.specs.told.PairsTold.{pair_in, pair_rows, PairTold}
 use Rattle.members.specs.declared.pairs.TypePair.{TypePair}
-use Rattle.schema.specs.declared.Picked.{Picked}
-use Rattle.schema.specs.declared.Picked.TheVariants as picked
-use Rattle.schema.specs.declared.Walked.{Walked}
 use Rattle.schema.proofs.CountLaws.{within_less, affords-places}
 use Rattle.members.proofs.PairLaws.{both-joined, pair-nameless, pair-told}
+use Rattle.std.specs.declared.option.Option.TheVariants.{None}
+use Rattle.std.specs.declared.result.Result.TheVariants.{Ok}
+use Rattle.schema.specs.told.SchemaTold.{Walked, Picked}
 
 -- what an alias's record takes
 abbrev record_cost : ℕ
@@ -84,7 +84,7 @@ module _ (e : Lent) (msg : List ℕ) (base : ℕ) (s : State) (name : Name)
     (i : (units : List ℕ) (c : Scope) → NamesOf e.payload units e.ends e.notes e.tables.records c.names
     → (m : Message) → cut (◌from◌ base msg) ≡ ok m → (l : ℕ) → name_in c TypeAlias-name m l ≡ ok (name_text e.payload units name, l))
     {there : Bool} (h : (payload d2 : List ℕ) → is_some (name_text payload d2 name) ≡ there) where
-  pub alias-nameless : there ≡ false → {S T : List ℕ} → MemberTold alias_in alias_rows (member_cost (length msg)) e msg base s picked.Dropped S S T T
+  pub alias-nameless : there ≡ false → {S T : List ℕ} → MemberTold alias_in alias_rows (member_cost (length msg)) e msg base s (Ok None) S S T T
   alias-nameless = pair-nameless alias_in alias_rows (member_cost (length msg)) TypeAlias-name e msg base s name i h alias_none
 
   module _ (afford : Affords e.payload e.d2 (member_cost (length msg)) s) (q : there ≡ true) (flags : ℕ)

@@ -36,26 +36,24 @@ use Rattle.members.specs.told.SignaturesTold.{SignedTold}
 use Rattle.schema.specs.told.ReceiversTold.{ReceiverTold}
 use Rattle.members.specs.told.CallablesTold.{function_head_cost, FunctionHead, function_types, FunctionTypesAre, FunctionTypesTold}
 use Rattle.declaration_rows.specs.declared.SignatureNames.{SignatureNames}
-use Rattle.members.specs.declared.signatures.Signed.{Signed}
-use Rattle.members.specs.declared.signatures.Signed.TheVariants as answer
+use Rattle.members.specs.told.SignaturesTold.{Signed}
 use Rattle.schema.specs.declared.Stop.{Stop}
 use Rattle.schema.specs.declared.Stop.TheVariants as stop
-use Rattle.schema.specs.declared.Listed.{Listed}
-use Rattle.schema.specs.declared.Listed.TheVariants as listed
-use Rattle.schema.specs.declared.Picked.TheVariants as picked
-use Rattle.schema.specs.declared.Walked.{Walked}
-use Rattle.schema.specs.declared.Walked.TheVariants as walked
 use Rattle.declaration_rows.proofs.WrittenLaws.{constructor-small, function-small}
 use Rattle.declaration_rows.proofs.RecordLaws.{constructor-put, function-put}
 use Rattle.schema.proofs.CountLaws.{within_then, within_both, spends-within, past-within, affords-after, affords-places, head-within, listed-within}
 use Rattle.members.proofs.PairLaws.{walked_spends}
 use Rattle.foundation.proofs.PresenceLaws.{none_is, some_is}
+use Rattle.std.specs.declared.option.Option.TheVariants.{Some, None}
+use Rattle.std.specs.declared.result.Result.TheVariants.{Ok, Err}
+use Rattle.schema.specs.told.SchemaTold.{Walked}
+use Rattle.schema.specs.told.MembersTold.{section, ListWalked}
 
 -- What an answer holds, and what it cannot.
-pub names_same : {a : Signed} {x y : SignatureNames} → a ≡ answer.Names x → a ≡ answer.Names y → x ≡ y
+pub names_same : {a : Signed} {x y : SignatureNames} → a ≡ Ok x → a ≡ Ok y → x ≡ y
 names_same e f = cc
 
-pub names_never : {a : Signed} {x : WireError} {n r : SignatureNames} → a ≡ answer.Refused x → a ≡ answer.Names n → r ≡ n
+pub names_never : {a : Signed} {x : WireError} {n r : SignatureNames} → a ≡ Err x → a ≡ Ok n → r ≡ n
 names_never e f = let z : ◌≡◌ {A = ℕ} 0 1 = cc in absurd (omega arith)
 
 -- A constructor: its parameters, then its signature.
@@ -94,27 +92,27 @@ module _ (e : Lent) (msg : List ℕ) (base : ℕ) (s : State) (afford : Affords 
   pub constructor-affords : Affords e.payload e.d2 (parameter_cost * length msg) (past 2 s₁)
   constructor-affords = affords-after afford (parameter_cost * length msg) constructor-takes (omega arith)
 
-  module _ {r : Listed} {S₂ T₂ : List ℕ}
+  module _ {r : ListWalked} {S₂ T₂ : List ℕ}
       (t : ParametersInTold e msg base Constructor-value_parameter (past 2 s₁) r S₁ S₂ T₁ T₂) where
-    listed-is : (c : Scope) → Scoped e c → (m : Message) → cut (◌from◌ base msg) ≡ ok m → {y : Listed} → r ≡ y
+    listed-is : (c : Scope) → Scoped e c → (m : Message) → cut (◌from◌ base msg) ≡ ok m → {y : ListWalked} → r ≡ y
         → ListedTold (parameters_in c Constructor-value_parameter m s.types) parameter_rows (past 2 s₁) y S₁ S₂ T₁ T₂
     listed-is c o m k {y} w =
         subst (λ (l : ℕ). ListedTold (parameters_in c Constructor-value_parameter m l) parameter_rows (past 2 s₁) y S₁ S₂ T₁ T₂) (put-types p)
-        (subst (λ (z : Listed). ListedTold (parameters_in c Constructor-value_parameter m s₁.types) parameter_rows (past 2 s₁) z S₁ S₂ T₁ T₂) w (t.is c o m k))
+        (subst (λ (z : ListWalked). ListedTold (parameters_in c Constructor-value_parameter m s₁.types) parameter_rows (past 2 s₁) z S₁ S₂ T₁ T₂) w (t.is c o m k))
 
-    pub constructor-refused : {x : Stop} → r ≡ listed.Refused x
-        → MemberTold constructor_in constructor_rows (member_cost (length msg)) e msg base s (picked.Refused x) S S₂ T T₂
+    pub constructor-refused : {x : Stop} → r ≡ Err x
+        → MemberTold constructor_in constructor_rows (member_cost (length msg)) e msg base s (Err x) S S₂ T T₂
     constructor-refused w = record { spends = tt; is = λ c o m k. constructor-stops c m s.types (listed-is c o m k w) }
 
-    module _ {s₂ : State} {count : ℕ} (w : r ≡ listed.Done s₂ count) (a : Signed)
+    module _ {s₂ : State} {count : ℕ} (w : r ≡ Ok (section s₂ count)) (a : Signed)
         (g : (units : List ℕ) (c : Scope) → NamesOf e.payload units e.ends e.notes e.tables.records c.names
         → (m : Message) → cut (◌from◌ base msg) ≡ ok m → SignedTold e.payload units c Constructor-constructor_signature m a) where
       signed_is : (c : Scope) → Scoped e c → (m : Message) → cut (◌from◌ base msg) ≡ ok m → {y : Signed} → a ≡ y
           → SignedTold e.payload e.d2 c Constructor-constructor_signature m y
       signed_is c o m k q = subst (SignedTold e.payload e.d2 c Constructor-constructor_signature m) q (g e.d2 c o.names m k)
 
-      pub constructor-unsigned-told : {x : WireError} → a ≡ answer.Refused x
-          → MemberTold constructor_in constructor_rows (member_cost (length msg)) e msg base s (picked.Refused (stop.Wire x)) S S₂ T T₂
+      pub constructor-unsigned-told : {x : WireError} → a ≡ Err x
+          → MemberTold constructor_in constructor_rows (member_cost (length msg)) e msg base s (Err (stop.Wire x)) S S₂ T T₂
       constructor-unsigned-told q = record {
         spends = tt;
         is = λ c o m k.
@@ -122,10 +120,10 @@ module _ (e : Lent) (msg : List ℕ) (base : ℕ) (s : State) (afford : Affords 
             constructor-unsigned c m s.types ps.2 (signed_is c o m k q (some (ascii "<init>")) ps.1);
       }
 
-      pub constructor-told : {n : SignatureNames} → a ≡ answer.Names n → names ≡ n
+      pub constructor-told : {n : SignatureNames} → a ≡ Ok n → names ≡ n
           → ((m : Message) → cut (◌from◌ base msg) ≡ ok m → flags_in Constructor-flags m ≡ flags)
           → {S₃ : List ℕ} → S₃ ≡ sets S₂ s₁.sheet (little 2 count)
-          → MemberTold constructor_in constructor_rows (member_cost (length msg)) e msg base s (picked.Kept s₂) S S₃ T T₂
+          → MemberTold constructor_in constructor_rows (member_cost (length msg)) e msg base s (Ok (Some s₂)) S S₃ T T₂
       unfolding constructor_of
       constructor-told {n} q v f {S₃} z = record {
         spends =
@@ -147,7 +145,7 @@ module _ (e : Lent) (msg : List ℕ) (base : ℕ) (s : State) (afford : Affords 
 -- A function's record up to its parameter count.
 pub function_head : {payload d2 msg : List ℕ} {base : ℕ} (name : Name) (a : Signed) {s s₁ : State} {S S₁ T T₁ : List ℕ} → Affords payload d2 function_head_cost s
     → (flags : ℕ) → ((m : Message) → cut (◌from◌ base msg) ≡ ok m → flags_in Function-flags m ≡ flags)
-    → (own : SignatureNames) → ((n : SignatureNames) → a ≡ answer.Names n → own ≡ n)
+    → (own : SignatureNames) → ((n : SignatureNames) → a ≡ Ok n → own ≡ n)
     → (either : Name) → ((bytes units : List ℕ) → name_text bytes units either ≡ or_else (name_text bytes units own.name) (name_text bytes units name))
     → (receiver : Bool) → ReceiverTold msg base Function-receiver_type Function-receiver_type_id receiver
     → PutHead 3 (function_cells (name_text payload d2 name) flags (signature_by payload d2 (record { name = either; descriptor = own.descriptor })) receiver) s.types s s₁ S S₁ T T₁
@@ -177,16 +175,11 @@ module _ {e : Lent} {msg : List ℕ} {base : ℕ} (a : Signed) {s : State} {own 
       subst (λ (w : Walked). WalkedTold (declared_type c Function-receiver_type Function-receiver_type_id m s.types) (type_rows receiver_role) s w S S₁ T T₁)
       q (t.is c o m k)
 
-  pub receiver-refused : {x : Stop} → own ≡ walked.Refused x → FunctionTypesTold e msg base a s own S S₁ T T₁
-  receiver-refused {x} q =
-      let told : FunctionTypesTold e msg base a s (walked.Refused x) S S₁ T T₁ = record {
-        spends = tt;
-        is = λ c o m k h name f. rw (receiver-is c o m k q);
-      } in
-      subst (λ (y : Walked). FunctionTypesTold e msg base a s y S S₁ T T₁) (sym q) told
+  pub receiver-refused : {x : Stop} → own ≡ Err x → FunctionTypesTold e msg base a s (Err x) S S₁ T T₁
+  receiver-refused q = record { spends = tt; is = λ c o m k h name f. rw (receiver-is c o m k q) }
 
-  module _ {s₁ : State} (q : own ≡ walked.Done s₁) where
-    pub types-unsigned : {x : WireError} → a ≡ answer.Refused x → FunctionTypesTold e msg base a s (walked.Refused (stop.Wire x)) S S₁ T T₁
+  module _ {s₁ : State} (q : own ≡ Ok s₁) where
+    pub types-unsigned : {x : WireError} → a ≡ Err x → FunctionTypesTold e msg base a s (Err (stop.Wire x)) S S₁ T T₁
     types-unsigned {x} g = record {
       spends = tt;
       is = λ c o m k h name f.
@@ -195,19 +188,19 @@ module _ {e : Lent} {msg : List ℕ} {base : ℕ} (a : Signed) {s : State} {own 
           rw (there.2, h' (some name) there.1);
     }
 
-    returned-are : (n : SignatureNames) (c : Scope) (m : Message) → SignedTold e.payload e.d2 c Function-method_signature m (answer.Names n)
-        → WalkedTold (declared_type c Function-receiver_type Function-receiver_type_id m s.types) (type_rows receiver_role) s (walked.Done s₁) S S₁ T T₁
+    returned-are : (n : SignatureNames) (c : Scope) (m : Message) → SignedTold e.payload e.d2 c Function-method_signature m (Ok n)
+        → WalkedTold (declared_type c Function-receiver_type Function-receiver_type_id m s.types) (type_rows receiver_role) s (Ok s₁) S S₁ T T₁
         → (w : Walked) (S₂ T₂ : List ℕ)
         → WalkedTold (declared_type c Function-return_type Function-return_type_id m s₁.types) (type_rows return_role) s₁ w S₁ S₂ T₁ T₂
         → (name : Text) → FunctionTypesAre c (some name) m s w S S₂ T T₂
-    returned-are n c m h (r, b, i, p) (walked.Done s₂) S₂ T₂ (v, b', j, z) name =
+    returned-are n c m h (r, b, i, p) (Ok s₂) S₂ T₂ (v, b', j, z) name =
         let j' = ap (declared_type c Function-return_type Function-return_type_id m) (sym (put-types p)) ∙ j in
         (r, _, v, b, b', i, h (some name) b, j', rows_then (type_rows receiver_role r) (type_rows return_role v) p z)
-    returned-are n c m h (r, b, i, p) (walked.Refused x) S₂ T₂ j name =
+    returned-are n c m h (r, b, i, p) (Err x) S₂ T₂ j name =
         let j' = ap (declared_type c Function-return_type Function-return_type_id m) (sym (put-types p)) ∙ j in
         λ f. rw (i, h (some name) b, j')
 
-    pub types-returned : {n : SignatureNames} → a ≡ answer.Names n → {w : Walked} {S₂ T₂ : List ℕ}
+    pub types-returned : {n : SignatureNames} → a ≡ Ok n → {w : Walked} {S₂ T₂ : List ℕ}
         → OptionalTold e msg base Function-return_type Function-return_type_id return_role s₁ w S₁ S₂ T₁ T₂
         → FunctionTypesTold e msg base a s w S S₂ T T₂
     types-returned {n} g {w} {S₂} {T₂} u = record {
@@ -254,11 +247,11 @@ module _ (c : Scope) (m : Message) (l : ℕ) {o : Option Text} (i : name_in c Fu
 -- the signature that is written is the one that is read
 signature-same : (payload d2 : List ℕ) (c : Scope) (m : Message) (l : ℕ) (a : Signed) (name : Option Text) {t : Text} {g g' : Option Signature}
     → SignedTold payload d2 c Function-method_signature m a
-    → ((n : SignatureNames) → a ≡ answer.Names n → g ≡ both_of signed (or_else (name_text payload d2 n.name) name) (name_text payload d2 n.descriptor))
+    → ((n : SignatureNames) → a ≡ Ok n → g ≡ both_of signed (or_else (name_text payload d2 n.name) name) (name_text payload d2 n.descriptor))
     → name ≡ some t → signature_in c (some t) Function-method_signature m l ≡ ok (g', l) → g ≡ g'
-signature-same payload d2 c m l (answer.Names n) name {t} {g} {g'} h f e k =
+signature-same payload d2 c m l (Ok n) name {t} {g} {g'} h f e k =
     f n refl ∙ rw e (ap (λ (q : Option Signature × ℕ). q.0) (ok_same (sym (h (some t) l) ∙ k)))
-signature-same payload d2 c m l (answer.Refused x) name {t} h f e k =
+signature-same payload d2 c m l (Err x) name {t} h f e k =
     let h' = h (some t) l in
     let z : ◌≡◌ {A = ℕ} 0 1 = cc in
     absurd (omega arith)
@@ -276,7 +269,7 @@ module _ (e : Lent) (msg : List ℕ) (base : ℕ) (s : State) (name : Name)
     (i : (units : List ℕ) (c : Scope) → NamesOf e.payload units e.ends e.notes e.tables.records c.names
     → (m : Message) → cut (◌from◌ base msg) ≡ ok m → (l : ℕ) → name_in c Function-name m l ≡ ok (name_text e.payload units name, l))
     {there : Bool} (h : (payload d2 : List ℕ) → is_some (name_text payload d2 name) ≡ there) where
-  pub function-nameless : there ≡ false → {S T : List ℕ} → MemberTold function_in function_rows (member_cost (length msg)) e msg base s picked.Dropped S S T T
+  pub function-nameless : there ≡ false → {S T : List ℕ} → MemberTold function_in function_rows (member_cost (length msg)) e msg base s (Ok None) S S T T
   function-nameless q = record {
     spends = tt;
     is = λ c o m k. (
@@ -298,26 +291,26 @@ module _ (e : Lent) (msg : List ℕ) (base : ℕ) (s : State) (name : Name)
     pub function-affords : Affords e.payload e.d2 (parameter_cost * length msg) (past 2 s₁)
     function-affords = affords-after afford (parameter_cost * length msg) function-takes (omega arith)
 
-    module _ {r : Listed} {S₂ T₂ : List ℕ}
+    module _ {r : ListWalked} {S₂ T₂ : List ℕ}
         (t : ParametersInTold e msg base Function-value_parameter (past 2 s₁) r S₁ S₂ T₁ T₂) where
-      parameters-are : (c : Scope) → Scoped e c → (m : Message) → cut (◌from◌ base msg) ≡ ok m → {y : Listed} → r ≡ y
+      parameters-are : (c : Scope) → Scoped e c → (m : Message) → cut (◌from◌ base msg) ≡ ok m → {y : ListWalked} → r ≡ y
           → ListedTold (parameters_in c Function-value_parameter m s.types) parameter_rows (past 2 s₁) y S₁ S₂ T₁ T₂
       parameters-are c o m k {y} w =
           subst (λ (l : ℕ). ListedTold (parameters_in c Function-value_parameter m l) parameter_rows (past 2 s₁) y S₁ S₂ T₁ T₂) (put-types p.put)
-          (subst (λ (z : Listed). ListedTold (parameters_in c Function-value_parameter m s₁.types) parameter_rows (past 2 s₁) z S₁ S₂ T₁ T₂) w (t.is c o m k))
+          (subst (λ (z : ListWalked). ListedTold (parameters_in c Function-value_parameter m s₁.types) parameter_rows (past 2 s₁) z S₁ S₂ T₁ T₂) w (t.is c o m k))
 
       name-is : (c : Scope) → Scoped e c → (m : Message) → cut (◌from◌ base msg) ≡ ok m
           → name_in c Function-name m s.types ≡ ok (name_text e.payload e.d2 name, s.types)
       name-is c o m k = i e.d2 c o.names m k s.types
 
-      pub function-unlisted : {x : Stop} → r ≡ listed.Refused x
-          → MemberTold function_in function_rows (member_cost (length msg)) e msg base s (picked.Refused x) S S₂ T T₂
+      pub function-unlisted : {x : Stop} → r ≡ Err x
+          → MemberTold function_in function_rows (member_cost (length msg)) e msg base s (Err x) S S₂ T T₂
       function-unlisted w = record {
         spends = tt;
         is = λ c o m k. function-stops c m s.types (name-is c o m k) named-so.1 (parameters-are c o m k w);
       }
 
-      module _ {s₂ : State} {count : ℕ} (w : r ≡ listed.Done s₂ count) where
+      module _ {s₂ : State} {count : ℕ} (w : r ≡ Ok (section s₂ count)) where
         parameters-take : Within (function_head_cost + 2 + parameter_cost * length msg) s s₂
         parameters-take = within_then function-takes (listed-within {n = parameter_cost * length msg} t.spends w)
 
@@ -334,8 +327,8 @@ module _ (e : Lent) (msg : List ℕ) (base : ℕ) (s : State) (name : Name)
               subst (λ (x : Walked). FunctionTypesAre c (some named-so.0) m s₂ x S₂ S₃ T₂ T₃) z
               (u.is c o m k (g e.d2 c o.names m k) named-so.0)
 
-          pub function-untyped : {x : Stop} → v ≡ walked.Refused x
-              → MemberTold function_in function_rows (member_cost (length msg)) e msg base s (picked.Refused x) S S₃ T T₃
+          pub function-untyped : {x : Stop} → v ≡ Err x
+              → MemberTold function_in function_rows (member_cost (length msg)) e msg base s (Err x) S S₃ T T₃
           function-untyped z = record {
             spends = tt;
             is = λ c o m k.
@@ -345,8 +338,8 @@ module _ (e : Lent) (msg : List ℕ) (base : ℕ) (s : State) (name : Name)
                 function-refused c m s.types (name-is c o m k) named-so.1 ps.2 stops;
           }
 
-          pub function-told : {s₃ : State} → v ≡ walked.Done s₃ → {S₄ : List ℕ} → S₄ ≡ sets S₃ s₁.sheet (little 2 count)
-              → MemberTold function_in function_rows (member_cost (length msg)) e msg base s (picked.Kept s₃) S S₄ T T₃
+          pub function-told : {s₃ : State} → v ≡ Ok s₃ → {S₄ : List ℕ} → S₄ ≡ sets S₃ s₁.sheet (little 2 count)
+              → MemberTold function_in function_rows (member_cost (length msg)) e msg base s (Ok (Some s₃)) S S₄ T T₃
           unfolding function_of
           function-told {s₃} z {S₄} y = record {
             spends = within_both (member_cost (length msg)) (omega arith) parameters-take (spends-within (subst (WalkedSpends s₂) z u.spends));

@@ -18,35 +18,30 @@ use Rattle.sheet.specs.told.Put.{PutRows}
 use Rattle.sheet.specs.declared.State.{State}
 use Rattle.sheet.proofs.RowLaws.{body_length, rows_length, sheet-length}
 use Rattle.sheet.proofs.PutLaws.{put-sheet, put-text, put-types, put-left, rows_then}
-use Rattle.declaration_rows.specs.Declarations.{Constructor, Function}
 use Rattle.schema.specs.Reading.{Read, Scope}
 use Rattle.schema.specs.Members.{constructor_in, function_in}
-use Rattle.declaration_rows.specs.Rows.{constructor_rows, function_rows}
 use Rattle.schema.specs.told.SchemaTold.{Lent, Scoped, EntryAt, Stands, PickedTold}
 use Rattle.schema.specs.told.MembersTold.{Affords, Within, PickedWithin, member_cost, closed_cost, MemberTold}
-use Rattle.schema.specs.declared.Picked.{Picked}
-use Rattle.schema.specs.declared.Picked.TheVariants as picked
 use Rattle.schema.proofs.CountLaws.{within_both, affords-less, affords-after, picked_within}
+use Rattle.schema.specs.declared.Stop.{Stop}
 use Rattle.schema.proofs.StandsLaws.{stands-entry}
 use Rattle.erasure.specs.told.ErasureTold.{PutSized}
-use Rattle.erasure.specs.declared.Part.{Part}
-use Rattle.erasure.specs.declared.Part.TheVariants as part
+use Rattle.std.specs.Prelude as std
+use Rattle.std.specs.Prelude.{Some, None}
 use Rattle.descriptors.specs.Defaults.{Parts, constructor_parts, function_parts, descriptor, default_row, closed_constructor, closed_function}
 use Rattle.descriptors.specs.told.DefaultsTold.{part_cost, PartTold, ConstructorDefault, FunctionDefault}
-use Rattle.descriptors.specs.told.PartsTold.{Gave, PartOf}
-use Rattle.members.specs.told.ClosedTold.{close_cost, CloseTold}
+use Rattle.members.specs.told.ClosedTold.{Declared, callable_in, callable_rows, callable_parts, callable_closed, DefaultOf, close_cost, CloseTold}
+use Rattle.members.specs.declared.closed.Callable.{Callable}
+use Rattle.members.specs.declared.closed.Callable.TheVariants as callable
 use Rattle.descriptors.proofs.JoinLaws.{part-answer, written-within}
+use Rattle.std.specs.declared.result.Result.TheVariants.{Ok, Err}
+use Rattle.schema.specs.told.SchemaTold.{Picked}
 
--- The descriptor of what a reading has kept.
-abbrev pub DefaultOf : {D : Type 0} → (Scope → Message → Read (Option D)) → (D → Option Parts) → Lent → ℕ → ℕ → ℕ → Part → List ℕ → List ℕ → Type 0
-DefaultOf read parts e start end at r A A₁ =
-    PartOf (λ c m d. Gave (read c m) (some d)) (λ d. map_option descriptor (parts d)) (part_cost * (4 + (end - start))) e start end at r A A₁
-
-pub of_constructor_lem : {e : Lent} {start end at : ℕ} {r : Part} {A A₁ : List ℕ} → ConstructorDefault e start end at r A A₁
+pub of_constructor_lem : {e : Lent} {start end at : ℕ} {r : std.Option ℕ} {A A₁ : List ℕ} → ConstructorDefault e start end at r A A₁
     → DefaultOf constructor_in constructor_parts e start end at r A A₁
 of_constructor_lem u = record { within = u.within; is = λ c s m k d g. u.is c s m k d g.before g.after g.is }
 
-pub of_function_lem : {e : Lent} {start end at : ℕ} {r : Part} {A A₁ : List ℕ} → FunctionDefault e start end at r A A₁
+pub of_function_lem : {e : Lent} {start end at : ℕ} {r : std.Option ℕ} {A A₁ : List ℕ} → FunctionDefault e start end at r A A₁
     → DefaultOf function_in function_parts e start end at r A A₁
 of_function_lem u = record { within = u.within; is = λ c s m k d g. u.is c s m k d g.before g.after g.is }
 
@@ -70,9 +65,9 @@ default-within x n h {s} {s'} p =
     record { counts = omega (arith, put-sheet p, put-text p, put-types p); types = omega (arith, put-types p) }
 
 -- The text that was written, if it is known.
-text-known : (o : Option (List ℕ)) (at : ℕ) (r : Part) (A A₁ t : List ℕ) → PartTold o at r A A₁ → o ≡ some t → A₁ ≡ sets A at t
-text-known o at (part.Written n) A A₁ t (u, e, p) f = let g : u ≡ t = cc in rw g at p.area
-text-known o at part.Absent A A₁ t e f = let z : ◌≡◌ {A = ℕ} 0 1 = cc in absurd (omega arith)
+text-known : (o : Option (List ℕ)) (at : ℕ) (r : std.Option ℕ) (A A₁ t : List ℕ) → PartTold o at r A A₁ → o ≡ some t → A₁ ≡ sets A at t
+text-known o at (Some n) A A₁ t (u, e, p) f = let g : u ≡ t = cc in rw g at p.area
+text-known o at None A A₁ t e f = let z : ◌≡◌ {A = ℕ} 0 1 = cc in absurd (omega arith)
 
 text_aside : (t A A₁ : List ℕ) (n : ℕ) → PutSized t 0 n A A₁ → n ≤ length A → take n A₁ ≡ t
 text_aside t A A₁ n p h =
@@ -81,13 +76,13 @@ text_aside t A A₁ n p h =
     ∙ ap (take (length t)) (p.area ∙ sets_front t A l)
     ∙ take-append_seam t (drop (length t) A)
 
-module _ {D : Type 0} (read : Scope → Message → Read (Option D)) (parts : D → Option Parts) {e : Lent} {start end : ℕ} (s : State) {r : Part} {A A₁ : List ℕ}
+module _ {D : Type 0} (read : Scope → Message → Read (Option D)) (parts : D → Option Parts) {e : Lent} {start end : ℕ} (s : State) {r : std.Option ℕ} {A A₁ : List ℕ}
     (u : DefaultOf read parts e start end 0 r A A₁) where
-  told : (c : Scope) → Scoped e c → (m : Message) → EntryAt e.payload start end m → (d : D) (l b : ℕ) → read c m l ≡ ok (some d, b) → {y : Part} → r ≡ y
+  told : (c : Scope) → Scoped e c → (m : Message) → EntryAt e.payload start end m → (d : D) (l b : ℕ) → read c m l ≡ ok (some d, b) → {y : std.Option ℕ} → r ≡ y
       → PartTold (map_option descriptor (parts d)) 0 y A A₁
   told c o m k d l b h w = (part-answer w u).is c o m k d (record { before = l; after = b; is = h })
 
-  pub close-absent : r ≡ part.Absent → {s' : State} {S S' : List ℕ} → ((T : List ℕ) → PutRows (row 7 (ref none ∷ []) ∷ []) s.types s s' S S' T T)
+  pub close-absent : r ≡ None → {s' : State} {S S' : List ℕ} → ((T : List ℕ) → PutRows (row 7 (ref none ∷ []) ∷ []) s.types s s' S S' T T)
       → (T : List ℕ) → CloseTold read parts e start end s s' S S' T T
   close-absent w {s'} {S} {S'} p T = record {
     spends = default-within none (part_cost * (4 + (end - start))) (omega (arith, ap length default_none)) (p T);
@@ -96,7 +91,7 @@ module _ {D : Type 0} (read : Scope → Message → Read (Option D)) (parts : D 
   }
 
   -- the descriptor fits what was lent aside
-  pub close-short : {size : ℕ} → r ≡ part.Written size → size ≤ length A → {s' : State} {S S' T T' : List ℕ}
+  pub close-short : {size : ℕ} → r ≡ Some size → size ≤ length A → {s' : State} {S S' T T' : List ℕ}
       → PutRows (row 7 (ref (some (take size A₁)) ∷ []) ∷ []) s.types s s' S S' T T' → CloseTold read parts e start end s s' S S' T T'
   close-short {size} w h {s'} {S} {S'} {T} {T'} p =
       let i : size ≤ part_cost * (4 + (end - start)) = written-within (part_cost * (4 + (end - start))) u.within w in
@@ -109,7 +104,7 @@ module _ {D : Type 0} (read : Scope → Message → Read (Option D)) (parts : D 
       }
 
   -- it is walked again, into the text
-  module _ {size : ℕ} (w : r ≡ part.Written size) {s' : State} {S S' : List ℕ}
+  module _ {size : ℕ} (w : r ≡ Some size) {s' : State} {S S' : List ℕ}
       (p : (d T T' : List ℕ) → length d ≡ size → T' ≡ sets T s.text d → PutRows (row 7 (ref (some d) ∷ []) ∷ []) s.types s s' S S' T T') where
     default-spends : Within (close_cost (end - start)) s s'
     default-spends =
@@ -118,7 +113,7 @@ module _ {D : Type 0} (read : Scope → Message → Read (Option D)) (parts : D 
         default-within (some d) (part_cost * (4 + (end - start))) (omega (arith, ap length (default-text d), length_digits 256 size 0))
         (p d [] (sets [] s.text d) (length_digits 256 size 0) refl)
 
-    pub close-long : {y : Part} {T T' : List ℕ} → DefaultOf read parts e start end s.text y T T' → CloseTold read parts e start end s s' S S' T T'
+    pub close-long : {y : std.Option ℕ} {T T' : List ℕ} → DefaultOf read parts e start end s.text y T T' → CloseTold read parts e start end s s' S S' T T'
     close-long {y} {T} {T'} v = record {
       spends = default-spends;
       is = λ c o m k d l b h.
@@ -132,17 +127,18 @@ module _ {payload d2 msg : List ℕ} {base : ℕ} {s : State} (st : Stands paylo
   pub member-room : Affords payload d2 (member_cost (length msg)) s × (base + length msg ≤ length payload)
   member-room = (affords-less h (member_cost (length msg)) (omega arith), st.inside)
 
-  pub closing-room : {r : Picked} {s₁ : State} → PickedWithin (member_cost (length msg)) s r → r ≡ picked.Kept s₁
+  pub closing-room : {r : Picked} {s₁ : State} → PickedWithin (member_cost (length msg)) s r → r ≡ Ok (Some s₁)
       → Affords payload d2 (close_cost (length msg)) s₁ × Stands payload msg base
   closing-room p w = (affords-after h (close_cost (length msg)) (picked_within {n = member_cost (length msg)} p w) (omega arith), st)
 
 -- One that is skipped or refused, and so is not closed.
-pub closed_unkept : {D : Type 0} (read : Scope → Message → Read (Option D)) (rows closed : D → List Row) {n n' : ℕ} {e : Lent} {msg : List ℕ} {base : ℕ}
-    {s : State} (r : Picked) {S S₁ T T₁ : List ℕ} → ((state : State) → r ≡ picked.Kept state → ⊥) → MemberTold read rows n e msg base s r S S₁ T T₁
-    → MemberTold read closed n' e msg base s r S S₁ T T₁
-closed_unkept read rows closed (picked.Kept s₁) h t = absurd (h s₁ refl)
-closed_unkept read rows closed picked.Dropped h t = record { spends = tt; is = t.is }
-closed_unkept read rows closed (picked.Refused stop) h t = record { spends = tt; is = t.is }
+module _ {D : Type 0} (read : Scope → Message → Read (Option D)) (rows closed : D → List Row) {n n' : ℕ} {e : Lent} {msg : List ℕ} {base : ℕ}
+    {s : State} {r : Picked} {S S₁ T T₁ : List ℕ} (t : MemberTold read rows n e msg base s r S S₁ T T₁) where
+  pub closed_refused : {stop : Stop} → r ≡ Err stop → MemberTold read closed n' e msg base s (Err stop) S S₁ T T₁
+  closed_refused w = record { spends = tt; is = λ c o m k. subst (λ (y : Picked). PickedTold (read c m s.types) rows s y S S₁ T T₁) w (t.is c o m k) }
+
+  pub closed_dropped : r ≡ Ok None → MemberTold read closed n' e msg base s (Ok None) S S₁ T T₁
+  closed_dropped w = record { spends = tt; is = λ c o m k. subst (λ (y : Picked). PickedTold (read c m s.types) rows s y S S₁ T T₁) w (t.is c o m k) }
 
 module _ {D : Type 0} (read : Scope → Message → Read (Option D)) (rows closed : D → List Row) (parts : D → Option Parts)
     (are : (d : D) → rows d ++ (default_row (parts d) ∷ []) ≡ closed d) {e : Lent} {msg : List ℕ} {base : ℕ} {s : State}
@@ -151,9 +147,9 @@ module _ {D : Type 0} (read : Scope → Message → Read (Option D)) (rows close
       → PickedTold (read c m s.types) rows s y S S₁ T T₁
   member_is c o m k w = subst (λ (y : Picked). PickedTold (read c m s.types) rows s y S S₁ T T₁) w (t.is c o m k)
 
-  pub closed-kept : Stands e.payload msg base → {s₁ : State} → r ≡ picked.Kept s₁ → {s₂ : State} {S₂ T₂ : List ℕ}
+  pub closed-kept : Stands e.payload msg base → {s₁ : State} → r ≡ Ok (Some s₁) → {s₂ : State} {S₂ T₂ : List ℕ}
       → CloseTold read parts e base (base + length msg) s₁ s₂ S₁ S₂ T₁ T₂
-      → MemberTold read closed (closed_cost (length msg)) e msg base s (picked.Kept s₂) S S₂ T T₂
+      → MemberTold read closed (closed_cost (length msg)) e msg base s (Ok (Some s₂)) S S₂ T T₂
   closed-kept st {s₁} w {s₂} {S₂} {T₂} u = record {
     spends = within_both (closed_cost (length msg)) (omega arith) (picked_within {n = member_cost (length msg)} t.spends w) u.spends;
     is = λ c o m k.
@@ -163,13 +159,21 @@ module _ {D : Type 0} (read : Scope → Message → Read (Option D)) (rows close
         (p.0, p.1, p.2, subst (λ (rs : List Row). PutRows rs p.1 s s₂ S S₂ T T₂) (are p.0) both);
   }
 
-pub constructor_closed : (d : Constructor) → constructor_rows d ++ (default_row (constructor_parts d) ∷ []) ≡ closed_constructor d
-unfolding closed_constructor
-constructor_closed d = refl
+pub callable-closed : (k : Callable) (d : Declared k) → callable_rows k d ++ (default_row (callable_parts k d) ∷ []) ≡ callable_closed k d
+unfolding closed_constructor closed_function
+callable-closed callable.Constructor c = refl
+callable-closed callable.Function f = refl
 
-pub function_closed : (f : Function) → function_rows f ++ (default_row (function_parts f) ∷ []) ≡ closed_function f
-unfolding closed_function
-function_closed f = refl
+-- what is known of one, known of it by its kind
+pub read-so : {n : ℕ} {e : Lent} {msg : List ℕ} {base : ℕ} {s : State} {r : Picked} {S S' T T' : List ℕ} {k : Callable} (x : Callable) → k ≡ x
+    → MemberTold (callable_in x) (callable_rows x) n e msg base s r S S' T T' → MemberTold (callable_in k) (callable_rows k) n e msg base s r S S' T T'
+read-so {n} {e} {msg} {base} {s} {r} {S} {S'} {T} {T'} x q =
+    subst (λ (y : Callable). MemberTold (callable_in y) (callable_rows y) n e msg base s r S S' T T') (sym q)
+
+pub default-so : {e : Lent} {start end at : ℕ} {r : std.Option ℕ} {A A₁ : List ℕ} {k : Callable} (x : Callable) → k ≡ x
+    → DefaultOf (callable_in x) (callable_parts x) e start end at r A A₁ → DefaultOf (callable_in k) (callable_parts k) e start end at r A A₁
+default-so {e} {start} {end} {at} {r} {A} {A₁} x q =
+    subst (λ (y : Callable). DefaultOf (callable_in y) (callable_parts y) e start end at r A A₁) (sym q)
 
 -- what was written aside, of an area of k bytes
 pub aside_fits : (n k : ℕ) (l : List ℕ) → length l ≡ k → n ≤ k → n ≡ length (take n l)

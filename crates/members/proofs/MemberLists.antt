@@ -10,16 +10,17 @@ use Rattle.sheet.specs.declared.State.{State}
 use Rattle.schema.specs.Reading.{Scope, Read}
 use Rattle.schema.specs.told.SchemaTold.{Lent}
 use Rattle.schema.specs.told.MembersTold.{PickedWithin, MemberTold}
-use Rattle.schema.specs.declared.Picked.{Picked}
-use Rattle.schema.specs.declared.Picked.TheVariants as picked
 use Rattle.schema.proofs.CountLaws.{within_less}
 use Rattle.members.specs.Lists.{member_in, member_rows}
 use Rattle.members.specs.declared.list.Member.{Member}
+use Rattle.std.specs.declared.option.Option.TheVariants.{Some, None}
+use Rattle.std.specs.declared.result.Result.TheVariants.{Ok, Err}
+use Rattle.schema.specs.told.SchemaTold.{Picked}
 
 within_more : {n m : ℕ} (s : State) (r : Picked) → n ≤ m → PickedWithin n s r → PickedWithin m s r
-within_more {m = m} s (picked.Kept s') h p = within_less m h p
-within_more s picked.Dropped h p = p
-within_more s (picked.Refused stop) h p = p
+within_more {m = m} s (Ok (Some s')) h p = within_less m h p
+within_more s (Ok None) h p = p
+within_more s (Err stop) h p = p
 
 pub costs_less : {A : Type 0} {read : Scope → Message → Read (Option A)} {rows : A → List Row} {n m : ℕ} {e : Lent} {msg : List ℕ} {base : ℕ} {s : State} {r : Picked}
     {S S' T T' : List ℕ} → n ≤ m → MemberTold read rows n e msg base s r S S' T T' → MemberTold read rows m e msg base s r S S' T T'

@@ -29,17 +29,16 @@ use Rattle.type_references.specs.told.OptionalTold.{OptionalTold}
 use Rattle.members.specs.told.PairsTold.{both, pair_in, pair_rows, PairTold}
 use Rattle.members.specs.declared.pairs.TypePair.{TypePair}
 use Rattle.schema.specs.declared.Stop.{Stop}
-use Rattle.schema.specs.declared.Picked.{Picked}
-use Rattle.schema.specs.declared.Picked.TheVariants as picked
-use Rattle.schema.specs.declared.Walked.{Walked}
-use Rattle.schema.specs.declared.Walked.TheVariants as walked
 use Rattle.schema.proofs.TypeLaws.{spends_then}
 use Rattle.schema.proofs.CountLaws.{within_both, spends-within}
+use Rattle.std.specs.declared.option.Option.TheVariants.{None}
+use Rattle.std.specs.declared.result.Result.TheVariants.{Ok, Err}
+use Rattle.schema.specs.told.SchemaTold.{Walked, Picked}
 
 -- Readings one after the other, and what is written of them.
 pub walked_spends : (s s₁ : State) (w : Walked) → Spends s s₁ → WalkedSpends s₁ w → WalkedSpends s w
-walked_spends s s₁ (walked.Done s₂) p q = spends_then p q
-walked_spends s s₁ (walked.Refused stop) p q = tt
+walked_spends s s₁ (Ok s₂) p q = spends_then p q
+walked_spends s s₁ (Err stop) p q = tt
 
 module _ {A B : Type 0} (f : Read A) (g : Read B) where
   -- what is made of both
@@ -70,17 +69,17 @@ module _ {A B : Type 0} (f : Read A) (g : Read B) where
       go (refused c p) = refl
 
   module _ (rows : A → List Row) (rows' : B → List Row) (s : State) where
-    pub both-refused : (w : Walked) {stop : Stop} (S S' T T' : List ℕ) → w ≡ walked.Refused stop → WalkedTold (f s.types) rows s w S S' T T'
+    pub both-refused : (w : Walked) {stop : Stop} (S S' T T' : List ℕ) → w ≡ Err stop → WalkedTold (f s.types) rows s w S S' T T'
         → WalkedTold (both f g s.types) (λ p. rows p.0 ++ rows' p.1) s w S S' T T'
-    both-refused (walked.Done s₁) S S' T T' e h = let z : ◌≡◌ {A = ℕ} 0 1 = cc in absurd (omega arith)
-    both-refused (walked.Refused x) S S' T T' e h = rw h
+    both-refused (Ok s₁) S S' T T' e h = let z : ◌≡◌ {A = ℕ} 0 1 = cc in absurd (omega arith)
+    both-refused (Err x) S S' T T' e h = rw h
 
-    pub both-then : (s₁ : State) (w : Walked) (S S₁ S₂ T T₁ T₂ : List ℕ) → WalkedTold (f s.types) rows s (walked.Done s₁) S S₁ T T₁
+    pub both-then : (s₁ : State) (w : Walked) (S S₁ S₂ T T₁ T₂ : List ℕ) → WalkedTold (f s.types) rows s (Ok s₁) S S₁ T T₁
         → WalkedTold (g s₁.types) rows' s₁ w S₁ S₂ T₁ T₂
         → WalkedTold (both f g s.types) (λ p. rows p.0 ++ rows' p.1) s w S S₂ T T₂
-    both-then s₁ (walked.Done s₂) S S₁ S₂ T T₁ T₂ (a, n, q, p) (b, n', q', p') =
+    both-then s₁ (Ok s₂) S S₁ S₂ T T₁ T₂ (a, n, q, p) (b, n', q', p') =
         ((a, b), n', rw (q, ← put-types p, q'), rows_then (rows a) (rows' b) p p')
-    both-then s₁ (walked.Refused x) S S₁ S₂ T T₁ T₂ (a, n, q, p) q' = rw (q, ← put-types p, q')
+    both-then s₁ (Err x) S S₁ S₂ T T₁ T₂ (a, n, q, p) q' = rw (q, ← put-types p, q')
 
 -- The first type, then the second.
 module _ (p : TypePair) {e : Lent} {msg : List ℕ} {base : ℕ} {s : State} {own : Walked} {S S₁ T T₁ : List ℕ}
@@ -91,15 +90,15 @@ module _ (p : TypePair) {e : Lent} {msg : List ℕ} {base : ℕ} {s : State} {ow
       subst (λ (w : Walked). WalkedTold (declared_type c p.first.inline p.first.indexed m s.types) (type_rows p.first.role) s w S S₁ T T₁)
       q (t.is c o m k)
 
-  pub pair-refused : {stop : Stop} → own ≡ walked.Refused stop → PairTold p e msg base s own S S₁ T T₁
+  pub pair-refused : {stop : Stop} → own ≡ Err stop → PairTold p e msg base s (Err stop) S S₁ T T₁
   pair-refused {stop} q = record {
-    spends = subst (WalkedSpends s) (sym q) tt;
+    spends = tt;
     is = λ c o m k.
         both-refused (declared_type c p.first.inline p.first.indexed m) (declared_type c p.second.inline p.second.indexed m)
-        (type_rows p.first.role) (type_rows p.second.role) s own S S₁ T T₁ q (t.is c o m k);
+        (type_rows p.first.role) (type_rows p.second.role) s (Err stop) S S₁ T T₁ refl (own_is c o m k q);
   }
 
-  pub pair_then : {s₁ : State} → own ≡ walked.Done s₁ → {w : Walked} {S₂ T₂ : List ℕ}
+  pub pair_then : {s₁ : State} → own ≡ Ok s₁ → {w : Walked} {S₂ T₂ : List ℕ}
       → OptionalTold e msg base p.second.inline p.second.indexed p.second.role s₁ w S₁ S₂ T₁ T₂
       → PairTold p e msg base s w S S₂ T T₂
   pair_then {s₁} q {w} {S₂} {T₂} u = record {
@@ -120,7 +119,7 @@ module _ {A : Type 0} (read : Scope → Message → Read (Option A)) (rows : A �
   looked c o m k l q = i e.d2 c o.names m k l ∙ ap (λ (t : Option Text). ok (t, l)) q
 
   pub pair-nameless : ((c : Scope) (m : Message) (l : ℕ) → name_in c number m l ≡ ok (none, l) → read c m l ≡ ok (none, l)) → there ≡ false → {S T : List ℕ}
-      → MemberTold read rows cost e msg base s picked.Dropped S S T T
+      → MemberTold read rows cost e msg base s (Ok None) S S T T
   pair-nameless skips q = record {
     spends = tt;
     is = λ c o m k.
@@ -139,15 +138,15 @@ module _ {A : Type 0} (read : Scope → Message → Read (Option A)) (rows : A �
       → PutRows (record_of t m ∷ []) s.types s s₁ S S₁ T T₁ → PutRows (pair_rows p ts) b s₁ s₂ S₁ S₂ T₁ T₂
       → PutRows (rows (make t m ts)) b s s₂ S S₂ T T₂) where
     spent : (w : Walked) → WalkedSpends s₁ w → PickedWithin cost s (picked_of w)
-    spent (walked.Done s₂) u = within_both cost (omega arith) within (spends-within u)
-    spent (walked.Refused stop) u = tt
+    spent (Ok s₂) u = within_both cost (omega arith) within (spends-within u)
+    spent (Err stop) u = tt
 
     told : (c : Scope) (m : Message) (t : Text) → PutRows (record_of t m ∷ []) s.types s s₁ S S₁ T T₁ → (r : Res (Option A × ℕ))
         → r ≡ Results.◌>>=◌ (pair_in p c m s₁.types) (λ x. pure (some (make t m x.0)) x.1)
         → (w : Walked) (S₂ T₂ : List ℕ) → WalkedTold (pair_in p c m s₁.types) (pair_rows p) s₁ w S₁ S₂ T₁ T₂
         → PickedTold r rows s (picked_of w) S S₂ T T₂
-    told c m t f r g (walked.Done s₂) S₂ T₂ (ts, b, y, z) = (make t m ts, b, g ∙ rw y, puts t m ts b s₂ S₂ T₂ f z)
-    told c m t f r g (walked.Refused stop) S₂ T₂ y = g ∙ rw y
+    told c m t f r g (Ok s₂) S₂ T₂ (ts, b, y, z) = (make t m ts, b, g ∙ rw y, puts t m ts b s₂ S₂ T₂ f z)
+    told c m t f r g (Err stop) S₂ T₂ y = g ∙ rw y
 
     pub pair-told : {w : Walked} {r : Picked} {S₂ T₂ : List ℕ} → PairTold p e msg base s₁ w S₁ S₂ T₁ T₂ → r ≡ picked_of w
         → MemberTold read rows cost e msg base s r S S₂ T T₂

@@ -15,8 +15,6 @@ use Rattle.wire.specs.Wire.{Message, cut}
 use Rattle.wire.specs.Messages.{messages}
 use Rattle.wire.specs.declared.WireError.{WireError}
 use Rattle.messages.specs.told.Asked.{CheckedTold}
-use Rattle.messages.specs.declared.Checked.{Checked}
-use Rattle.messages.specs.declared.Checked.TheVariants as checked
 use Rattle.names.specs.told.Name.{name_text}
 use Rattle.names.specs.declared.name.Name.{Name}
 use Rattle.sheet.specs.Rows.{row, cell_text, body_bytes, body_text, sheet_from, texts}
@@ -38,15 +36,15 @@ use Rattle.members.specs.told.PairsTold.{pair_in, pair_rows, PairTold}
 use Rattle.members.specs.told.ParametersTold.{WalkedWithin, ParameterTold, ParametersAtTold, ParametersInTold}
 use Rattle.members.specs.declared.pairs.TypePair.{TypePair}
 use Rattle.schema.specs.declared.Stop.TheVariants as stop
-use Rattle.schema.specs.declared.Listed.{Listed}
-use Rattle.schema.specs.declared.Listed.TheVariants as listed
-use Rattle.schema.specs.declared.Walked.{Walked}
-use Rattle.schema.specs.declared.Walked.TheVariants as walked
 use Rattle.schema.proofs.NamedLaws.{cell-length}
 use Rattle.schema.proofs.CountLaws.{within_less, within_both, spends-within}
 use Rattle.schema.proofs.EachLaws.{always, each-kept}
 use Rattle.declaration_rows.proofs.RecordLaws.{parameter-put}
 use Rattle.members.proofs.PairLaws.{both-made}
+use Rattle.std.specs.declared.result.Result.{Result}
+use Rattle.std.specs.declared.result.Result.TheVariants.{Ok, Err}
+use Rattle.schema.specs.told.SchemaTold.{Walked}
+use Rattle.schema.specs.told.MembersTold.{ListWalked}
 
 -- what a parameter's record takes
 record_length : (o : ℕ) (name : Option Text) (default : Bool) → length (body_bytes o (parameter_cells name default)) ≡ 5
@@ -110,18 +108,18 @@ module _ (e : Lent) (msg : List ℕ) (base : ℕ) (s : State) (name : Name)
     (d : (m : Message) → cut (◌from◌ base msg) ≡ ok m → bit_of 1 (small_flags_in ValueParameter-flags m) ≡ default) {s₁ : State} {S S₁ T T₁ : List ℕ}
     (p : PutRows (row 5 (parameter_cells (name_text e.payload e.d2 name) default) ∷ []) s.types s s₁ S S₁ T T₁) where
   spent : (w : Walked) → WalkedSpends s₁ w → WalkedWithin parameter_cost s w
-  spent (walked.Done s₂) u =
+  spent (Ok s₂) u =
       within_both parameter_cost (omega arith) (within_less parameter_cost (omega arith) (parameter-within afford name default p)) (spends-within u)
-  spent (walked.Refused stop) u = tt
+  spent (Err stop) u = tt
 
   told : (c : Scope) (m : Message) → cut (◌from◌ base msg) ≡ ok m → (r : Res (Parameter × ℕ))
       → r ≡ Results.◌>>=◌ (pair_in parameter_pair c m s₁.types) (λ x. pure (parameter_of (name_text e.payload e.d2 name) m x.0) x.1)
       → (w : Walked) (S₂ T₂ : List ℕ) → WalkedTold (pair_in parameter_pair c m s₁.types) (pair_rows parameter_pair) s₁ w S₁ S₂ T₁ T₂
       → WalkedTold r parameter_rows s w S S₂ T T₂
-  told c m k r g (walked.Done s₂) S₂ T₂ (ts, b, y, z) =
+  told c m k r g (Ok s₂) S₂ T₂ (ts, b, y, z) =
       let o = name_text e.payload e.d2 name in
       (parameter_of o m ts, b, g ∙ rw y, parameter_puts o m ts (d m k) p z)
-  told c m k r g (walked.Refused stop) S₂ T₂ y = g ∙ rw y
+  told c m k r g (Err stop) S₂ T₂ y = g ∙ rw y
 
   pub parameter-told : {w : Walked} {S₂ T₂ : List ℕ} → PairTold parameter_pair e msg base s₁ w S₁ S₂ T₁ T₂ → ParameterTold e msg base s w S S₂ T T₂
   parameter-told {w} {S₂} {T₂} u = record {
@@ -142,15 +140,15 @@ pub never_skipped : {e : Lent} {msg : List ℕ} {base : ℕ} {s : State} {w : Wa
 never_skipped {e} {msg} {base} {s} {w} {S} {S'} {T} {T'} u = record { spends = spends w u.spends; is = λ c o m k. is (parameter_in c m s.types) w (u.is c o m k) }
   where
     spends : (x : Walked) → WalkedWithin parameter_cost s x → PickedWithin parameter_cost s (picked_of x)
-    spends (walked.Done s') h = h
-    spends (walked.Refused stop) h = tt
+    spends (Ok s') h = h
+    spends (Err stop) h = tt
 
     is : (r : Res (Parameter × ℕ)) (x : Walked) → WalkedTold r parameter_rows s x S S' T T'
         → PickedTold (Results.◌>>=◌ r λ q. pure (some q.0) q.1) parameter_rows s (picked_of x) S S' T T'
-    is r (walked.Done s') (a, b, g, p) = (a, b, rw g, p)
-    is r (walked.Refused stop) g = rw g
+    is r (Ok s') (a, b, g, p) = (a, b, rw g, p)
+    is r (Err stop) g = rw g
 
-pub all_read : {e : Lent} {msg : List ℕ} {base number : ℕ} {s : State} {r : Listed} {S S' T T' : List ℕ}
+pub all_read : {e : Lent} {msg : List ℕ} {base number : ℕ} {s : State} {r : ListWalked} {S S' T T' : List ℕ}
     → ListAtTold read_always parameter_rows (parameter_cost * length msg) e msg base number s r S S' T T' → ParametersAtTold e msg base number s r S S' T T'
 all_read {e} {msg} {base} {number} {s} {r} {S} {S'} {T} {T'} u = record {
   spends = u.spends;
@@ -164,19 +162,19 @@ parameters-are : (c : Scope) (number : ℕ) (m : Message) (l : ℕ) {ms : List M
 unfolding parameters_in
 parameters-are c number m l e = rw e
 
-module _ {e : Lent} {msg : List ℕ} {base number : ℕ} {s : State} (x : Checked)
+module _ {e : Lent} {msg : List ℕ} {base number : ℕ} {s : State} (x : Result Unit WireError)
     (t : (m : Message) → cut (◌from◌ base msg) ≡ ok m → CheckedTold (messages number m) x) where
-  pub parameters-uncut : {error err : WireError} → x ≡ checked.Refused error → err ≡ error → {S S' T T' : List ℕ}
-      → ParametersInTold e msg base number s (listed.Refused (stop.Wire err)) S S' T T'
+  pub parameters-uncut : {error : WireError} → x ≡ Err error → {S S' T T' : List ℕ}
+      → ParametersInTold e msg base number s (Err (stop.Wire error)) S S' T T'
   unfolding parameters_in
-  parameters-uncut {error} {err} g q = record {
+  parameters-uncut {error} g = record {
     spends = tt;
     is = λ c o m k.
         let cuts : messages number m ≡ stop_refused (stop.Wire error) = subst (CheckedTold (messages number m)) g (t m k) in
-        rw (q, cuts);
+        rw cuts;
   }
 
-  pub parameters-cut : x ≡ checked.Whole → {r : Listed} {S S' T T' : List ℕ} → ParametersAtTold e msg base number s r S S' T T'
+  pub parameters-cut : x ≡ Ok tt → {r : ListWalked} {S S' T T' : List ℕ} → ParametersAtTold e msg base number s r S S' T T'
       → ParametersInTold e msg base number s r S S' T T'
   parameters-cut g {r} {S} {S'} {T} {T'} u = record {
     spends = u.spends;

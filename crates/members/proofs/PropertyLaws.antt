@@ -16,8 +16,6 @@ use Rattle.wire.specs.Wire.{Message, cut}
 use Rattle.wire.specs.Messages.{message}
 use Rattle.wire.specs.told.WireTold.{wire_refused}
 use Rattle.wire.specs.declared.WireError.{WireError}
-use Rattle.messages.specs.declared.Checked.{Checked}
-use Rattle.messages.specs.declared.Checked.TheVariants as checked
 use Rattle.names.specs.told.Name.{name_text}
 use Rattle.names.specs.declared.name.Name.{Name}
 use Rattle.sheet.specs.Rows.{Cell, num, ref, cell_text, cell_bytes, row, body_bytes, body_text, sheet_from, texts}
@@ -38,20 +36,18 @@ use Rattle.members.specs.told.SignaturesTold.{AccessorTold, PropertySignedTold, 
 use Rattle.members.specs.told.PropertiesTold.{record_cost, PropertyRecordTold, NamedPropertyTold}
 use Rattle.schema.specs.declared.Stop.{Stop}
 use Rattle.schema.specs.declared.Stop.TheVariants as stop
-use Rattle.schema.specs.declared.Walked.{Walked}
-use Rattle.schema.specs.declared.Walked.TheVariants as walked
-use Rattle.schema.specs.declared.Picked.{Picked}
-use Rattle.schema.specs.declared.Picked.TheVariants as picked
 use Rattle.declaration_rows.specs.declared.SignatureNames.{SignatureNames}
-use Rattle.members.specs.declared.signatures.Signed.{Signed}
-use Rattle.members.specs.declared.signatures.Signed.TheVariants as answer
+use Rattle.members.specs.told.SignaturesTold.{Signed}
 use Rattle.members.specs.declared.signatures.PropertyNames.{PropertyNames}
-use Rattle.members.specs.declared.signatures.PropertySigned.{PropertySigned}
-use Rattle.members.specs.declared.signatures.PropertySigned.TheVariants as property
+use Rattle.members.specs.told.SignaturesTold.{PropertySigned}
 use Rattle.declaration_rows.proofs.WrittenLaws.{Small, property-small}
 use Rattle.declaration_rows.proofs.RecordLaws.{property-put}
 use Rattle.schema.proofs.CountLaws.{within_both, spends-within, affords-after, affords-ready}
 use Rattle.schema.proofs.TypeLaws.{ready-after}
+use Rattle.std.specs.declared.option.Option.TheVariants.{Some, None}
+use Rattle.std.specs.declared.result.Result.{Result}
+use Rattle.std.specs.declared.result.Result.TheVariants.{Ok, Err}
+use Rattle.schema.specs.told.SchemaTold.{Walked, Picked}
 
 -- What the cells of a record take at most: a number its width, a name what a cell may take.
 abbrev cost_of : List Cell → ℕ
@@ -88,7 +84,7 @@ row_cost k cs n small l {s} {s'} {S} {S'} {T} {T'} p =
 
 -- A property's record can be afforded, and then its types.
 pub property_ready : {payload d2 : List ℕ} (n : ℕ) {s s₁ s₂ : State} {x : Walked} → Affords payload d2 (member_cost n) s → Within record_cost s s₁
-    → WalkedSpends s₁ x → x ≡ walked.Done s₂ → Ready payload d2 s₂
+    → WalkedSpends s₁ x → x ≡ Ok s₂ → Ready payload d2 s₂
 property_ready n {s₁ = s₁} h p q e = ready-after (affords-ready (affords-after h 0 p (omega arith))) (subst (WalkedSpends s₁) e q)
 
 -- A property's record by what was looked up for it.
@@ -99,7 +95,7 @@ module _ (payload d2 msg : List ℕ) (base : ℕ) (name : Name) (n : PropertyNam
       → declared_type c Property-receiver_type Property-receiver_type_id m l ≡ ok (o, b) → receiver_in o Property-receiver_type_id m ≡ receiver)
       → ((m : Message) → cut (◌from◌ base msg) ≡ ok m → accessor_is_default Property-getter_flags m ≡ getter_default)
       → ((m : Message) → cut (◌from◌ base msg) ≡ ok m → accessor_is_default Property-setter_flags m ≡ setter_default)
-      → ((x : SignatureNames) → n.getter ≡ answer.Names x → g' ≡ x) → ((x : SignatureNames) → n.setter ≡ answer.Names x → h' ≡ x)
+      → ((x : SignatureNames) → n.getter ≡ Ok x → g' ≡ x) → ((x : SignatureNames) → n.setter ≡ Ok x → h' ≡ x)
       → PutRows
       (row 4 (
       property_cells (name_text payload d2 name) flags receiver getter_default setter_default (signature_by payload d2 n.field)
@@ -189,11 +185,11 @@ module _ (e : Lent) (msg : List ℕ) (base : ℕ) (name : Name) (n : PropertyNam
     (head : PropertyRecordTold e.payload e.d2 msg base name n s s₁ S S₁ T T₁) {x : Walked} {S₂ T₂ : List ℕ}
     (first : OptionalTold e msg base Property-receiver_type Property-receiver_type_id receiver_role s₁ x S₁ S₂ T₁ T₂) where
   module _ (c : Scope) (o : Option Message) (number : ℕ) (w : Signed) (h : AccessorTold e.payload e.d2 c o number w) (l : ℕ) where
-    accessor-there : (v : SignatureNames) → w ≡ answer.Names v
+    accessor-there : (v : SignatureNames) → w ≡ Ok v
         → of_signature (signature_in c none number) o l ≡ ok (signature_by e.payload e.d2 v, l)
     accessor-there v p = subst (AccessorTold e.payload e.d2 c o number) p h l
 
-    accessor-refused : (error : WireError) → w ≡ answer.Refused error → of_signature (signature_in c none number) o l ≡ wire_refused error
+    accessor-refused : (error : WireError) → w ≡ Err error → of_signature (signature_in c none number) o l ≡ wire_refused error
     accessor-refused error p = subst (AccessorTold e.payload e.d2 c o number) p h l
 
   received : {y : Walked} → x ≡ y → (c : Scope) → Scoped e c → (m : Message) → cut (◌from◌ base msg) ≡ ok m
@@ -204,16 +200,16 @@ module _ (e : Lent) (msg : List ℕ) (base : ℕ) (name : Name) (n : PropertyNam
       (subst (λ (w : Walked). WalkedTold (declared_type c Property-receiver_type Property-receiver_type_id m s₁.types) (type_rows receiver_role) s₁ w S₁ S₂ T₁ T₂)
       g (first.is c o m k))
 
-  pub named-unreceived : {stop : Stop} → x ≡ walked.Refused stop → NamedPropertyTold e msg base name n s (picked.Refused stop) S S₂ T T₂
+  pub named-unreceived : {stop : Stop} → x ≡ Err stop → NamedPropertyTold e msg base name n s (Err stop) S S₂ T T₂
   named-unreceived {stop} g = record {
     spends = tt;
     is = λ c o m k t q named signed.
         let l = s.types in receiver-refused c m l (named l) signed.1 (signed.2.field l) stop (received g c o m k);
   }
 
-  module _ {s₂ : State} (g : x ≡ walked.Done s₂) {y : Checked} (due : AccessorsDue n y) where
-    pub named-unsigned : {error : WireError} → y ≡ checked.Refused error
-        → NamedPropertyTold e msg base name n s (picked.Refused (stop.Wire error)) S S₂ T T₂
+  module _ {s₂ : State} (g : x ≡ Ok s₂) {y : Result Unit WireError} (due : AccessorsDue n y) where
+    pub named-unsigned : {error : WireError} → y ≡ Err error
+        → NamedPropertyTold e msg base name n s (Err (stop.Wire error)) S S₂ T T₂
     named-unsigned {error} f = record {
       spends = tt;
       is = λ c o m k t q named signed.
@@ -231,9 +227,9 @@ module _ (e : Lent) (msg : List ℕ) (base : ℕ) (name : Name) (n : PropertyNam
           (subst (AccessorsDue n) f due);
     }
 
-    module _ (f : y ≡ checked.Whole) {z : Walked} {S₃ T₃ : List ℕ}
+    module _ (f : y ≡ Ok tt) {z : Walked} {S₃ T₃ : List ℕ}
         (last : OptionalTold e msg base Property-return_type Property-return_type_id return_role s₂ z S₂ S₃ T₂ T₃) where
-      both : AccessorsDue n checked.Whole
+      both : AccessorsDue n (Ok tt)
       both = subst (AccessorsDue n) f due
 
       typed : {w : Walked} → z ≡ w → (c : Scope) → Scoped e c → (m : Message) → cut (◌from◌ base msg) ≡ ok m → (b : ℕ) → s₂.types ≡ b
@@ -243,7 +239,7 @@ module _ (e : Lent) (msg : List ℕ) (base : ℕ) (name : Name) (n : PropertyNam
           (subst (λ (v : Walked). WalkedTold (declared_type c Property-return_type Property-return_type_id m s₂.types) (type_rows return_role) s₂ v S₂ S₃ T₂ T₃)
           p (last.is c o m k))
 
-      pub named-untyped : {stop : Stop} → z ≡ walked.Refused stop → NamedPropertyTold e msg base name n s (picked.Refused stop) S S₃ T T₃
+      pub named-untyped : {stop : Stop} → z ≡ Err stop → NamedPropertyTold e msg base name n s (Err stop) S S₃ T T₃
       unfolding both
       named-untyped {stop} p = record {
         spends = tt;
@@ -257,7 +253,7 @@ module _ (e : Lent) (msg : List ℕ) (base : ℕ) (name : Name) (n : PropertyNam
             stop (typed p c o m k r.1 (put-types r.3));
       }
 
-      pub named-done : {s₃ : State} → z ≡ walked.Done s₃ → NamedPropertyTold e msg base name n s (picked.Kept s₃) S S₃ T T₃
+      pub named-done : {s₃ : State} → z ≡ Ok s₃ → NamedPropertyTold e msg base name n s (Ok (Some s₃)) S S₃ T T₃
       unfolding both
       named-done {s₃} p = record {
         spends =
@@ -300,7 +296,7 @@ module _ (e : Lent) (msg : List ℕ) (base : ℕ) (s : State) (name : Name)
     (looked : (c : Scope) → Scoped e c → (m : Message) → cut (◌from◌ base msg) ≡ ok m → (l : ℕ)
     → name_in c Property-name m l ≡ ok (name_text e.payload e.d2 name, l)) where
   pub property-dropped : {S T : List ℕ} → is_some (name_text e.payload e.d2 name) ≡ false
-      → MemberTold property_in property_rows (member_cost (length msg)) e msg base s picked.Dropped S S T T
+      → MemberTold property_in property_rows (member_cost (length msg)) e msg base s (Ok None) S S T T
   property-dropped h = record {
     spends = tt;
     is = λ c o m k.
@@ -317,8 +313,8 @@ module _ (e : Lent) (msg : List ℕ) (base : ℕ) (s : State) (name : Name)
 
     module _ {x : PropertySigned}
         (signed : (c : Scope) → Scoped e c → (m : Message) → cut (◌from◌ base msg) ≡ ok m → PropertySignedTold e.payload e.d2 c m x) where
-      pub property-unsigned : {error : WireError} → x ≡ property.Refused error → {S S' T T' : List ℕ}
-          → MemberTold property_in property_rows (member_cost (length msg)) e msg base s (picked.Refused (stop.Wire error)) S S' T T'
+      pub property-unsigned : {error : WireError} → x ≡ Err error → {S S' T T' : List ℕ}
+          → MemberTold property_in property_rows (member_cost (length msg)) e msg base s (Err (stop.Wire error)) S S' T T'
       unfolding named
       property-unsigned {error} g = record {
         spends = tt;
@@ -326,7 +322,7 @@ module _ (e : Lent) (msg : List ℕ) (base : ℕ) (s : State) (name : Name)
             property-broken c m s.types ((named c o m k).2 s.types) error (subst (PropertySignedTold e.payload e.d2 c m) g (signed c o m k));
       }
 
-      pub property-named : {n : PropertyNames} → x ≡ property.Names n → {r : Picked} {S S' T T' : List ℕ}
+      pub property-named : {n : PropertyNames} → x ≡ Ok n → {r : Picked} {S S' T T' : List ℕ}
           → NamedPropertyTold e msg base name n s r S S' T T' → MemberTold property_in property_rows (member_cost (length msg)) e msg base s r S S' T T'
       unfolding named
       property-named g told = record {

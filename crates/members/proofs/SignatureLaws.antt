@@ -14,8 +14,6 @@ use Rattle.fields.specs.Fields.{Property-property_signature, JvmMethodSignature-
 use Rattle.wire.specs.Wire.{Message, cut}
 use Rattle.messages.specs.told.Asked.{EmbeddedIs, EmbeddedTold}
 use Rattle.wire.specs.declared.WireError.{WireError}
-use Rattle.messages.specs.declared.Embedded.{Embedded}
-use Rattle.messages.specs.declared.Embedded.TheVariants as embedded
 use Rattle.names.specs.told.Name.{name_text}
 use Rattle.schema.specs.Reading.{pure, ◌>>=◌, Scope, name_in}
 use Rattle.schema.specs.Members.{signature_of, signature_in, field_of, field_in, of_signature}
@@ -23,11 +21,16 @@ use Rattle.declaration_rows.specs.Declarations.{signed}
 use Rattle.declaration_rows.specs.told.Written.{signature_by}
 use Rattle.members.specs.told.SignaturesTold.{NamesTold, SignedTold, AccessorTold, ThreeTold, PropertySignedTold}
 use Rattle.declaration_rows.specs.declared.SignatureNames.{SignatureNames}
-use Rattle.members.specs.declared.signatures.Signed.{Signed}
-use Rattle.members.specs.declared.signatures.Signed.TheVariants as answer
+use Rattle.members.specs.told.SignaturesTold.{Signed}
 use Rattle.members.specs.declared.signatures.PropertyNames.{PropertyNames}
-use Rattle.members.specs.declared.signatures.PropertySigned.TheVariants as property
 use Rattle.schema.proofs.NamedLaws.{absent-name}
+use Rattle.std.specs.declared.option.Option as rust
+use Rattle.std.specs.declared.option.Option.TheVariants.{Some, None}
+use Rattle.std.specs.Result.{result_unwrap_or}
+use Rattle.std.specs.declared.result.Result.{Result}
+use Rattle.std.specs.declared.result.Result.TheVariants.{Ok, Err}
+use Rattle.foundation.specs.declared.Span.{Span}
+use Rattle.messages.specs.told.Asked.{span}
 
 -- A name, or another if it is absent.
 pub own_name : (a b : Option Text) → is_some a ≡ true → a ≡ or_else a b
@@ -45,6 +48,11 @@ or_none (some x) = refl
 undescribed : (a : Option Text) → both_of signed a none ≡ none
 undescribed none = refl
 undescribed (some t) = refl
+
+-- a message that is there, where a broken one counts as none
+pub inner-there : {A E : Type 0} (x : Result (rust.Option A) E) {p : A} → result_unwrap_or x None ≡ Some p → x ≡ Ok (Some p)
+inner-there (Ok o) g = ap Ok g
+inner-there (Err error) g = let z : ◌≡◌ {A = ℕ} 0 1 = cc in absurd (omega arith)
 
 module _ (payload units : List ℕ) (c : Scope) where
   -- in its own message
@@ -66,67 +74,66 @@ module _ (payload units : List ℕ) (c : Scope) where
 
   -- in a field of a message
   module _ {base : ℕ} {msg : List ℕ} {m : Message} (k : cut (◌from◌ base msg) ≡ ok m) where
-    here : {number : ℕ} {x y : Embedded} → EmbeddedTold base msg number x → x ≡ y → EmbeddedIs base msg number m y
+    here : {number : ℕ} {x y : Result (rust.Option Span) WireError} → EmbeddedTold base msg number x → x ≡ y → EmbeddedIs base msg number m y
     here {number} t g = subst (EmbeddedIs base msg number m) g (t.is m k)
 
-    module _ {number : ℕ} {x : Embedded} (t : EmbeddedTold base msg number x) where
-      pub signed-inline : {a b : ℕ} → x ≡ embedded.Inline a b → {n : SignatureNames}
+    module _ {number : ℕ} {x : Result (rust.Option Span) WireError} (t : EmbeddedTold base msg number x) where
+      pub signed-inline : {a b : ℕ} → x ≡ Ok (Some (span a b)) → {n : SignatureNames}
           → ((m : Message) → cut (◌from◌ (base + a) (take (b - a) (drop a msg))) ≡ ok m → NamesTold payload units c m n)
-          → SignedTold payload units c number m (answer.Names n)
+          → SignedTold payload units c number m (Ok n)
       unfolding signature_in
       signed-inline g h fallback l = let i = here t g in rw i.2 (signature-of i.0 (h i.0 i.1) l fallback)
 
-      pub signed-nothing : x ≡ embedded.Nothing → (n : SignatureNames) → n.descriptor.source ≡ 0 → SignedTold payload units c number m (answer.Names n)
+      pub signed-nothing : x ≡ Ok None → (n : SignatureNames) → n.descriptor.source ≡ 0 → SignedTold payload units c number m (Ok n)
       unfolding signature_in
       signed-nothing g n h fallback l =
           rw (here t g, absent-name payload units n.descriptor h, undescribed (or_else (name_text payload units n.name) fallback))
 
-      pub signed-refused : {error : WireError} → x ≡ embedded.Refused error → SignedTold payload units c number m (answer.Refused error)
+      pub signed-refused : {error : WireError} → x ≡ Err error → SignedTold payload units c number m (Err error)
       unfolding signature_in
       signed-refused g fallback l = rw (here t g)
 
-    module _ {x : Embedded} (t : EmbeddedTold base msg JvmPropertySignature-field x) (l : ℕ) where
-      pub field-inline : {a b : ℕ} → x ≡ embedded.Inline a b → {n : SignatureNames}
+    module _ {x : Result (rust.Option Span) WireError} (t : EmbeddedTold base msg JvmPropertySignature-field x) (l : ℕ) where
+      pub field-inline : {a b : ℕ} → x ≡ Ok (Some (span a b)) → {n : SignatureNames}
           → ((m : Message) → cut (◌from◌ (base + a) (take (b - a) (drop a msg))) ≡ ok m → NamesTold payload units c m n)
           → field_in c m l ≡ ok (signature_by payload units n, l)
       unfolding field_in
       field-inline g h = let i = here t g in rw i.2 (field-of i.0 (h i.0 i.1) l)
 
     -- without a message, or with a broken one
-    pub field-absent : (x : Embedded) → EmbeddedTold base msg JvmPropertySignature-field x → ((start end : ℕ) → x ≡ embedded.Inline start end → ⊥) → (l : ℕ)
+    pub field-absent : (x : Result (rust.Option Span) WireError) → EmbeddedTold base msg JvmPropertySignature-field x → result_unwrap_or x None ≡ None → (l : ℕ)
         → (n : SignatureNames) → n.name.source ≡ 0 → field_in c m l ≡ ok (signature_by payload units n, l)
     unfolding field_in
-    field-absent (embedded.Inline a b) t o l n h = absurd (o a b refl)
-    field-absent embedded.Nothing t o l n h = rw (here t refl, absent-name payload units n.name h)
-    field-absent (embedded.Refused error) t o l n h = rw (here t refl, absent-name payload units n.name h)
+    field-absent (Ok o) t g l n h = rw (here t (ap Ok g), absent-name payload units n.name h)
+    field-absent (Err error) t g l n h = rw (here t refl, absent-name payload units n.name h)
 
   -- Without a name to fall back to; a constructor's; with one that is looked up.
-  module _ (number : ℕ) (m : Message) (n : SignatureNames) (h : SignedTold payload units c number m (answer.Names n)) (l : ℕ) where
+  module _ (number : ℕ) (m : Message) (n : SignatureNames) (h : SignedTold payload units c number m (Ok n)) (l : ℕ) where
     pub signature-by : signature_in c none number m l ≡ ok (signature_by payload units n, l)
     signature-by =
         h none l ∙ ap (λ (o : Option Text). ok (both_of signed o (name_text payload units n.descriptor), l)) (or_none (name_text payload units n.name))
 
   -- The signatures of a property: of its signature message, of none, and of its own message.
   pub accessor-told : (number : ℕ) (m : Message) (x : Signed) → SignedTold payload units c number m x → AccessorTold payload units c (some m) number x
-  accessor-told number m (answer.Names n) h = λ l. signature-by number m n h l
-  accessor-told number m (answer.Refused error) h = λ l. h none l
+  accessor-told number m (Ok n) h = λ l. signature-by number m n h l
+  accessor-told number m (Err error) h = λ l. h none l
 
   pub unsigned-field : (n : SignatureNames) → n.name.source ≡ 0 → (l : ℕ) → of_signature (field_in c) none l ≡ ok (signature_by payload units n, l)
   unsigned-field n h l = rw (absent-name payload units n.name h)
 
-  pub unsigned-accessor : (number : ℕ) (n : SignatureNames) → n.name.source ≡ 0 → AccessorTold payload units c none number (answer.Names n)
+  pub unsigned-accessor : (number : ℕ) (n : SignatureNames) → n.name.source ≡ 0 → AccessorTold payload units c none number (Ok n)
   unsigned-accessor number n h l = rw (absent-name payload units n.name h)
 
-  module _ {base : ℕ} {msg : List ℕ} {m : Message} (k : cut (◌from◌ base msg) ≡ ok m) {x : Embedded}
+  module _ {base : ℕ} {msg : List ℕ} {m : Message} (k : cut (◌from◌ base msg) ≡ ok m) {x : Result (rust.Option Span) WireError}
       (t : EmbeddedTold base msg Property-property_signature x) where
-    pub property-inline : {a b : ℕ} → x ≡ embedded.Inline a b → {n : PropertyNames}
+    pub property-inline : {a b : ℕ} → x ≡ Ok (Some (span a b)) → {n : PropertyNames}
         → ((m : Message) → cut (◌from◌ (base + a) (take (b - a) (drop a msg))) ≡ ok m → ThreeTold payload units c (some m) n)
-        → PropertySignedTold payload units c m (property.Names n)
+        → PropertySignedTold payload units c m (Ok n)
     property-inline g h = let i = here k t g in (some i.0, i.2, h i.0 i.1)
 
-    pub property-nothing : x ≡ embedded.Nothing → (n : PropertyNames) → ThreeTold payload units c none n
-        → PropertySignedTold payload units c m (property.Names n)
+    pub property-nothing : x ≡ Ok None → (n : PropertyNames) → ThreeTold payload units c none n
+        → PropertySignedTold payload units c m (Ok n)
     property-nothing g n h = (none, here k t g, h)
 
-    pub property-refused : {error : WireError} → x ≡ embedded.Refused error → PropertySignedTold payload units c m (property.Refused error)
+    pub property-refused : {error : WireError} → x ≡ Err error → PropertySignedTold payload units c m (Err error)
     property-refused g = here k t g

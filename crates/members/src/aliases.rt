@@ -15,8 +15,7 @@ use fields::{
 use names::name::is_there;
 use schema::flags::flags_in;
 use schema::name::name_in;
-use schema::types::picked;
-use schema::{Picked, Tables, TypeSlot};
+use schema::{Stop, Tables, TypeSlot};
 use sheet::State;
 
 // An alias. One without a name is skipped before anything inside it is read.
@@ -31,7 +30,7 @@ pub(crate) fn alias_in(
     state: State,
     sheet: &mut [u8],
     text: &mut [u8],
-) -> Picked
+) -> Result<Option<State>, Stop>
     requires { Affords payload.now d2.now (member_cost (length msg.now)) state × (base + length msg.now ≤ length payload.now) }
     ensures { MemberTold alias_in alias_rows (member_cost (length msg.now)) (lent payload.now d2.now ends.now notes.now tables) msg.now base state result sheet.old sheet.new text.old text.new }
 {
@@ -45,7 +44,7 @@ pub(crate) fn alias_in(
         tables.records,
     );
     if !is_there(name) {
-        return Picked::Dropped;
+        return Ok(None);
     }
     let flags = flags_in(msg, base, TYPE_ALIAS_FLAGS, OMITTED_FLAGS);
     let head = put_alias(payload, d2, name, flags, state, sheet, text);
@@ -61,7 +60,8 @@ pub(crate) fn alias_in(
             role: EXPANDED_ROLE,
         },
     };
-    picked(type_pair(
+    let last = type_pair(
         msg, base, pair, payload, d2, ends, notes, tables, head, sheet, text,
-    ))
+    )?;
+    Ok(Some(last))
 }

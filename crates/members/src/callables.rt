@@ -1,14 +1,13 @@
 // Constructors and functions. The definitions: schema's specs/Members.antt; what the readers tell: specs/told/CallablesTold.antt, schema's specs/told/MembersTold.antt.
-ghost use Rattle.std.specs.Prelude.{◌≡◌, ◌+◌, ◌≤◌, length};
+ghost use Rattle.std.specs.Prelude.{◌+◌, ◌≤◌, length};
 ghost use Rattle.schema.specs.Members.{constructor_in, function_in};
 ghost use Rattle.declaration_rows.specs.Rows.{constructor_rows, function_rows};
 ghost use Rattle.schema.specs.told.SchemaTold.{lent, Ready};
 ghost use Rattle.schema.specs.told.MembersTold.{Affords, member_cost, MemberTold};
 ghost use Rattle.members.specs.told.CallablesTold.{function_head_cost, FunctionHead, FunctionTypesTold};
-ghost use Rattle.members.specs.declared.signatures.Signed.TheVariants as answer;
 
 use crate::parameters::parameters_in;
-use crate::signatures::{Signed, or_name, signature_in};
+use crate::signatures::{Signed, names_of, or_name, signature_in};
 use declaration_rows::{
     RECEIVER_ROLE, RETURN_ROLE, SignatureNames, put_constructor, put_count, put_function,
 };
@@ -18,26 +17,13 @@ use fields::{
     FUNCTION_RECEIVER_TYPE_ID, FUNCTION_RETURN_TYPE, FUNCTION_RETURN_TYPE_ID,
     FUNCTION_VALUE_PARAMETER, OMITTED_FLAGS,
 };
-use names::name::{Name, absent, is_there};
+use names::name::{Name, is_there};
 use schema::flags::flags_in;
 use schema::name::name_in;
 use schema::receiver::has_receiver;
-use schema::{Listed, Picked, Stop, Tables, TypeSlot, Walked};
+use schema::{Stop, Tables, TypeSlot};
 use sheet::State;
 use type_references::declared_type;
-
-// The names of a signature. One that is refused has none, and its refusal is due later.
-fn names_of(signed: Signed) -> SignatureNames
-    ensures { (n : SignatureNames) → signed ≡ answer.Names n → result ≡ n }
-{
-    match signed {
-        Signed::Names { names } => names,
-        Signed::Refused { error: _ } => SignatureNames {
-            name: absent(),
-            descriptor: absent(),
-        },
-    }
-}
 
 // A constructor. Its signature is looked up first, since it stands in its record; its refusal is due after the parameters.
 pub(crate) fn constructor_in(
@@ -51,7 +37,7 @@ pub(crate) fn constructor_in(
     state: State,
     sheet: &mut [u8],
     text: &mut [u8],
-) -> Picked
+) -> Result<Option<State>, Stop>
     requires { Affords payload.now d2.now (member_cost (length msg.now)) state × (base + length msg.now ≤ length payload.now) }
     ensures { MemberTold constructor_in constructor_rows (member_cost (length msg.now)) (lent payload.now d2.now ends.now notes.now tables) msg.now base state result sheet.old sheet.new text.old text.new }
 {
@@ -65,14 +51,10 @@ pub(crate) fn constructor_in(
         notes,
         tables.records,
     );
-    let names = names_of(signed);
-    let head = put_constructor(payload, d2, flags, names, state, sheet, text);
-    let counted = head.sheet;
-    let past = counted + 2;
+    let head = put_constructor(payload, d2, flags, names_of(signed), state, sheet, text);
     let after = State {
-        sheet: past,
-        text: head.text,
-        types: head.types,
+        sheet: head.sheet + 2,
+        ..head
     };
     let parameters = parameters_in(
         msg,
@@ -86,21 +68,10 @@ pub(crate) fn constructor_in(
         after,
         sheet,
         text,
-    );
-    let Listed::Done { state: last, count } = parameters else {
-        return Picked::Refused {
-            stop: parameters.stop(),
-        };
-    };
-    let Signed::Names { names: _ } = signed else {
-        return Picked::Refused {
-            stop: Stop::Wire {
-                error: signed.error(),
-            },
-        };
-    };
-    put_count(sheet, counted, count);
-    Picked::Kept { state: last }
+    )?;
+    signed?;
+    put_count(sheet, head.sheet, parameters.count);
+    Ok(Some(parameters.state))
 }
 
 // A function's record up to its parameter count. The name of its signature falls back to the function's own.
@@ -120,12 +91,9 @@ fn function_head(
 {
     let flags = flags_in(msg, base, FUNCTION_FLAGS, OMITTED_FLAGS);
     let own = names_of(signed);
-    let own_name = own.name;
-    let descriptor = own.descriptor;
-    let either = or_name(own_name, name);
     let names = SignatureNames {
-        name: either,
-        descriptor,
+        name: or_name(own.name, name),
+        descriptor: own.descriptor,
     };
     let receiver = has_receiver(msg, base, FUNCTION_RECEIVER_TYPE, FUNCTION_RECEIVER_TYPE_ID);
     put_function(
@@ -146,7 +114,7 @@ fn function_types(
     state: State,
     sheet: &mut [u8],
     text: &mut [u8],
-) -> Walked
+) -> Result<State, Stop>
     requires { Ready payload.now d2.now state × (base + length msg.now ≤ length payload.now) }
     ensures { FunctionTypesTold (lent payload.now d2.now ends.now notes.now tables) msg.now base signed state result sheet.old sheet.new text.old text.new }
 {
@@ -155,19 +123,10 @@ fn function_types(
         indexed: FUNCTION_RECEIVER_TYPE_ID,
         role: RECEIVER_ROLE,
     };
-    let receiver = declared_type(
+    let next = declared_type(
         msg, base, received, payload, d2, ends, notes, tables, state, sheet, text,
-    );
-    let Walked::Done { state: next } = receiver else {
-        return receiver;
-    };
-    let Signed::Names { names: _ } = signed else {
-        return Walked::Refused {
-            stop: Stop::Wire {
-                error: signed.error(),
-            },
-        };
-    };
+    )?;
+    signed?;
     let returned = TypeSlot {
         inline: FUNCTION_RETURN_TYPE,
         indexed: FUNCTION_RETURN_TYPE_ID,
@@ -191,7 +150,7 @@ pub(crate) fn function_in(
     state: State,
     sheet: &mut [u8],
     text: &mut [u8],
-) -> Picked
+) -> Result<Option<State>, Stop>
     requires { Affords payload.now d2.now (member_cost (length msg.now)) state × (base + length msg.now ≤ length payload.now) }
     ensures { MemberTold function_in function_rows (member_cost (length msg.now)) (lent payload.now d2.now ends.now notes.now tables) msg.now base state result sheet.old sheet.new text.old text.new }
 {
@@ -205,7 +164,7 @@ pub(crate) fn function_in(
         tables.records,
     );
     if !is_there(name) {
-        return Picked::Dropped;
+        return Ok(None);
     }
     let signed = signature_in(
         msg,
@@ -217,12 +176,9 @@ pub(crate) fn function_in(
         tables.records,
     );
     let head = function_head(msg, base, name, signed, payload, d2, state, sheet, text);
-    let place = head.sheet;
-    let past = place + 2;
     let after = State {
-        sheet: past,
-        text: head.text,
-        types: head.types,
+        sheet: head.sheet + 2,
+        ..head
     };
     let parameters = parameters_in(
         msg,
@@ -236,18 +192,20 @@ pub(crate) fn function_in(
         after,
         sheet,
         text,
-    );
-    let Listed::Done { state: next, count } = parameters else {
-        return Picked::Refused {
-            stop: parameters.stop(),
-        };
-    };
-    let types = function_types(
-        msg, base, signed, payload, d2, ends, notes, tables, next, sheet, text,
-    );
-    let Walked::Done { state: last } = types else {
-        return Picked::Refused { stop: types.stop() };
-    };
-    put_count(sheet, place, count);
-    Picked::Kept { state: last }
+    )?;
+    let last = function_types(
+        msg,
+        base,
+        signed,
+        payload,
+        d2,
+        ends,
+        notes,
+        tables,
+        parameters.state,
+        sheet,
+        text,
+    )?;
+    put_count(sheet, head.sheet, parameters.count);
+    Ok(Some(last))
 }

@@ -7,12 +7,11 @@ ghost use Rattle.schema.specs.told.ListsTold.{ListAtTold};
 ghost use Rattle.members.specs.Lists.{member_in, member_rows};
 
 use crate::aliases::alias_in;
-use crate::closed::{closed_constructor, closed_function};
+use crate::closed::{Callable, closed};
 use crate::properties::property_in;
-use messages::{Checked, check_messages, next_body};
-use schema::{Listed, Picked, Stop, Tables};
+use messages::{check_messages, next_body};
+use schema::{Section, Stop, Tables};
 use sheet::State;
-use wire::Piece;
 
 // A kind of member that a body has a list of.
 #[derive(Clone, Copy)]
@@ -43,16 +42,36 @@ fn member_in(
     state: State,
     sheet: &mut [u8],
     text: &mut [u8],
-) -> Picked
+) -> Result<Option<State>, Stop>
     requires { Affords payload.now d2.now (closed_cost (length msg.now)) state × Stands payload.now msg.now base }
     ensures { MemberTold (member_in member) (member_rows member) (closed_cost (length msg.now)) (lent payload.now d2.now ends.now notes.now tables) msg.now base state result sheet.old sheet.new text.old text.new }
 {
     match member {
-        Member::Constructor => closed_constructor(
-            msg, base, payload, d2, ends, notes, tables, state, sheet, text,
+        Member::Constructor => closed(
+            Callable::Constructor,
+            msg,
+            base,
+            payload,
+            d2,
+            ends,
+            notes,
+            tables,
+            state,
+            sheet,
+            text,
         ),
-        Member::Function => closed_function(
-            msg, base, payload, d2, ends, notes, tables, state, sheet, text,
+        Member::Function => closed(
+            Callable::Function,
+            msg,
+            base,
+            payload,
+            d2,
+            ends,
+            notes,
+            tables,
+            state,
+            sheet,
+            text,
         ),
         Member::Property => property_in(
             msg, base, payload, d2, ends, notes, tables, state, sheet, text,
@@ -76,7 +95,7 @@ fn members_at(
     state: State,
     sheet: &mut [u8],
     text: &mut [u8],
-) -> Listed
+) -> Result<Section, Stop>
     requires { Affords payload.now d2.now (2 ^ 25 * length msg.now) state × Stands payload.now msg.now base }
     ensures { ListAtTold (member_in list.member) (member_rows list.member) (2 ^ 25 * length msg.now) (lent payload.now d2.now ends.now notes.now tables) msg.now base list.number state result sheet.old sheet.new text.old text.new }
 {
@@ -85,15 +104,14 @@ fn members_at(
     let mut count: usize = 0;
     let mut next = state;
     loop {
-        let piece = next_body(msg, base, list.number, at);
-        let Piece::Body { start, end } = piece else {
-            return Listed::Done { state: next, count };
+        let Some(body) = next_body(msg, base, list.number, at) else {
+            return Ok(Section { state: next, count });
         };
-        at = end;
-        let picked = member_in(
+        at = body.end;
+        let kept = member_in(
             member,
-            &msg[start..end],
-            base + start as u32,
+            &msg[body.start..body.end],
+            base + body.start as u32,
             payload,
             d2,
             ends,
@@ -102,14 +120,10 @@ fn members_at(
             next,
             sheet,
             text,
-        );
-        match picked {
-            Picked::Kept { state: after } => {
-                next = after;
-                count += 1;
-            }
-            Picked::Dropped => {}
-            Picked::Refused { stop } => return Listed::Refused { stop },
+        )?;
+        if let Some(after) = kept {
+            next = after;
+            count += 1;
         }
     }
 }
@@ -128,18 +142,11 @@ pub fn members_in(
     state: State,
     sheet: &mut [u8],
     text: &mut [u8],
-) -> Listed
+) -> Result<Section, Stop>
     requires { Affords payload.now d2.now (2 ^ 25 * length msg.now) state × Stands payload.now msg.now base }
     ensures { ListTold (member_in list.member) (member_rows list.member) (2 ^ 25 * length msg.now) (lent payload.now d2.now ends.now notes.now tables) msg.now base list.number state result sheet.old sheet.new text.old text.new }
 {
-    let checked = check_messages(msg, base, list.number);
-    let Checked::Whole = checked else {
-        return Listed::Refused {
-            stop: Stop::Wire {
-                error: checked.error(),
-            },
-        };
-    };
+    check_messages(msg, base, list.number)?;
     members_at(
         list, msg, base, payload, d2, ends, notes, tables, state, sheet, text,
     )

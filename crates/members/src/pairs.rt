@@ -3,7 +3,7 @@ ghost use Rattle.std.specs.Prelude.{◌+◌, ◌≤◌, length};
 ghost use Rattle.schema.specs.told.SchemaTold.{lent, Ready};
 ghost use Rattle.members.specs.told.PairsTold.{PairTold};
 
-use schema::{Tables, TypeSlot, Walked};
+use schema::{Stop, Tables, TypeSlot};
 use sheet::State;
 use type_references::declared_type;
 
@@ -27,16 +27,13 @@ pub(crate) fn type_pair(
     state: State,
     sheet: &mut [u8],
     text: &mut [u8],
-) -> Walked
+) -> Result<State, Stop>
     requires { Ready payload.now d2.now state × (base + length msg.now ≤ length payload.now) }
     ensures { PairTold pair (lent payload.now d2.now ends.now notes.now tables) msg.now base state result sheet.old sheet.new text.old text.new }
 {
-    let own = declared_type(
+    let next = declared_type(
         msg, base, pair.first, payload, d2, ends, notes, tables, state, sheet, text,
-    );
-    let Walked::Done { state: next } = own else {
-        return own;
-    };
+    )?;
     declared_type(
         msg,
         base,

@@ -16,12 +16,11 @@ use fields::{
     VALUE_PARAMETER_TYPE_ID, VALUE_PARAMETER_VARARG_ELEMENT_TYPE,
     VALUE_PARAMETER_VARARG_ELEMENT_TYPE_ID,
 };
-use messages::{Checked, check_messages, next_body};
+use messages::{check_messages, next_body};
 use schema::flags::flags_in;
 use schema::name::name_in;
-use schema::{Listed, Stop, Tables, TypeSlot, Walked};
+use schema::{Section, Stop, Tables, TypeSlot};
 use sheet::State;
-use wire::Piece;
 
 // Does a parameter declare a default?
 fn declares_default(msg: &[u8], base: u32) -> bool
@@ -43,7 +42,7 @@ fn parameter_in(
     state: State,
     sheet: &mut [u8],
     text: &mut [u8],
-) -> Walked
+) -> Result<State, Stop>
     requires { Affords payload.now d2.now parameter_cost state × (base + length msg.now ≤ length payload.now) }
     ensures { ParameterTold (lent payload.now d2.now ends.now notes.now tables) msg.now base state result sheet.old sheet.new text.old text.new }
 {
@@ -88,7 +87,7 @@ fn parameters_at(
     state: State,
     sheet: &mut [u8],
     text: &mut [u8],
-) -> Listed
+) -> Result<Section, Stop>
     requires { Affords payload.now d2.now (parameter_cost * length msg.now) state × (base + length msg.now ≤ length payload.now) }
     ensures { ParametersAtTold (lent payload.now d2.now ends.now notes.now tables) msg.now base number state result sheet.old sheet.new text.old text.new }
 {
@@ -96,14 +95,13 @@ fn parameters_at(
     let mut count: usize = 0;
     let mut next = state;
     loop {
-        let piece = next_body(msg, base, number, at);
-        let Piece::Body { start, end } = piece else {
-            return Listed::Done { state: next, count };
+        let Some(parameter) = next_body(msg, base, number, at) else {
+            return Ok(Section { state: next, count });
         };
-        at = end;
-        let parameter = parameter_in(
-            &msg[start..end],
-            base + start as u32,
+        at = parameter.end;
+        next = parameter_in(
+            &msg[parameter.start..parameter.end],
+            base + parameter.start as u32,
             payload,
             d2,
             ends,
@@ -112,14 +110,8 @@ fn parameters_at(
             next,
             sheet,
             text,
-        );
-        match parameter {
-            Walked::Done { state: after } => {
-                next = after;
-                count += 1;
-            }
-            Walked::Refused { stop } => return Listed::Refused { stop },
-        }
+        )?;
+        count += 1;
     }
 }
 
@@ -136,18 +128,11 @@ pub(crate) fn parameters_in(
     state: State,
     sheet: &mut [u8],
     text: &mut [u8],
-) -> Listed
+) -> Result<Section, Stop>
     requires { Affords payload.now d2.now (parameter_cost * length msg.now) state × (base + length msg.now ≤ length payload.now) }
     ensures { ParametersInTold (lent payload.now d2.now ends.now notes.now tables) msg.now base number state result sheet.old sheet.new text.old text.new }
 {
-    let checked = check_messages(msg, base, number);
-    let Checked::Whole = checked else {
-        return Listed::Refused {
-            stop: Stop::Wire {
-                error: checked.error(),
-            },
-        };
-    };
+    check_messages(msg, base, number)?;
     parameters_at(
         msg, base, number, payload, d2, ends, notes, tables, state, sheet, text,
     )

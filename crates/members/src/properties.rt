@@ -9,19 +9,18 @@ ghost use Rattle.declaration_rows.specs.told.Written.{RecordRoom};
 ghost use Rattle.schema.specs.told.MembersTold.{Affords, member_cost, MemberTold};
 ghost use Rattle.members.specs.told.PropertiesTold.{PropertyRecordTold, NamedPropertyTold};
 
-use crate::signatures::{PropertyNames, PropertySigned, check_accessors, property_signatures};
+use crate::signatures::{PropertyNames, check_accessors, names_of, property_signatures};
 use declaration_rows::{PropertyFlags, RECEIVER_ROLE, RETURN_ROLE, put_property};
 use fields::{
     OMITTED_FLAGS, OMITTED_SMALL_FLAGS, PROPERTY_FLAGS, PROPERTY_GETTER_FLAGS, PROPERTY_NAME,
     PROPERTY_RECEIVER_TYPE, PROPERTY_RECEIVER_TYPE_ID, PROPERTY_RETURN_TYPE,
     PROPERTY_RETURN_TYPE_ID, PROPERTY_SETTER_FLAGS,
 };
-use messages::Checked;
 use names::name::{Name, is_there};
 use schema::flags::flags_in;
 use schema::name::name_in;
 use schema::receiver::has_receiver;
-use schema::{Picked, Stop, Tables, TypeSlot, Walked};
+use schema::{Stop, Tables, TypeSlot};
 use sheet::State;
 use type_references::declared_type;
 
@@ -60,19 +59,15 @@ fn put_record(
         getter: is_default(msg, base, PROPERTY_GETTER_FLAGS),
         setter: is_default(msg, base, PROPERTY_SETTER_FLAGS),
     };
-    let name = own.name;
     let names = own.names;
-    let field = names.field;
-    let getter = names.getter;
-    let setter = names.setter;
     put_property(
         payload,
         d2,
-        name,
+        own.name,
         flags,
-        field,
-        getter.names(),
-        setter.names(),
+        names.field,
+        names_of(names.getter),
+        names_of(names.setter),
         state,
         sheet,
         text,
@@ -93,7 +88,7 @@ fn named_property(
     state: State,
     sheet: &mut [u8],
     text: &mut [u8],
-) -> Picked
+) -> Result<Option<State>, Stop>
     requires { Affords payload.now d2.now (member_cost (length msg.now)) state × (base + length msg.now ≤ length payload.now) }
     ensures { NamedPropertyTold (lent payload.now d2.now ends.now notes.now tables) msg.now base own.name own.names state result sheet.old sheet.new text.old text.new }
 {
@@ -103,32 +98,19 @@ fn named_property(
         indexed: PROPERTY_RECEIVER_TYPE_ID,
         role: RECEIVER_ROLE,
     };
-    let received = declared_type(
+    let next = declared_type(
         msg, base, receiver, payload, d2, ends, notes, tables, written, sheet, text,
-    );
-    let Walked::Done { state: next } = received else {
-        return Picked::Refused {
-            stop: received.stop(),
-        };
-    };
-    let due = check_accessors(own.names);
-    let Checked::Whole = due else {
-        return Picked::Refused {
-            stop: Stop::Wire { error: due.error() },
-        };
-    };
+    )?;
+    check_accessors(own.names)?;
     let returned = TypeSlot {
         inline: PROPERTY_RETURN_TYPE,
         indexed: PROPERTY_RETURN_TYPE_ID,
         role: RETURN_ROLE,
     };
-    let typed = declared_type(
+    let last = declared_type(
         msg, base, returned, payload, d2, ends, notes, tables, next, sheet, text,
-    );
-    let Walked::Done { state: last } = typed else {
-        return Picked::Refused { stop: typed.stop() };
-    };
-    Picked::Kept { state: last }
+    )?;
+    Ok(Some(last))
 }
 
 // A property: skipped without a name, before anything inside it is read.
@@ -143,23 +125,16 @@ pub(crate) fn property_in(
     state: State,
     sheet: &mut [u8],
     text: &mut [u8],
-) -> Picked
+) -> Result<Option<State>, Stop>
     requires { Affords payload.now d2.now (member_cost (length msg.now)) state × (base + length msg.now ≤ length payload.now) }
     ensures { MemberTold property_in property_rows (member_cost (length msg.now)) (lent payload.now d2.now ends.now notes.now tables) msg.now base state result sheet.old sheet.new text.old text.new }
 {
     let records = tables.records;
     let name = name_in(msg, base, PROPERTY_NAME, payload, ends, notes, records);
     if !is_there(name) {
-        return Picked::Dropped;
+        return Ok(None);
     }
-    let signed = property_signatures(msg, base, payload, ends, notes, records);
-    let PropertySigned::Names { names } = signed else {
-        return Picked::Refused {
-            stop: Stop::Wire {
-                error: signed.error(),
-            },
-        };
-    };
+    let names = property_signatures(msg, base, payload, ends, notes, records)?;
     let own = Named { name, names };
     named_property(
         msg, base, own, payload, d2, ends, notes, tables, state, sheet, text,

@@ -17,17 +17,13 @@ use fields::{
     JVM_METHOD_SIGNATURE_DESC, JVM_METHOD_SIGNATURE_NAME, JVM_PROPERTY_SIGNATURE_FIELD,
     JVM_PROPERTY_SIGNATURE_GETTER, JVM_PROPERTY_SIGNATURE_SETTER, PROPERTY_PROPERTY_SIGNATURE,
 };
-use messages::{Checked, Embedded, message};
+use messages::message;
 use names::name::{Name, absent, is_there};
 use schema::name::name_in;
 use wire::WireError;
 
-// The names that are looked up of a signature, before any that its own falls back to.
-#[derive(Clone, Copy)]
-pub(crate) enum Signed {
-    Names { names: SignatureNames },
-    Refused { error: WireError },
-}
+// The names that are looked up of a signature, before any that its own falls back to, or why its message isn't cut.
+pub(crate) type Signed = Result<SignatureNames, WireError>;
 
 // A name, or another if it is absent.
 pub(crate) fn or_name(own: Name, fallback: Name) -> Name
@@ -94,21 +90,24 @@ pub(crate) fn signature_in(
     requires { base + length msg.now < 2 ^ 32 }
     ensures { (units : List ℕ) (c : Scope) → NamesOf payload.now units ends.now notes.now records c.names → (m : Message) → cut (◌from◌ base msg.now) ≡ ok m → SignedTold payload.now units c number m result }
 {
-    let inner = message(msg, base, number);
-    match inner {
-        Embedded::Inline { start, end } => Signed::Names {
-            names: names_in(
-                &msg[start..end],
-                base + start as u32,
-                payload,
-                ends,
-                notes,
-                records,
-            ),
-        },
-        Embedded::Nothing => Signed::Names { names: unsigned() },
-        Embedded::Refused { error } => Signed::Refused { error },
-    }
+    let Some(inner) = message(msg, base, number)? else {
+        return Ok(unsigned());
+    };
+    Ok(names_in(
+        &msg[inner.start..inner.end],
+        base + inner.start as u32,
+        payload,
+        ends,
+        notes,
+        records,
+    ))
+}
+
+// The names of a signature. One that is refused has none, and its refusal is due later.
+pub(crate) fn names_of(signed: Signed) -> SignatureNames
+    ensures { (n : SignatureNames) → signed ≡ Ok n → result ≡ n }
+{
+    signed.unwrap_or(unsigned())
 }
 
 // The names of a property's backing field, from its signature message. A broken field message means no backing field.
@@ -123,40 +122,18 @@ fn field_in(
     requires { base + length msg.now < 2 ^ 32 }
     ensures { (units : List ℕ) (c : Scope) → NamesOf payload.now units ends.now notes.now records c.names → (m : Message) → cut (◌from◌ base msg.now) ≡ ok m → (l : ℕ) → field_in c m l ≡ ok (signature_by payload.now units result, l) }
 {
-    let inner = message(msg, base, JVM_PROPERTY_SIGNATURE_FIELD);
-    let Embedded::Inline { start, end } = inner else {
+    let field = message(msg, base, JVM_PROPERTY_SIGNATURE_FIELD).unwrap_or(None);
+    let Some(inner) = field else {
         return unsigned();
     };
     names_in(
-        &msg[start..end],
-        base + start as u32,
+        &msg[inner.start..inner.end],
+        base + inner.start as u32,
         payload,
         ends,
         notes,
         records,
     )
-}
-
-impl Signed {
-    // The names in an answer that has them.
-    pub(crate) fn names(self) -> SignatureNames
-        ensures { (n : SignatureNames) → self ≡ Signed.Names n → result ≡ n }
-    {
-        match self {
-            Signed::Names { names } => names,
-            Signed::Refused { error: _ } => unsigned(),
-        }
-    }
-
-    // The refusal of a refused answer.
-    pub(crate) fn error(self) -> WireError
-        ensures { (e : WireError) → self ≡ Signed.Refused e → result ≡ e }
-    {
-        match self {
-            Signed::Names { names: _ } => WireError::VarintCutShort { place: 0 },
-            Signed::Refused { error } => error,
-        }
-    }
 }
 
 // What is looked up of a property's signature message. The refusals of its accessors are due after its receiver's type.
@@ -167,41 +144,13 @@ pub(crate) struct PropertyNames {
     pub setter: Signed,
 }
 
-#[derive(Clone, Copy)]
-pub(crate) enum PropertySigned {
-    Names { names: PropertyNames },
-    Refused { error: WireError },
-}
-
-impl PropertySigned {
-    // The refusal of a refused answer.
-    pub(crate) fn error(self) -> WireError
-        ensures { (e : WireError) → self ≡ PropertySigned.Refused e → result ≡ e }
-    {
-        match self {
-            PropertySigned::Names { names: _ } => WireError::VarintCutShort { place: 0 },
-            PropertySigned::Refused { error } => error,
-        }
-    }
-}
-
 // The refusal of a getter, else of a setter.
-pub(crate) fn check_accessors(names: PropertyNames) -> Checked
+pub(crate) fn check_accessors(names: PropertyNames) -> Result<(), WireError>
     ensures { AccessorsDue names result }
 {
-    let getter = names.getter;
-    let setter = names.setter;
-    let Signed::Names { names: _ } = getter else {
-        return Checked::Refused {
-            error: getter.error(),
-        };
-    };
-    let Signed::Names { names: _ } = setter else {
-        return Checked::Refused {
-            error: setter.error(),
-        };
-    };
-    Checked::Whole
+    names.getter?;
+    names.setter?;
+    Ok(())
 }
 
 // A property without a signature message.
@@ -210,8 +159,8 @@ fn unsigned_property() -> PropertyNames
 {
     PropertyNames {
         field: unsigned(),
-        getter: Signed::Names { names: unsigned() },
-        setter: Signed::Names { names: unsigned() },
+        getter: Ok(unsigned()),
+        setter: Ok(unsigned()),
     }
 }
 
@@ -261,25 +210,19 @@ pub(crate) fn property_signatures(
     ends: &[u32],
     notes: &[u64],
     records: usize,
-) -> PropertySigned
+) -> Result<PropertyNames, WireError>
     requires { base + length msg.now < 2 ^ 32 }
     ensures { (units : List ℕ) (c : Scope) → NamesOf payload.now units ends.now notes.now records c.names → (m : Message) → cut (◌from◌ base msg.now) ≡ ok m → PropertySignedTold payload.now units c m result }
 {
-    let inner = message(msg, base, PROPERTY_PROPERTY_SIGNATURE);
-    match inner {
-        Embedded::Inline { start, end } => PropertySigned::Names {
-            names: three_in(
-                &msg[start..end],
-                base + start as u32,
-                payload,
-                ends,
-                notes,
-                records,
-            ),
-        },
-        Embedded::Nothing => PropertySigned::Names {
-            names: unsigned_property(),
-        },
-        Embedded::Refused { error } => PropertySigned::Refused { error },
-    }
+    let Some(inner) = message(msg, base, PROPERTY_PROPERTY_SIGNATURE)? else {
+        return Ok(unsigned_property());
+    };
+    Ok(three_in(
+        &msg[inner.start..inner.end],
+        base + inner.start as u32,
+        payload,
+        ends,
+        notes,
+        records,
+    ))
 }

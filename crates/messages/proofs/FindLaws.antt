@@ -4,6 +4,7 @@ use mathlib.Core.Path.{◌≡◌, refl, ap, sym, ◌∙◌, subst}
 use mathlib.Core.Bool.{false, not}
 use mathlib.Core.List.{List, ◌∷◌}
 use mathlib.Core.Option.{Option, none, some}
+use Rattle.std.specs.declared.option.Option as rust
 use Prim.Native.Nat.{ℕ, ◌^◌, ◌≤◌, ◌<◌}
 use native.Mathlib.Omega.{arith}
 use borrow.Author.Tests.{lt-ltb, le-ltb}
@@ -14,104 +15,87 @@ use Rattle.foundation.specs.Results.{ok, ◌from◌}
 use Rattle.wire.specs.Wire.{Value, read_field, Message, cut}
 use Rattle.wire.specs.Messages.{values, first_of, value, as_varint, as_body, varint_of, as32, index, flag, bytes_of}
 use Rattle.wire.specs.told.WireTold.{rest_of, value_of, Inside, FieldTold, value_number, piece_of}
-use Rattle.messages.specs.told.Asked.{found_told, FoundInside, FoundTold, FoundFrom, FoundAt, number_told, number_in, piece_in, piece_told, PieceInside, BytesTold, index_in}
+use Rattle.messages.specs.told.Asked.{found_told, FoundInside, FoundTold, number_told, number_in, piece_in, piece_told, PieceInside, BytesTold, index_in}
+use Rattle.std.specs.Prelude.{Some, None}
+use Rattle.foundation.specs.declared.Span.{Span}
 use Rattle.wire.specs.declared.WireError.{WireError}
 use Rattle.wire.specs.declared.WireValue.{WireValue}
 use Rattle.wire.specs.declared.WireValue.TheVariants as wire
-use Rattle.wire.specs.declared.FieldStep.{FieldStep}
-use Rattle.wire.specs.declared.FieldStep.TheVariants as step
-use Rattle.messages.specs.declared.Found.{Found}
-use Rattle.messages.specs.declared.Found.TheVariants as found
-use Rattle.wire.specs.declared.Number.{Number}
-use Rattle.wire.specs.declared.Number.TheVariants as number
-use Rattle.wire.specs.declared.Piece.{Piece}
-use Rattle.wire.proofs.WalkLaws.{whole, field_is, Leads, leads-next, leads-never, leads-end, values-found, values-passed}
+use Rattle.wire.specs.declared.Field as code
+use Rattle.foundation.specs.declared.Read.{Read}
+use Rattle.std.specs.Prelude.{Ok, Err}
+use Rattle.wire.proofs.WalkLaws.{Leads, leads-start, leads-next, leads-never, leads-end, values-found, values-passed}
 
--- from a place on the occurrences of field k are those from the place `start` on
-abbrev pub Occur : ℕ → ℕ → List ℕ → ℕ → ℕ → Type 0
-Occur k base s start at = Leads (λ m rest. values k m ≡ values k rest) (rest_of base s start) (rest_of base s at)
+-- of a slice's message the occurrences of field k are those from a place on
+abbrev pub Occur : ℕ → ℕ → List ℕ → ℕ → Type 0
+Occur k base s at = Leads (λ m rest. values k m ≡ values k rest) (◌from◌ base s) (rest_of base s at)
 
-module _ (k base : ℕ) (s : List ℕ) (start : ℕ) where
+module _ (k base : ℕ) (s : List ℕ) where
   Same : Message → Message → Type 0
   Same m rest = values k m ≡ values k rest
 
-  pub find-start : Occur k base s start start
-  find-start m w = (m, w, refl)
+  pub find-start : Occur k base s 0
+  unfolding Same
+  find-start = leads-start Same base s λ m. refl
 
-  module _ (at : ℕ) (o : Occur k base s start at) where
-    pub find-end : length s ≤ at → FoundFrom base s k start found.Nothing
+  module _ (at : ℕ) (o : Occur k base s at) where
+    pub find-end : length s ≤ at → FoundTold base s k None
     unfolding Same values
-    find-end h = record { is = λ m w. ap first_of (leads-end Same (rest_of base s start) base s at o h m w); inside = tt }
+    find-end h = record { is = λ m w. ap first_of (leads-end Same (◌from◌ base s) base s at o h m w); inside = tt }
 
-    pub find-on : {r : Found} → FoundFrom base s k at r → FoundFrom base s k start r
-    find-on t = record { is = λ m w. ap first_of (o m w).2 ∙ t.is (o m w).0 (o m w).1; inside = t.inside }
-
-    module _ {r : FieldStep} (e : FieldTold base s (read_field (rest_of base s at)) r) (h : at < length s) where
-      pub find-never : {error : WireError} → r ≡ step.Refused error → FoundFrom base s k start found.Nothing
+    module _ (error : WireError) (e : FieldTold base s (read_field (rest_of base s at)) (Err error)) (h : at < length s) where
+      pub find-never : FoundTold base s k None
       unfolding Same
-      find-never g = record { is = λ m w. leads-never (rest_of base s start) base s at e h Same o g m w; inside = tt }
+      find-never = record { is = λ m w. leads-never (◌from◌ base s) base s at error e h Same o m w; inside = tt }
 
-      pub find-found : {n : ℕ} {v : WireValue} {next : ℕ} → r ≡ step.Field n v next → n ≡ k → FoundFrom base s k start (found.Value v)
+    module _ (x : Read code.Field) (e : FieldTold base s (read_field (rest_of base s at)) (Ok x)) (h : at < length s) where
+      pub find-found : x.value.number ≡ k → FoundTold base s k (Some x.value.value)
       unfolding Same
-      find-found {n} {v} {next} g q =
-          let Here : Message → Message → Type 0 = λ m rest. values k m ≡ value_of base s v ∷ values k rest in
-          let l = leads-next (rest_of base s start) base s at e h Same Here o next g λ m rest c. c ∙ values-found k (value_of base s v) rest q in
-          record { is = λ m w. ap first_of (l m w).2; inside = (field_is base s at e g).1 }
+      find-found q =
+          let v = value_of base s x.value.value in
+          let Here : Message → Message → Type 0 = λ m rest. values k m ≡ v ∷ values k rest in
+          let l = leads-next (◌from◌ base s) base s at x e h Same Here o λ m rest c. c ∙ values-found k v rest q in
+          record { is = λ m w. ap first_of (l m w).2; inside = e.1 }
 
-      pub find-passed : {n : ℕ} {v : WireValue} (next : ℕ) → r ≡ step.Field n v next → (n ≡ k → ⊥) → Occur k base s start next
+      pub find-passed : (x.value.number ≡ k → ⊥) → Occur k base s x.next
       unfolding Same
-      find-passed {n} {v} next g q =
-          leads-next (rest_of base s start) base s at e h Same Same o next g λ m rest c. c ∙ values-passed k (value_of base s v) rest q
-
-  pub find_none : length s ≤ start → FoundFrom base s k start found.Nothing
-  find_none = find-end start find-start
-
-  pub find-here : {r : Found} → FoundAt s k start r → {v : WireValue} → r ≡ found.Value v → FoundFrom base s k start r
-  find-here {r} t {v} g =
-      let f : FoundAt s k start (found.Value v) = subst (FoundAt s k start) g t in
-      let there = find-found start find-start {r = step.Field k v f.1} (f.2 base) f.0 {n = k} {v = v} {next = f.1} refl refl in
-      subst (FoundFrom base s k start) (sym g) there
-
-  pub find-whole : {r : Found} → start ≡ 0 → FoundFrom base s k start r → FoundTold base s k r
-  find-whole z t = record {
-    is = λ m w. t.is m (ap (λ (a : ℕ). cut (rest_of base s a)) z ∙ ap cut (whole base s) ∙ w);
-    inside = t.inside;
-  }
+      find-passed q =
+          leads-next (◌from◌ base s) base s at x e h Same Same o λ m rest c. c ∙ values-passed k (value_of base s x.value.value) rest q
 
 -- what is made of the first occurrence, as `varint_of` and `bytes_of` are
-module _ {A : Type 0} (f : Value → Option A) (k base : ℕ) (s : List ℕ) {r : Found} (t : FoundTold base s k r) where
-  pub asked-nothing : r ≡ found.Nothing → (m : Message) → cut (◌from◌ base s) ≡ ok m → if_some (value k m) none f ≡ none
+module _ {A : Type 0} (f : Value → Option A) (k base : ℕ) (s : List ℕ) {r : rust.Option WireValue} (t : FoundTold base s k r) where
+  pub asked-nothing : r ≡ None → (m : Message) → cut (◌from◌ base s) ≡ ok m → if_some (value k m) none f ≡ none
   asked-nothing g m w = ap (λ (o : Option Value). if_some o none f) (t.is m w ∙ ap (found_told base s) g)
 
-  pub asked-found : {v : WireValue} {x : Option A} → r ≡ found.Value v → f (value_of base s v) ≡ x
+  pub asked-found : {v : WireValue} {x : Option A} → r ≡ Some v → f (value_of base s v) ≡ x
       → (m : Message) → cut (◌from◌ base s) ≡ ok m → if_some (value k m) none f ≡ x
   asked-found g e m w = ap (λ (o : Option Value). if_some o none f) (t.is m w ∙ ap (found_told base s) g) ∙ e
 
-pub found_inside : (k base : ℕ) (s : List ℕ) {r : Found} → FoundTold base s k r → {v : WireValue} → r ≡ found.Value v → Inside s v
+pub found_inside : (k base : ℕ) (s : List ℕ) {r : rust.Option WireValue} → FoundTold base s k r → {v : WireValue} → r ≡ Some v → Inside s v
 found_inside k base s t g = subst (FoundInside s) g t.inside
 
 -- a value as a number and as bytes
 pub as_number : (base : ℕ) (s : List ℕ) (v : WireValue) → as_varint (value_of base s v) ≡ number_told (value_number v)
 as_number base s (wire.Varint n) = refl
 as_number base s (wire.Fixed w n) = refl
-as_number base s (wire.Body a e) = refl
+as_number base s (wire.Body x) = refl
 
 pub as_piece : (base : ℕ) (s : List ℕ) (v : WireValue) → as_body (value_of base s v) ≡ piece_told base s (piece_of v)
 as_piece base s (wire.Varint n) = refl
 as_piece base s (wire.Fixed w n) = refl
-as_piece base s (wire.Body a e) = refl
+as_piece base s (wire.Body x) = refl
 
 pub piece_inside : (s : List ℕ) (v : WireValue) → Inside s v → PieceInside s (piece_of v)
 piece_inside s (wire.Varint n) h = tt
 piece_inside s (wire.Fixed w n) h = tt
-piece_inside s (wire.Body a e) h = h
+piece_inside s (wire.Body x) h = h
 
-module _ (k base : ℕ) (s : List ℕ) {r : Found} (t : FoundTold base s k r) {v : WireValue} (g : r ≡ found.Value v) where
-  pub varint-found : {x : Number} → x ≡ value_number v → (m : Message) → cut (◌from◌ base s) ≡ ok m → varint_of k m ≡ number_told x
+module _ (k base : ℕ) (s : List ℕ) {r : rust.Option WireValue} (t : FoundTold base s k r) {v : WireValue} (g : r ≡ Some v) where
+  pub varint-found : {x : rust.Option ℕ} → x ≡ value_number v → (m : Message) → cut (◌from◌ base s) ≡ ok m → varint_of k m ≡ number_told x
   unfolding varint_of
   varint-found e = asked-found as_varint k base s t g (as_number base s v ∙ ap number_told (sym e))
 
-  pub bytes-found : {x : Piece} → x ≡ piece_of v → BytesTold base s k x
+  pub bytes-found : {x : rust.Option Span} → x ≡ piece_of v → BytesTold base s k x
   unfolding bytes_of
   bytes-found e = record {
     is = asked-found as_body k base s t g (as_piece base s v ∙ ap (piece_told base s) (sym e));
@@ -119,16 +103,16 @@ module _ (k base : ℕ) (s : List ℕ) {r : Found} (t : FoundTold base s k r) {v
   }
 
 -- what is made of a number
-module _ (k : ℕ) (m : Message) {r : Number} (e : varint_of k m ≡ number_told r) where
-  pub index-nothing : r ≡ number.Nothing → index k m ≡ none
+module _ (k : ℕ) (m : Message) {r : rust.Option ℕ} (e : varint_of k m ≡ number_told r) where
+  pub index-nothing : r ≡ None → index k m ≡ none
   unfolding index
   index-nothing g = ap (λ (o : Option ℕ). if_some o none as32) (e ∙ ap number_told g)
 
-  pub flag-nothing : r ≡ number.Nothing → flag k m ≡ false
+  pub flag-nothing : r ≡ None → flag k m ≡ false
   unfolding flag
   flag-nothing g = ap (λ (o : Option ℕ). if_some o false λ v. not (eqb v 0)) (e ∙ ap number_told g)
 
-  module _ {v : ℕ} (g : r ≡ number.Value v) where
+  module _ {v : ℕ} (g : r ≡ Some v) where
     pub index-large : 4294967295 < v → index k m ≡ none
     unfolding index
     index-large h = ap (λ (o : Option ℕ). if_some o none as32) (e ∙ ap number_told g) ∙ rw (le-ltb v (2 ^ 32) (omega arith))
@@ -143,25 +127,25 @@ module _ (k : ℕ) (m : Message) {r : Number} (e : varint_of k m ≡ number_told
 
 -- what is made of what was found
 module _ (base : ℕ) (s : List ℕ) (k : ℕ) (m : Message) (w : cut (◌from◌ base s) ≡ ok m) where
-  pub number_is : (f : Found) → FoundTold base s k f → varint_of k m ≡ number_told (number_in f)
+  pub number_is : (f : rust.Option WireValue) → FoundTold base s k f → varint_of k m ≡ number_told (number_in f)
   unfolding varint_of
-  number_is (found.Value v) t = ap (λ (o : Option Value). if_some o none as_varint) (t.is m w) ∙ as_number base s v
-  number_is found.Nothing t = ap (λ (o : Option Value). if_some o none as_varint) (t.is m w)
+  number_is (Some v) t = ap (λ (o : Option Value). if_some o none as_varint) (t.is m w) ∙ as_number base s v
+  number_is None t = ap (λ (o : Option Value). if_some o none as_varint) (t.is m w)
 
-  pub index_is : (f : Found) → FoundTold base s k f → index k m ≡ index_in f
+  pub index_is : (f : rust.Option WireValue) → FoundTold base s k f → index k m ≡ index_in f
   unfolding index
   index_is f t = ap (λ (o : Option ℕ). if_some o none as32) (number_is f t)
 
-pub piece_is : (base : ℕ) (s : List ℕ) (k : ℕ) (f : Found) → FoundTold base s k f → {x : Piece} → x ≡ piece_in f → BytesTold base s k x
+pub piece_is : (base : ℕ) (s : List ℕ) (k : ℕ) (f : rust.Option WireValue) → FoundTold base s k f → {x : rust.Option Span} → x ≡ piece_in f → BytesTold base s k x
 unfolding bytes_of
-piece_is base s k (found.Value v) t e = bytes-found k base s t refl e
-piece_is base s k found.Nothing t e = record {
+piece_is base s k (Some v) t e = bytes-found k base s t refl e
+piece_is base s k None t e = record {
   is = λ m w. asked-nothing as_body k base s t refl m w ∙ ap (piece_told base s) (sym e);
   inside = subst (PieceInside s) (sym e) tt;
 }
 
 -- a number that fits 32 bits, or none
-module _ (f : Found) {x : Number} (e : x ≡ number_in f) {n : ℕ} (g : x ≡ number.Value n) where
+module _ (f : rust.Option WireValue) {x : rust.Option ℕ} (e : x ≡ number_in f) {n : ℕ} (g : x ≡ Some n) where
   pub fits-index : n ≤ 4294967295 → some n ≡ index_in f
   fits-index h = rw (← e, g, lt-ltb n (2 ^ 32) (omega arith))
 

@@ -4,4 +4,3 @@ pub mod SeenLaws
 pub mod BodyLaws
 pub mod SkippedLaws
 pub mod RepeatedLaws
-pub mod ReaderLaws

@@ -5,26 +5,22 @@ use mathlib.Core.List.{List, [], ◌∷◌, ◌++◌}
 use Prim.Native.Nat.{ℕ, ◌≤◌, ◌<◌}
 use native.Mathlib.Omega.{arith}
 use lib.ListN.{length, take, drop, length-drop}
-use Rattle.foundation.specs.Results.{Res, ok, refused, ◌>>=◌, Part, ◌from◌}
+use Rattle.foundation.specs.Results.{Res, ok, refused, ◌>>=◌, Part, ◌from◌, got}
 use Rattle.wire.specs.Wire.{Value, read_varint, read_field, Message, cut, packed}
 use Rattle.wire.specs.Messages.{values, varints_in, joined, varints}
-use Rattle.wire.specs.told.WireTold.{wire_refused, rest_of, part_between, value_of, Inside, varint_told, FieldTold}
+use Rattle.wire.specs.told.WireTold.{wire_refused, rest_of, part_between, value_of, Inside, SpanInside, FieldTold}
 use Rattle.messages.specs.told.Asked.{CheckedTold}
 use Rattle.messages.specs.told.Repeated.{first_two, first_two_of, two_told, pushed, pushed_all, pushed_to}
+use Rattle.std.specs.Prelude.{Result, Ok, Err}
 use Rattle.wire.specs.declared.WireError.{WireError}
 use Rattle.wire.specs.declared.WireValue.{WireValue}
 use Rattle.wire.specs.declared.WireValue.TheVariants as wire
-use Rattle.wire.specs.declared.Varint.{Varint}
-use Rattle.wire.specs.declared.Varint.TheVariants as read
-use Rattle.wire.specs.declared.FieldStep.{FieldStep}
-use Rattle.wire.specs.declared.FieldStep.TheVariants as step
-use Rattle.messages.specs.declared.Checked.TheVariants as checked
+use Rattle.wire.specs.declared.Field as code
+use Rattle.foundation.specs.declared.Read.{Read}
+use Rattle.foundation.specs.declared.Span.{Span}
 use Rattle.messages.specs.declared.repeated.Two.{Two}
 use Rattle.messages.specs.declared.repeated.Two.TheVariants.{Neither, Both}
-use Rattle.messages.specs.declared.repeated.FirstTwo.{FirstTwo}
-use Rattle.messages.specs.declared.repeated.FirstTwo.TheVariants as first
 use Rattle.wire.proofs.Progress.{none_empty, packed_none, packed_next}
-use Rattle.wire.proofs.FieldLaws.{varint-is, varint-refused}
 use Rattle.wire.proofs.WalkLaws.{bind_ok, byte_left, Leads, leads-start, leads-next, leads-never, leads-end, values-found, values-passed}
 use Rattle.messages.proofs.BodyLaws.{part-is}
 
@@ -54,19 +50,19 @@ module _ (base : ℕ) (s : List ℕ) (i : ℕ) (t : Two) where
   pub run_end : length s ≤ i → pushed_to t (packed (rest_of base s i)) ≡ ok t
   run_end h = ap (pushed_to t) (packed_none (rest_of base s i) (none_empty (drop i s) (rw length-drop (omega arith))))
 
-  module _ {r : Varint} (e : read_varint (rest_of base s i) ≡ varint_told base s r) (h : i < length s) where
-    pub run-next : {n : ℕ} (next : ℕ) → r ≡ read.Read n next
-        → pushed_to t (packed (rest_of base s i)) ≡ pushed_to (pushed t n) (packed (rest_of base s next))
-    run-next {n} next g =
-        let on : packed (rest_of base s i) ≡ (packed (rest_of base s next) >>= λ ns. ok (n ∷ ns)) = packed_next (rest_of base s i) (byte_left s i h) ∙ (rw (varint-is base s i e g)) in
-        ap (pushed_to t) on ∙ one-pushed t n (packed (rest_of base s next))
+  module _ (h : i < length s) where
+    pub run-next : (x : Read ℕ) → read_varint (rest_of base s i) ≡ got x.value (rest_of base s x.next)
+        → pushed_to t (packed (rest_of base s i)) ≡ pushed_to (pushed t x.value) (packed (rest_of base s x.next))
+    run-next x e =
+        let on : packed (rest_of base s i) ≡ (packed (rest_of base s x.next) >>= λ ns. ok (x.value ∷ ns)) = packed_next (rest_of base s i) (byte_left s i h) ∙ rw e in
+        ap (pushed_to t) on ∙ one-pushed t x.value (packed (rest_of base s x.next))
 
-    pub run-refused : {error err : WireError} → r ≡ read.Refused error → err ≡ error → pushed_to t (packed (rest_of base s i)) ≡ wire_refused err
-    run-refused {error} {err} g q =
-        let on : packed (rest_of base s i) ≡ wire_refused err = packed_next (rest_of base s i) (byte_left s i h) ∙ (rw (varint-refused base s i e g q)) in
+    pub run-refused : (error : WireError) → read_varint (rest_of base s i) ≡ wire_refused error → pushed_to t (packed (rest_of base s i)) ≡ wire_refused error
+    run-refused error e =
+        let on : packed (rest_of base s i) ≡ wire_refused error = packed_next (rest_of base s i) (byte_left s i h) ∙ rw e in
         ap (pushed_to t) on
 
-pub run-part : (base : ℕ) (s : List ℕ) (t : Two) (a e : ℕ) (r : FirstTwo) → a ≤ e
+pub run-part : (base : ℕ) (s : List ℕ) (t : Two) (a e : ℕ) (r : Result Two WireError) → a ≤ e
     → pushed_to t (packed (rest_of base (take e s) a)) ≡ two_told r
     → pushed_to t (packed (part_between base s a e)) ≡ two_told r
 run-part base s t a e r h w = ap (λ (p : Part). pushed_to t (packed p)) (sym (part-is base s a e h)) ∙ w
@@ -105,47 +101,47 @@ module _ (k base : ℕ) (s : List ℕ) where
     unfolding varints values joined
     pushing-end h m w = sym (pushed_two (varints k m)) ∙ leads-end _ (◌from◌ base s) base s at o h m w
 
-    module _ {r : FieldStep} (e : FieldTold base s (read_field (rest_of base s at)) r) (h : at < length s) where
-      pub pushing-never : {A : Type 0} {error : WireError} → r ≡ step.Refused error → (m : Message) → cut (◌from◌ base s) ≡ ok m → A
-      pushing-never g =
-          leads-never (◌from◌ base s) base s at e h (λ m rest. pushed_to Neither (varints k m) ≡ pushed_to t (varints k rest)) o g
+    R : Message → Message → Type 0
+    R m rest = pushed_to Neither (varints k m) ≡ pushed_to t (varints k rest)
 
-      module _ {n : ℕ} {v : WireValue} (next : ℕ) (g : r ≡ step.Field n v next) where
-        pub pushing-passed : (n ≡ k → ⊥) → Pushing k base s next t
-        unfolding varints
-        pushing-passed q =
-            let R : Message → Message → Type 0 = λ m rest. pushed_to Neither (varints k m) ≡ pushed_to t (varints k rest) in
-            leads-next (◌from◌ base s) base s at e h R R o next g λ m rest c.
-            c ∙ ap (λ (vs : List Value). pushed_to t (joined vs)) (values-passed k (value_of base s v) rest q)
+    pub pushing-never : {A : Type 0} (error : WireError) → FieldTold base s (read_field (rest_of base s at)) (Err error) → at < length s
+        → (m : Message) → cut (◌from◌ base s) ≡ ok m → A
+    unfolding R
+    pushing-never error e h = leads-never (◌from◌ base s) base s at error e h R o
 
-        module _ (q : n ≡ k) {x : FirstTwo} (p : pushed_to t (varints_in (value_of base s v)) ≡ two_told x) where
-          pub pushing-next : {u : Two} → x ≡ first.Numbers u → Pushing k base s next u
-          unfolding varints
-          pushing-next {u} z =
-              let R : Message → Message → Type 0 = λ m rest. pushed_to Neither (varints k m) ≡ pushed_to t (varints k rest) in
-              let S : Message → Message → Type 0 = λ m rest. pushed_to Neither (varints k m) ≡ pushed_to u (varints k rest) in
-              leads-next (◌from◌ base s) base s at e h R S o next g λ m rest c.
-              c ∙ ap (λ (vs : List Value). pushed_to t (joined vs)) (values-found k (value_of base s v) rest q)
-              ∙ value_pushed t u (value_of base s v) (values k rest) (p ∙ ap two_told z)
+    module _ (y : Read code.Field) (e : FieldTold base s (read_field (rest_of base s at)) (Ok y)) (h : at < length s) where
+      abbrev pub v : Value
+      v = value_of base s y.value.value
 
-          pub pushing-refused : {error : WireError} → x ≡ first.Refused error → (m : Message) → cut (◌from◌ base s) ≡ ok m
-              → first_two_of (varints k m) ≡ two_told x
-          unfolding varints
-          pushing-refused {error} z m w =
-              let R : Message → Message → Type 0 = λ m rest. pushed_to Neither (varints k m) ≡ pushed_to t (varints k rest) in
-              let S : Message → Message → Type 0 = λ m rest. pushed_to Neither (varints k m) ≡ wire_refused error in
-              let l = leads-next (◌from◌ base s) base s at e h R S o next g λ m rest c.
-              c ∙ ap (λ (vs : List Value). pushed_to t (joined vs)) (values-found k (value_of base s v) rest q)
-              ∙ value_not t (value_of base s v) (values k rest) error (p ∙ ap two_told z) in
-              sym (pushed_two (varints k m)) ∙ (l m w).2 ∙ ap two_told (sym z)
+      pub pushing-passed : (y.value.number ≡ k → ⊥) → Pushing k base s y.next t
+      unfolding varints R
+      pushing-passed q =
+          leads-next (◌from◌ base s) base s at y e h R R o λ m rest c. c ∙ ap (λ (vs : List Value). pushed_to t (joined vs)) (values-passed k v rest q)
+
+      module _ (q : y.value.number ≡ k) {x : Result Two WireError} (p : pushed_to t (varints_in v) ≡ two_told x) where
+        pub pushing-next : {u : Two} → x ≡ Ok u → Pushing k base s y.next u
+        unfolding varints R
+        pushing-next {u} z =
+            let S : Message → Message → Type 0 = λ m rest. pushed_to Neither (varints k m) ≡ pushed_to u (varints k rest) in
+            leads-next (◌from◌ base s) base s at y e h R S o λ m rest c.
+            c ∙ ap (λ (vs : List Value). pushed_to t (joined vs)) (values-found k v rest q) ∙ value_pushed t u v (values k rest) (p ∙ ap two_told z)
+
+        pub pushing-refused : {error : WireError} → x ≡ Err error → (m : Message) → cut (◌from◌ base s) ≡ ok m
+            → first_two_of (varints k m) ≡ two_told (Err error)
+        unfolding varints R
+        pushing-refused {error} z m w =
+            let S : Message → Message → Type 0 = λ m rest. pushed_to Neither (varints k m) ≡ wire_refused error in
+            let l = leads-next (◌from◌ base s) base s at y e h R S o λ m rest c.
+            c ∙ ap (λ (vs : List Value). pushed_to t (joined vs)) (values-found k v rest q) ∙ value_not t v (values k rest) error (p ∙ ap two_told z) in
+            sym (pushed_two (varints k m)) ∙ (l m w).2
 
 -- that the numbers are sound, whatever they are
-module _ (r : Res (List ℕ)) {x : FirstTwo} (e : first_two_of r ≡ two_told x) where
-  pub two-sound : {t : Two} → x ≡ first.Numbers t → CheckedTold r checked.Whole
+module _ (r : Res (List ℕ)) {x : Result Two WireError} (e : first_two_of r ≡ two_told x) where
+  pub two-sound : {t : Two} → x ≡ Ok t → CheckedTold r (Ok tt)
   two-sound g = let b = bind_ok r first_two (e ∙ ap two_told g) in (b.0, b.1)
 
-  pub two_refused : {error err : WireError} → x ≡ first.Refused error → err ≡ error → CheckedTold r (checked.Refused err)
-  two_refused {error} {err} g q = go r (e ∙ ap two_told g) ∙ ap (wire_refused {A = List ℕ}) (sym q)
+  pub two_refused : {error : WireError} → x ≡ Err error → CheckedTold r (Err error)
+  two_refused {error} g = go r (e ∙ ap two_told g)
     where
       go : (r : Res (List ℕ)) → first_two_of r ≡ wire_refused error → r ≡ wire_refused error
       go (ok ns) e = let z : ◌≡◌ {A = ℕ} 0 1 = cc in absurd (omega arith)
@@ -159,10 +155,11 @@ module _ (base : ℕ) (s : List ℕ) (t : Two) {v : WireValue} where
   pub push-fixed : {w n : ℕ} → v ≡ wire.Fixed w n → pushed_to t (varints_in (value_of base s v)) ≡ ok t
   push-fixed g = ap (λ (w : WireValue). pushed_to t (varints_in (value_of base s w))) g
 
-  module _ {a e : ℕ} (g : v ≡ wire.Body a e) (i : Inside s v) where
-    pub body-inside : (a ≤ e) × (e ≤ length s) × (0 < a)
+  module _ {x : Span} (g : v ≡ wire.Body x) (i : Inside s v) where
+    pub body-inside : SpanInside s x
     body-inside = subst (Inside s) g i
 
-    pub push-body : (r : FirstTwo) → pushed_to t (packed (rest_of base (take e s) a)) ≡ two_told r
+    pub push-body : (r : Result Two WireError) → pushed_to t (packed (rest_of base (take x.end s) x.start)) ≡ two_told r
         → pushed_to t (varints_in (value_of base s v)) ≡ two_told r
-    push-body r w = ap (λ (w : WireValue). pushed_to t (varints_in (value_of base s w))) g ∙ run-part base s t a e r body-inside.0 w
+    push-body r w =
+        ap (λ (w : WireValue). pushed_to t (varints_in (value_of base s w))) g ∙ run-part base s t x.start x.end r body-inside.0 w

@@ -7,8 +7,7 @@ ghost use Rattle.wire.specs.told.WireTold.{rest_of, value_of, Inside};
 ghost use Rattle.messages.specs.told.Asked.{CheckedTold};
 ghost use Rattle.messages.specs.told.Repeated.{pushed, pushed_to, first_two_of, two_told};
 
-use crate::Checked;
-use wire::{FieldStep, Varint, WireError, WireValue, field_at, varint_at};
+use wire::{WireError, WireValue, field_at, varint_at};
 
 // The first two numbers of a list, mod 2^32, as far as it has them.
 #[derive(Clone, Copy)]
@@ -29,97 +28,56 @@ fn push(two: Two, value: u64) -> Two
     }
 }
 
-#[derive(Clone, Copy)]
-pub enum FirstTwo {
-    Numbers { two: Two },
-    Refused { error: WireError },
-}
-
-impl FirstTwo {
-    // The refusal where a number is refused; nothing is promised where there is none.
-    pub fn error(self) -> WireError
-        ensures { (e : WireError) → self ≡ FirstTwo.Refused e → result ≡ e }
-    {
-        match self {
-            FirstTwo::Numbers { two: _ } => WireError::VarintCutShort { place: 0 },
-            FirstTwo::Refused { error } => error,
-        }
-    }
-}
-
 // Adds the numbers of a packed run, which is the slice from a place on.
-fn push_packed(s: &[u8], base: u32, at: usize, two: Two) -> FirstTwo
+fn push_packed(s: &[u8], base: u32, at: usize, two: Two) -> Result<Two, WireError>
     ensures { pushed_to two (packed (rest_of base s.now at)) ≡ two_told result }
 {
     let mut i = at;
     let mut have = two;
     while i < s.len() {
-        let step = varint_at(s, base, i);
-        let Varint::Read { value, next } = step else {
-            return FirstTwo::Refused {
-                error: step.error(),
-            };
-        };
-        have = push(have, value);
-        i = next;
+        let read = varint_at(s, base, i)?;
+        have = push(have, read.value);
+        i = read.next;
     }
-    FirstTwo::Numbers { two: have }
+    Ok(have)
 }
 
-fn push_value(s: &[u8], base: u32, value: WireValue, two: Two) -> FirstTwo
+fn push_value(s: &[u8], base: u32, value: WireValue, two: Two) -> Result<Two, WireError>
     requires { Inside s.now value }
     ensures { pushed_to two (varints_in (value_of base s.now value)) ≡ two_told result }
 {
     match value {
-        WireValue::Varint { value: number } => FirstTwo::Numbers {
-            two: push(two, number),
-        },
+        WireValue::Varint(number) => Ok(push(two, number)),
         WireValue::Fixed {
             width: _,
             number: _,
-        } => FirstTwo::Numbers { two },
-        WireValue::Body { start, end } => push_packed(&s[..end], base, start, two),
+        } => Ok(two),
+        WireValue::Body(body) => push_packed(&s[..body.end], base, body.start, two),
     }
 }
 
 // The first two numbers of a field. A number after them that can't be read refuses too.
-pub fn first_two(s: &[u8], base: u32, number: u32) -> FirstTwo
+pub fn first_two(s: &[u8], base: u32, number: u32) -> Result<Two, WireError>
     ensures { (m : Message) → cut (◌from◌ base s.now) ≡ ok m → first_two_of (varints number m) ≡ two_told result }
 {
     let mut at = 0;
     let mut two = Two::Neither;
     while at < s.len() {
-        let step = field_at(s, base, at);
-        let FieldStep::Field {
-            number: n,
-            value,
-            next,
-        } = step
-        else {
-            return FirstTwo::Numbers { two };
+        let Ok(read) = field_at(s, base, at) else {
+            return Ok(two);
         };
-        at = next;
-        if n != number {
-            continue;
+        at = read.next;
+        if read.value.number == number {
+            two = push_value(s, base, read.value.value, two)?;
         }
-        let pushed = push_value(s, base, value, two);
-        let FirstTwo::Numbers { two: more } = pushed else {
-            return pushed;
-        };
-        two = more;
     }
-    FirstTwo::Numbers { two }
+    Ok(two)
 }
 
 // Tests that every number of a field can be read.
-pub fn check_varints(s: &[u8], base: u32, number: u32) -> Checked
+pub fn check_varints(s: &[u8], base: u32, number: u32) -> Result<(), WireError>
     ensures { (m : Message) → cut (◌from◌ base s.now) ≡ ok m → CheckedTold (varints number m) result }
 {
-    let numbers = first_two(s, base, number);
-    let FirstTwo::Numbers { two: _ } = numbers else {
-        return Checked::Refused {
-            error: numbers.error(),
-        };
-    };
-    Checked::Whole
+    first_two(s, base, number)?;
+    Ok(())
 }

@@ -3,7 +3,8 @@
 // what they would take, in the same frames.
 #![tactic(auto)]
 
-ghost use Rattle.std.specs.Prelude.{◌≡◌, ◌≤◌, length};
+ghost use Rattle.std.specs.Prelude.{◌≡◌, ◌+◌, ◌*◌, ◌^◌, ◌≤◌, length};
+ghost use Rattle.lookup.specs.told.Strings.{codes_from};
 ghost use Rattle.inputs.specs.Inputs.{input, kind_of};
 ghost use Rattle.inputs.specs.told.OutcomesTold.{told};
 ghost use Rattle.passes.specs.Answered.{nothing_read, answered};
@@ -15,29 +16,32 @@ ghost use Rattle.metadata.specs.told.ReadTold.{told_by};
 
 use declaration_rows::{put_aliases, put_count, put_head, put_head_counts};
 use fields::OMITTED_FLAGS;
-use inputs::outcome::{Outcome, fault_refusal, refused};
-use inputs::{Inspected, fault_of, kind_of};
+use inputs::outcome::{Refusal, Sizes};
+use inputs::{fault_of, kind_of};
 use names::name::absent;
-use passes::{Asked, Passed, Reply, Task, decode_in, start, without_lists};
+use passes::{Asked, PassError, Reply, Task, decode_in, start, without_lists};
 use sheet::State;
 
-// Number and detail of a refusal (0 and 0: accepted), both lengths, the types entered, and the version as it came.
+// Both lengths and the types entered, or the refusal; and the version as it came.
 #[derive(Clone, Copy)]
 pub struct Answer {
-    pub number: u64,
-    pub detail: u64,
-    pub sheet: usize,
-    pub text: usize,
-    pub types: usize,
+    pub outcome: Result<Sizes, Refusal>,
     pub version: [i32; 3],
 }
 
+// What the head alone takes, with the count of no aliases.
+const HEAD_ALONE: Sizes = Sizes {
+    sheet: 23,
+    text: 0,
+    types: 0,
+};
+
 // Metadata kinds 3 and 4: the head alone, and that there are no aliases.
-fn head_alone(kind: u8, sheet: &mut [u8], text: &mut [u8]) -> Outcome
+fn head_alone(kind: u8, sheet: &mut [u8], text: &mut [u8]) -> Result<Sizes, Refusal>
     ensures { answered sheet.old text.old kind nothing_read ≡ told result sheet.new text.new }
 {
-    if sheet.len() < 23 {
-        return refused(12, 0);
+    if sheet.len() < HEAD_ALONE.sheet {
+        return Err(Refusal::SheetTooLong);
     }
     let payload = [0u8; 0];
     let d2 = [0u16; 0];
@@ -61,53 +65,40 @@ fn head_alone(kind: u8, sheet: &mut [u8], text: &mut [u8]) -> Outcome
     let begun = put_aliases(after, sheet);
     put_count(sheet, begun.sheet, 0);
     put_head_counts(sheet, place, 0, 0, 0);
-    Outcome {
-        number: 0,
-        detail: 0,
-        sheet: 23,
-        text: 0,
-        types: 0,
-    }
+    Ok(HEAD_ALONE)
 }
 
 // Metadata kinds 3 and 4, for any task: 23 bytes of sheet, and no text.
-fn alone(asked: Asked, sheet: &mut [u8], text: &mut [u8]) -> Reply
+fn alone(asked: Asked, sheet: &mut [u8], text: &mut [u8]) -> Result<Reply, Refusal>
     ensures { TaskTold asked nothing_read result sheet.old sheet.new text.old text.new }
 {
-    let task = asked.task;
-    match task {
-        Task::Read => without_lists(head_alone(asked.kind, sheet, text)),
-        Task::Room => without_lists(Outcome {
-            number: 0,
-            detail: 0,
-            sheet: 23,
-            text: 0,
-            types: 0,
-        }),
+    match asked.task {
+        Task::Read => Ok(without_lists(head_alone(asked.kind, sheet, text)?)),
+        Task::Room => Ok(without_lists(HEAD_ALONE)),
     }
 }
 
-// A d1 of 256 units at most, as most classes have: a frame of 6 KB.
-fn in_small(
+// A d1 of so many units at most, in a frame with room for its bytes, for their notes, and for the first pass.
+fn in_frame_of<const BYTES: usize, const NOTES: usize, const SHEET: usize, const TEXT: usize>(
     asked: Asked,
     d1: &[u16],
     d2: &[u16],
     ends: &[u32],
     sheet: &mut [u8],
     text: &mut [u8],
-) -> Reply
-    requires { InLimits d1.now d2.now ends.now × (length d1.now ≤ 256) }
+) -> Result<Reply, Refusal>
+    requires { InLimits d1.now d2.now ends.now × (length d1.now ≤ BYTES) × (3 * BYTES ≤ 2 * codes_from NOTES) × (BYTES + NOTES + SHEET + TEXT ≤ 2 ^ 20) }
     ensures { TaskTold asked (reading_of asked.kind d1.now d2.now ends.now) result sheet.old sheet.new text.old text.new }
 {
-    let mut bytes = [0u8; 256];
-    let mut notes = [0u64; 560];
-    let mut scratch_sheet = [0u8; 512];
-    let mut scratch_text = [0u8; 1024];
+    let mut bytes = [0u8; BYTES];
+    let mut notes = [0u64; NOTES];
+    let mut scratch_sheet = [0u8; SHEET];
+    let mut scratch_text = [0u8; TEXT];
     let passed = decode_in(
         asked,
-        &*d1,
-        &*d2,
-        &*ends,
+        d1,
+        d2,
+        ends,
         &mut bytes,
         &mut notes,
         &mut scratch_sheet,
@@ -115,115 +106,14 @@ fn in_small(
         sheet,
         text,
     );
-    let Passed::Answered { reply } = passed else {
-        return without_lists(refused(0, 0));
-    };
-    reply
+    match passed {
+        Ok(reply) => Ok(reply),
+        Err(PassError::Refused(refusal)) => Err(refusal),
+        Err(PassError::NoRoom) => unreachable!(),
+    }
 }
 
-// A d1 of 1,024 units at most: a frame of 26 KB.
-fn in_medium(
-    asked: Asked,
-    d1: &[u16],
-    d2: &[u16],
-    ends: &[u32],
-    sheet: &mut [u8],
-    text: &mut [u8],
-) -> Reply
-    requires { InLimits d1.now d2.now ends.now × (length d1.now ≤ 1024) }
-    ensures { TaskTold asked (reading_of asked.kind d1.now d2.now ends.now) result sheet.old sheet.new text.old text.new }
-{
-    let mut bytes = [0u8; 1024];
-    let mut notes = [0u64; 2096];
-    let mut scratch_sheet = [0u8; 2048];
-    let mut scratch_text = [0u8; 6144];
-    let passed = decode_in(
-        asked,
-        &*d1,
-        &*d2,
-        &*ends,
-        &mut bytes,
-        &mut notes,
-        &mut scratch_sheet,
-        &mut scratch_text,
-        sheet,
-        text,
-    );
-    let Passed::Answered { reply } = passed else {
-        return without_lists(refused(0, 0));
-    };
-    reply
-}
-
-// A d1 of 8,192 units at most: a frame of 181 KB.
-fn in_big(
-    asked: Asked,
-    d1: &[u16],
-    d2: &[u16],
-    ends: &[u32],
-    sheet: &mut [u8],
-    text: &mut [u8],
-) -> Reply
-    requires { InLimits d1.now d2.now ends.now × (length d1.now ≤ 8192) }
-    ensures { TaskTold asked (reading_of asked.kind d1.now d2.now ends.now) result sheet.old sheet.new text.old text.new }
-{
-    let mut bytes = [0u8; 8192];
-    let mut notes = [0u64; 14368];
-    let mut scratch_sheet = [0u8; 14336];
-    let mut scratch_text = [0u8; 45056];
-    let passed = decode_in(
-        asked,
-        &*d1,
-        &*d2,
-        &*ends,
-        &mut bytes,
-        &mut notes,
-        &mut scratch_sheet,
-        &mut scratch_text,
-        sheet,
-        text,
-    );
-    let Passed::Answered { reply } = passed else {
-        return without_lists(refused(0, 0));
-    };
-    reply
-}
-
-// Any d1: a frame of 557 KB.
-fn in_large(
-    asked: Asked,
-    d1: &[u16],
-    d2: &[u16],
-    ends: &[u32],
-    sheet: &mut [u8],
-    text: &mut [u8],
-) -> Reply
-    requires { InLimits d1.now d2.now ends.now }
-    ensures { TaskTold asked (reading_of asked.kind d1.now d2.now ends.now) result sheet.old sheet.new text.old text.new }
-{
-    let mut bytes = [0u8; 32768];
-    let mut notes = [0u64; 51232];
-    let mut scratch_sheet = [0u8; 49152];
-    let mut scratch_text = [0u8; 65536];
-    let passed = decode_in(
-        asked,
-        &*d1,
-        &*d2,
-        &*ends,
-        &mut bytes,
-        &mut notes,
-        &mut scratch_sheet,
-        &mut scratch_text,
-        sheet,
-        text,
-    );
-    let Passed::Answered { reply } = passed else {
-        return without_lists(refused(0, 0));
-    };
-    reply
-}
-
-// A longer d1, in the frame that is enough.
+// A longer d1, in the frame that is enough: of 181 KB up to 8,192 units, of 557 KB for any.
 fn in_longer(
     asked: Asked,
     d1: &[u16],
@@ -231,18 +121,19 @@ fn in_longer(
     ends: &[u32],
     sheet: &mut [u8],
     text: &mut [u8],
-) -> Reply
+) -> Result<Reply, Refusal>
     requires { InLimits d1.now d2.now ends.now }
     ensures { TaskTold asked (reading_of asked.kind d1.now d2.now ends.now) result sheet.old sheet.new text.old text.new }
 {
     if d1.len() <= 8192 {
-        return in_big(asked, &*d1, &*d2, &*ends, sheet, text);
+        return in_frame_of::<8192, 14368, 14336, 45056>(asked, d1, d2, ends, sheet, text);
     }
-    in_large(asked, &*d1, &*d2, &*ends, sheet, text)
+    in_frame_of::<32768, 51232, 49152, 65536>(asked, d1, d2, ends, sheet, text)
 }
 
-// A kind that carries declarations. `in_longer` is called from two places, with areas of their own, so that the compiler keeps its frames apart
-// from this one's: a frame of many pages costs a small class more than its reading. (Two calls that differ in `asked` alone are made one.)
+// A kind that carries declarations: a frame of 6 KB up to 256 units, as most classes have, of 26 KB up to 1,024. `in_longer` is called from two places,
+// with areas of their own, so that the compiler keeps its frames apart from this one's: a frame of many pages costs a small class more than its
+// reading. (Two calls that differ in `asked` alone are made one.)
 // It requires what `fault_of` has found of the input: refusals 1 to 4 are the entries' own.
 fn in_frame(
     asked: Asked,
@@ -251,23 +142,22 @@ fn in_frame(
     ends: &[u32],
     sheet: &mut [u8],
     text: &mut [u8],
-) -> Reply
+) -> Result<Reply, Refusal>
     requires { InLimits d1.now d2.now ends.now }
     ensures { TaskTold asked (reading_of asked.kind d1.now d2.now ends.now) result sheet.old sheet.new text.old text.new }
 {
     if d1.len() <= 256 {
-        return in_small(asked, &*d1, &*d2, &*ends, sheet, text);
+        return in_frame_of::<256, 560, 512, 1024>(asked, d1, d2, ends, sheet, text);
     }
     if d1.len() <= 1024 {
-        return in_medium(asked, &*d1, &*d2, &*ends, sheet, text);
+        return in_frame_of::<1024, 2096, 2048, 6144>(asked, d1, d2, ends, sheet, text);
     }
-    let task = asked.task;
-    match task {
-        Task::Read => in_longer(asked, &*d1, &*d2, &*ends, sheet, text),
+    match asked.task {
+        Task::Read => in_longer(asked, d1, d2, ends, sheet, text),
         Task::Room => {
             let mut no_sheet = [0u8; 0];
             let mut no_text = [0u8; 0];
-            in_longer(asked, &*d1, &*d2, &*ends, &mut no_sheet, &mut no_text)
+            in_longer(asked, d1, d2, ends, &mut no_sheet, &mut no_text)
         }
     }
 }
@@ -280,7 +170,7 @@ fn of_kind(
     ends: &[u32],
     sheet: &mut [u8],
     text: &mut [u8],
-) -> Reply
+) -> Result<Reply, Refusal>
     requires { InLimits d1.now d2.now ends.now × (1 ≤ asked.kind) × (asked.kind ≤ 5) }
     ensures { TaskTold asked (reading_by asked.kind d1.now d2.now ends.now) result sheet.old sheet.new text.old text.new }
 {
@@ -290,7 +180,7 @@ fn of_kind(
     if asked.kind == 4 {
         return alone(asked, sheet, text);
     }
-    in_frame(asked, &*d1, &*d2, &*ends, sheet, text)
+    in_frame(asked, d1, d2, ends, sheet, text)
 }
 
 // The reply for a task, whatever the input.
@@ -303,34 +193,15 @@ fn reply_to(
     ends: &[u32],
     sheet: &mut [u8],
     text: &mut [u8],
-) -> Reply
+) -> Result<Reply, Refusal>
     ensures { TaskTold (record { task = task; kind = kind_of k }) (reading (input k version d1.now d2.now ends.now)) result sheet.old sheet.new text.old text.new }
 {
-    let inspected = fault_of(&*d1, &*d2, &*ends, version);
-    match inspected {
-        Inspected::Faulty { fault } => without_lists(fault_refusal(fault)),
-        Inspected::Sound => {
-            let asked = Asked {
-                task,
-                kind: kind_of(k),
-            };
-            of_kind(asked, &*d1, &*d2, &*ends, sheet, text)
-        }
-    }
-}
-
-// The answer with the version as it came.
-fn answer_of(outcome: Outcome, version: [i32; 3]) -> Answer
-    ensures { (result.number ≡ outcome.number) × (result.detail ≡ outcome.detail) × (result.sheet ≡ outcome.sheet) × (result.text ≡ outcome.text) × (result.types ≡ outcome.types) × (result.version ≡ version) }
-{
-    Answer {
-        number: outcome.number,
-        detail: outcome.detail,
-        sheet: outcome.sheet,
-        text: outcome.text,
-        types: outcome.types,
-        version,
-    }
+    fault_of(d1, d2, ends, version)?;
+    let asked = Asked {
+        task,
+        kind: kind_of(k),
+    };
+    of_kind(asked, d1, d2, ends, sheet, text)
 }
 
 // Reads the metadata of one class: k, mv, d1's units, d2's units and where its strings end; writes sheet and text into the two areas.
@@ -345,25 +216,25 @@ pub fn read(
 ) -> Answer
     ensures { (read sheet.old text.old (input k version d1.now d2.now ends.now) ≡ told_by result sheet.new text.new) × (result.version ≡ version) }
 {
-    let reply = reply_to(Task::Read, k, version, &*d1, &*d2, &*ends, sheet, text);
-    answer_of(reply.outcome, version)
+    let reply = reply_to(Task::Read, k, version, d1, d2, ends, sheet, text);
+    Answer {
+        outcome: reply.map(|reply| reply.sizes),
+        version,
+    }
 }
 
 // The room that sheet and text take, with how far each list reaches and how many it has; or the refusal short of 11 and 12. Nothing is lent to
 // write into.
-pub fn measure(k: i32, version: [i32; 3], d1: &[u16], d2: &[u16], ends: &[u32]) -> Reply
+pub fn measure(
+    k: i32,
+    version: [i32; 3],
+    d1: &[u16],
+    d2: &[u16],
+    ends: &[u32],
+) -> Result<Reply, Refusal>
     ensures { RoomTold (kind_of k) (reading (input k version d1.now d2.now ends.now)) result }
 {
     let mut sheet = [0u8; 0];
     let mut text = [0u8; 0];
-    reply_to(
-        Task::Room,
-        k,
-        version,
-        &*d1,
-        &*d2,
-        &*ends,
-        &mut sheet,
-        &mut text,
-    )
+    reply_to(Task::Room, k, version, d1, d2, ends, &mut sheet, &mut text)
 }

@@ -14,19 +14,16 @@ use Rattle.std.specs.Prelude.{if◌then◌else◌}
 use Rattle.foundation.specs.Texts.{Text}
 use Rattle.foundation.proofs.ChoiceLaws.{if_ind}
 use Rattle.foundation.proofs.OverlayLaws.{sets_out}
-use Rattle.characters.specs.Characters.{width, utf8_of, utf8, from_utf8_after, from_utf8, from_utf16}
-use Rattle.characters.specs.told.Places.{part_from}
-use Rattle.characters.specs.told.CharactersTold.{PutCharacter, utf8_at, utf16_at}
-use Rattle.characters.specs.declared.Character.{Character}
-use Rattle.characters.specs.declared.Character.TheVariants.{Read, End}
+use Rattle.characters.specs.Characters.{width, utf8_of, utf8}
+use Rattle.characters.specs.told.CharactersTold.{Character, character_read, PutCharacter}
+use Rattle.foundation.specs.declared.Read.{Read}
+use Rattle.std.specs.declared.option.Option.TheVariants.{Some, None}
 use Rattle.characters.proofs.LengthLaws.{width_most, bytes_cons}
-use Rattle.characters.proofs.CharacterLaws.{utf8-end, utf8-next}
-use Rattle.characters.proofs.UnitLaws.{units-ended, utf16-end, utf16-next}
 use Rattle.characters.proofs.WriteLaws.{put_next}
+use Rattle.names.specs.told.Encoded.{Decoding}
 use Rattle.names.specs.told.Name.{fitted, is_measured, sized}
 use Rattle.names.specs.told.Stream.{changed, fitted_of}
 use Rattle.names.specs.declared.name.Change.{Change}
-use Rattle.names.specs.declared.stream.Fitted.{Fitted}
 
 lt_leb : (n k : ℕ) → n < k → leb k n ≡ false
 lt_leb n k h = go (leb k n) refl
@@ -34,14 +31,6 @@ lt_leb n k h = go (leb k n) refl
     go : (b : Bool) → leb k n ≡ b → leb k n ≡ false
     go true e = absurd (omega (arith, leb-true k n e))
     go false e = e
-
-from_none : from_utf8 [] ≡ []
-unfolding from_utf8_after
-from_none = refl
-
-from_no_unit : from_utf16 [] ≡ []
-unfolding from_utf16
-from_no_unit = refl
 
 zeros-bytes : (n : ℕ) → length (utf8 (replicate n 0)) ≡ n
 unfolding utf8 utf8_of
@@ -121,9 +110,9 @@ fitted_none [] = refl
 fitted_none (c ∷ t) = let w = width_most c in rw (lt_leb 0 (width c) w.0)
 
 -- One step of a text that is to take `left` bytes: `rest` is what it is made of, `rest'` what is left of it after the step.
-pub record FittedStep (left : ℕ) (rest rest' : Text) (r : Fitted) : Type 0 where
-  pub fits : width r.code ≤ left
-  pub is : fitted left rest ≡ r.code ∷ fitted (left - width r.code) rest'
+pub record FittedStep (left : ℕ) (rest rest' : Text) (r : Read ℕ) : Type 0 where
+  pub fits : width r.value ≤ left
+  pub is : fitted left rest ≡ r.value ∷ fitted (left - width r.value) rest'
 
 zero-width : width 0 ≡ 1
 unfolding width
@@ -134,17 +123,17 @@ unfolding fitted width
 zeros-step zero h = absurd (omega arith)
 zeros-step (suc n) h = let z : suc n - 1 ≡ n = omega arith in rw z
 
-module _ (h : Change) (left end : ℕ) (l : 0 < left) {r : Fitted} where
-  pub fitted-end : (rest rest' : Text) → rest ≡ [] → rest' ≡ [] → r ≡ fitted_of h left end End → FittedStep left (map (changed h) rest) (map (changed h) rest') r
+module _ (h : Change) (left end : ℕ) (l : 0 < left) {r : Read ℕ} where
+  pub fitted-end : (rest rest' : Text) → rest ≡ [] → rest' ≡ [] → r ≡ fitted_of h left end None → FittedStep left (map (changed h) rest) (map (changed h) rest') r
   unfolding fitted
   fitted-end rest rest' e f g = rw (g, e, f) (record { fits = rw zero-width l; is = zeros-step left l })
 
-  pub fitted-next : (rest : Text) (after : ℕ → Text) {code next : ℕ} → rest ≡ code ∷ after next → after end ≡ [] → r ≡ fitted_of h left end (Read code next)
+  pub fitted-next : (rest : Text) (after : ℕ → Text) {code next : ℕ} → rest ≡ code ∷ after next → after end ≡ [] → r ≡ fitted_of h left end (character_read code next)
       → FittedStep left (map (changed h) rest) (map (changed h) (after r.next)) r
   fitted-next rest after {code} {next} e f g = rw (g, e) (go (leb (width (changed h code)) left) refl)
     where
       go : (b : Bool) → leb (width (changed h code)) left ≡ b
-          → let s : Fitted = if b then record { code = changed h code; next = next } else record { code = 0; next = end } in
+          → let s : Read ℕ = if b then record { value = changed h code; next = next } else record { value = 0; next = end } in
           FittedStep left (changed h code ∷ map (changed h) (after next)) (map (changed h) (after s.next)) s
       go true q =
           let w = leb-true (width (changed h code)) left q in
@@ -170,12 +159,12 @@ module _ {whole rest : Text} {size at to left : ℕ} {A₀ A : List ℕ} (s : Fi
   pub fitting-past : length A ≤ to → A ≡ sets A₀ at (utf8 (fitted size whole))
   fitting-past h = sym (sets_out (utf8 (fitted left rest)) A to h) ∙ s.written
 
-  module _ {rest' : Text} {r : Fitted} (f : FittedStep left rest rest' r) {taken : ℕ} {A' : List ℕ} (p : PutCharacter r.code to taken A A') where
+  module _ {rest' : Text} {r : Read ℕ} (f : FittedStep left rest rest' r) {taken : ℕ} {A' : List ℕ} (p : PutCharacter r.value to taken A A') where
     pub taken-fits : taken ≤ left
     taken-fits = omega (arith, f.fits, p.bytes)
 
     pub taken-some : 1 ≤ taken
-    taken-some = let w = width_most r.code in omega (arith, w.0, p.bytes)
+    taken-some = let w = width_most r.value in omega (arith, w.0, p.bytes)
 
     pub fitting-sum : (K : ℕ) → at + size < K → to + taken < K
     fitting-sum K l = omega (arith, s.place, taken-fits)
@@ -185,52 +174,38 @@ module _ {whole rest : Text} {size at to left : ℕ} {A₀ A : List ℕ} (s : Fi
       place = omega (arith, s.place, taken-fits);
       written =
           ap (λ (n : ℕ). sets A' (to + taken) (utf8 (fitted (left - n) rest'))) p.bytes
-          ∙ sym (put_next r.code to (fitted (left - width r.code) rest') A p)
+          ∙ sym (put_next r.value to (fitted (left - width r.value) rest') A p)
           ∙ ap (λ (t : Text). sets A to (utf8 t)) (sym f.is)
           ∙ s.written;
       kept = ap length p.written ∙ simp length-sets s.kept;
     }
 
 -- The step by the character that was read.
-module _ (h : Change) (left : ℕ) (l : 0 < left) {r : Fitted} where
-  pub bytes-step : (s : List ℕ) (i : ℕ) {c : Character} → c ≡ utf8_at i (drop i s) → r ≡ fitted_of h left (length s) c
-      → FittedStep left (map (changed h) (from_utf8 (drop i s))) (map (changed h) (from_utf8 (drop r.next s))) r
-  bytes-step s i {c} e g = go c e g
+module _ {decoded : List ℕ → Text} {character : ℕ → List ℕ → Character} (d : Decoding decoded character) (h : Change) (left : ℕ) (l : 0 < left) {r : Read ℕ} where
+  pub decoded_step : (s : List ℕ) (i : ℕ) {c : Character} → c ≡ character i (drop i s) → r ≡ fitted_of h left (length s) c
+      → FittedStep left (map (changed h) (decoded (drop i s))) (map (changed h) (decoded (drop r.next s))) r
+  decoded_step s i {c} e g = go c e g
     where
-      ended : from_utf8 (drop (length s) s) ≡ []
-      ended = ap from_utf8 (drop_of_length-le s (le_refl (length s))) ∙ from_none
+      ended : decoded (drop (length s) s) ≡ []
+      ended = ap decoded (drop_of_length-le s (le_refl (length s))) ∙ d.none
 
-      go : (c : Character) → c ≡ utf8_at i (drop i s) → r ≡ fitted_of h left (length s) c
-          → FittedStep left (map (changed h) (from_utf8 (drop i s))) (map (changed h) (from_utf8 (drop r.next s))) r
-      go (Read code next) e g = fitted-next h left (length s) l (from_utf8 (drop i s)) (λ j. from_utf8 (drop j s)) (utf8-next s i (sym e)) ended g
-      go End e g =
-          fitted-end h left (length s) l (from_utf8 (drop i s)) (from_utf8 (drop r.next s)) (utf8-end s i (sym e))
-          (ap (λ (f : Fitted). from_utf8 (drop f.next s)) g ∙ ended) g
-
-  pub units-step : (s : List ℕ) (i end : ℕ) {c : Character} → c ≡ utf16_at i (part_from i end s) → r ≡ fitted_of h left end c
-      → FittedStep left (map (changed h) (from_utf16 (part_from i end s))) (map (changed h) (from_utf16 (part_from r.next end s))) r
-  units-step s i end {c} e g = go c e g
-    where
-      ended : from_utf16 (part_from end end s) ≡ []
-      ended = ap from_utf16 (units-ended s end end (le_refl end)) ∙ from_no_unit
-
-      go : (c : Character) → c ≡ utf16_at i (part_from i end s) → r ≡ fitted_of h left end c
-          → FittedStep left (map (changed h) (from_utf16 (part_from i end s))) (map (changed h) (from_utf16 (part_from r.next end s))) r
-      go (Read code next) e g = fitted-next h left end l (from_utf16 (part_from i end s)) (λ j. from_utf16 (part_from j end s)) (utf16-next s i end (sym e)) ended g
-      go End e g =
-          fitted-end h left end l (from_utf16 (part_from i end s)) (from_utf16 (part_from r.next end s)) (utf16-end s i end (sym e))
-          (ap (λ (f : Fitted). from_utf16 (part_from f.next end s)) g ∙ ended) g
+      go : (c : Character) → c ≡ character i (drop i s) → r ≡ fitted_of h left (length s) c
+          → FittedStep left (map (changed h) (decoded (drop i s))) (map (changed h) (decoded (drop r.next s))) r
+      go (Some c) e g = fitted-next h left (length s) l (decoded (drop i s)) (λ j. decoded (drop j s)) (d.goes_on s i (sym e)) ended g
+      go None e g =
+          fitted-end h left (length s) l (decoded (drop i s)) (decoded (drop r.next s)) (d.ended s i (sym e))
+          (ap (λ (f : Read ℕ). decoded (drop f.next s)) g ∙ ended) g
 
 -- What is written of a character, by its width.
 module _ (h : Change) (left end : ℕ) {ch : Character} where
-  pub fitted-of-end : ch ≡ End → ◌≡◌ {A = Fitted} (record { code = 0; next = end }) (fitted_of h left end ch)
+  pub fitted-of-end : ch ≡ None → ◌≡◌ {A = Read ℕ} (record { value = 0; next = end }) (fitted_of h left end ch)
   fitted-of-end e = rw e
 
-  module _ {code next c w : ℕ} (e : ch ≡ Read code next) (f : c ≡ changed h code) (g : w ≡ width c) where
-    pub fitted-of-fits : w ≤ left → ◌≡◌ {A = Fitted} (record { code = c; next = next }) (fitted_of h left end ch)
+  module _ {code next c w : ℕ} (e : ch ≡ character_read code next) (f : c ≡ changed h code) (g : w ≡ width c) where
+    pub fitted-of-fits : w ≤ left → ◌≡◌ {A = Read ℕ} (record { value = c; next = next }) (fitted_of h left end ch)
     fitted-of-fits l = rw (e, ← f, ← g, le-leb w left l)
 
-    pub fitted-of-wide : left < w → ◌≡◌ {A = Fitted} (record { code = 0; next = end }) (fitted_of h left end ch)
+    pub fitted-of-wide : left < w → ◌≡◌ {A = Read ℕ} (record { value = 0; next = end }) (fitted_of h left end ch)
     fitted-of-wide l = rw (e, ← f, ← g, lt_leb left w l)
 
 -- Is a size noted?

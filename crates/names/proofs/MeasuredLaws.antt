@@ -9,23 +9,26 @@ use native.Mathlib.Omega.{arith}
 use lib.ListN.{length, length-map}
 use lib.Seq.{sets}
 use Rattle.foundation.specs.Texts.{Text}
-use Rattle.characters.specs.Characters.{from_utf8, utf8}
+use Rattle.characters.specs.Characters.{utf8}
 use Rattle.characters.specs.told.Plain.{is_ascii, shown}
+use Rattle.characters.specs.told.CharactersTold.{Character}
+use Rattle.names.specs.told.Encoded.{Decoding}
 use Rattle.names.specs.told.Name.{fitted, is_measured}
 use Rattle.names.specs.told.Stream.{changed, changed_bytes, source_bytes, NoneReplaced, PutText}
 use Rattle.names.specs.declared.name.Change.{Change}
-use Rattle.names.proofs.AsciiLaws.{bytes-bytes}
+use Rattle.names.proofs.AsciiLaws.{plain-bytes}
 use Rattle.names.proofs.FittedLaws.{fitted-bytes, fitted-same}
 use Rattle.names.proofs.NameLaws.{source-fitted}
 use Rattle.names.proofs.WidthLaws.{put-past}
 
 -- Copied at once: characters below 128, of which none is replaced.
-pub measured_copied : (h : Change) → NoneReplaced h → (s : List ℕ) → is_ascii s ≡ true → (size at : ℕ) → length s ≡ size → (A : List ℕ) {B : List ℕ}
-    → B ≡ sets A at (map (shown h.dots h.slashes) s) → B ≡ sets A at (utf8 (fitted size (map (changed h) (from_utf8 s))))
-measured_copied h e s a size at l A w =
-    let b = bytes-bytes h e s a in
-    let z : length (utf8 (map (changed h) (from_utf8 s))) ≡ size = ap length b ∙ length-map s (shown h.dots h.slashes) ∙ l in
-    w ∙ ap (sets A at) (sym b) ∙ ap (λ (t : Text). sets A at (utf8 t)) (sym (fitted-same size (map (changed h) (from_utf8 s)) z))
+pub measured_copied : {decoded : List ℕ → Text} {character : ℕ → List ℕ → Character} → Decoding decoded character
+    → (h : Change) → NoneReplaced h → (s : List ℕ) → is_ascii s ≡ true → (size at : ℕ) → length s ≡ size → (A : List ℕ) {B : List ℕ}
+    → B ≡ sets A at (map (shown h.dots h.slashes) s) → B ≡ sets A at (utf8 (fitted size (map (changed h) (decoded s))))
+measured_copied {decoded} d h e s a size at l A w =
+    let b = plain-bytes h e d s a in
+    let z : length (utf8 (map (changed h) (decoded s))) ≡ size = ap length b ∙ length-map s (shown h.dots h.slashes) ∙ l in
+    w ∙ ap (sets A at) (sym b) ∙ ap (λ (t : Text). sets A at (utf8 t)) (sym (fitted-same size (map (changed h) (decoded s)) z))
 
 module _ (size : ℕ) (h : Change) (m : is_measured size ≡ true) {o : Option Text} {t : Text} (e : o ≡ some t) (at : ℕ) where
   noted-long : length (source_bytes size h o) ≡ size

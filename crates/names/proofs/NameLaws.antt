@@ -26,7 +26,7 @@ use Rattle.names.proofs.FittedLaws.{sized-map}
 use Rattle.names.proofs.WidthLaws.{dollars-width, dots_width, slashes_width}
 
 -- A part that goes to the end of s.
-pub part-rest : (s : List ℕ) (start end : ℕ) → length s ≤ end → take (length s - start) (drop start s) ≡ part_from start end s
+pub part-rest : {A : Type 0} (s : List A) (start end : ℕ) → length s ≤ end → take (length s - start) (drop start s) ≡ take (end - start) (drop start s)
 part-rest s start end h =
     take_all (length s - start) (drop start s) (omega (arith, length-drop start s))
     ∙ sym (take_all (end - start) (drop start s) (omega (arith, length-drop start s)))

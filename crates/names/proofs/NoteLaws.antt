@@ -17,19 +17,16 @@ use Rattle.wire.specs.Messages.{values, index, bodies_of, cut_all, messages, var
 use Rattle.wire.specs.told.WireTold.{wire_refused, rest_of, part_between}
 use Rattle.messages.specs.told.Asked.{CheckedTold, bodies, index_told, NextBodyTold}
 use Rattle.wire.specs.declared.WireError.{WireError}
-use Rattle.messages.specs.declared.Checked.{Checked}
-use Rattle.messages.specs.declared.Checked.TheVariants as checked
-use Rattle.messages.specs.declared.Indexed.{Indexed}
-use Rattle.wire.specs.declared.Piece.{Piece}
-use Rattle.wire.specs.declared.Piece.TheVariants as piece
 use Rattle.wire.proofs.WalkLaws.{cut-end, ok_same}
 use Rattle.messages.proofs.BodyLaws.{checked_at}
 use Rattle.characters.specs.told.Places.{part_from}
 use Rattle.names.specs.Records.{Record, record_of, served}
 use Rattle.names.specs.Names.{records_of}
-use Rattle.names.specs.told.Index.{sums_from, ranges_of, packed_places, start_of, end_of, served_from, Sums, RecordAt, IndexOf, NotedTold, IndexTold}
-use Rattle.names.specs.declared.records.RecordIndex.{RecordIndex}
-use Rattle.names.specs.declared.records.RecordIndex.TheVariants.{Records, NoRoom, Refused}
+use Rattle.names.specs.told.Index.{sums_from, ranges_of, packed_places, start_of, end_of, served_from, Sums, RecordAt, IndexOf, RecordIndex, NotedTold, IndexTold}
+use Rattle.std.specs.Prelude.{Option, Some, None, Result, Ok, Err}
+use Rattle.names.specs.declared.records.IndexError.{IndexError}
+use Rattle.names.specs.declared.records.IndexError.TheVariants.{NoRoom, Wire}
+use Rattle.foundation.specs.declared.Span.{Span}
 
 -- One more at the end of a list.
 map_snoc : {A B : Type 0} (f : A → B) (l : List A) (a : A) → map f (l ++ (a ∷ [])) ≡ map f l ++ (f a ∷ [])
@@ -224,60 +221,59 @@ noting_start bytes at notes m w = record {
 module _ (bytes : List ℕ) (start : ℕ) (notes : List ℕ) (total count at : ℕ) (i : Noting bytes start notes total count at) where
   -- none is left
   noting-done : (m : Message) (w : cut (rest_of 0 bytes start) ≡ ok m) → bodies StringTableTypes-record (i m w).rest ≡ []
-      → NotedTold bytes start m notes (Records count)
+      → NotedTold bytes start m notes (Ok count)
   unfolding cut_all
   noting-done m w e =
       let n = i m w in
       (n.before, n.whole ∙ rw e (ap ok (append-nil n.before)), n.noted)
 
-  pub noting-end : length bytes ≤ at → (m : Message) → cut (rest_of 0 bytes start) ≡ ok m → NotedTold bytes start m notes (Records count)
+  pub noting-end : length bytes ≤ at → (m : Message) → cut (rest_of 0 bytes start) ≡ ok m → NotedTold bytes start m notes (Ok count)
   unfolding values bodies_of
   noting-end h m w =
       let n = i m w in
       let e : n.rest ≡ [] = ok_same (sym n.cuts ∙ cut-end 0 bytes at h) in
       noting-done m w (ap (λ (r : Message). bodies StringTableTypes-record r) e)
 
-  module _ {r : Piece} (t : NextBodyTold 0 bytes StringTableTypes-record at r) where
-    pub noting-none : r ≡ piece.Nothing → (m : Message) → cut (rest_of 0 bytes start) ≡ ok m → NotedTold bytes start m notes (Records count)
+  module _ {r : Option Span} (t : NextBodyTold 0 bytes StringTableTypes-record at r) where
+    pub noting-none : r ≡ None → (m : Message) → cut (rest_of 0 bytes start) ≡ ok m → NotedTold bytes start m notes (Ok count)
     noting-none g m w = let n = i m w in noting-done m w ((subst (NextBodyTold 0 bytes StringTableTypes-record at) g t).is n.rest n.cuts)
 
-    module _ {a e : ℕ} (g : r ≡ piece.Body a e) where
-      next : NextBodyTold 0 bytes StringTableTypes-record at (piece.Body a e)
+    module _ {part : Span} (g : r ≡ Some part) where
+      next : NextBodyTold 0 bytes StringTableTypes-record at (Some part)
       next = subst (NextBodyTold 0 bytes StringTableTypes-record at) g t
 
-      pub body-in : (a ≤ e) × (e ≤ length bytes) × (at < e)
+      pub body-in : (part.start ≤ part.end) × (part.end ≤ length bytes) × (at < part.end)
       body-in = (next.inside.0, next.inside.1, next.later)
 
-      pub noting-refused : {c : Checked} → CheckedTold (cut (◌from◌ a (part_from a e bytes))) c → {error err : WireError} → c ≡ checked.Refused error → err ≡ error
-          → (m : Message) → cut (rest_of 0 bytes start) ≡ ok m → NotedTold bytes start m notes (Refused err)
-      noting-refused {c} k {error} {err} q p m w =
+      pub noting-refused : {c : Result Unit WireError} → CheckedTold (cut (◌from◌ part.start (part_from part.start part.end bytes))) c → {error : WireError} → c ≡ Err error
+          → (m : Message) → cut (rest_of 0 bytes start) ≡ ok m → NotedTold bytes start m notes (Err (Wire error))
+      noting-refused {c} k {error} q m w =
           let n = i m w in
           let b = next.is n.rest n.cuts in
-          let f : cut (part_between 0 bytes a e) ≡ wire_refused error =
-          subst (CheckedTold (cut (part_between 0 bytes a e))) q (checked_at bytes a e c k) in
+          let f : cut (part_between 0 bytes part.start part.end) ≡ wire_refused error =
+          subst (CheckedTold (cut (part_between 0 bytes part.start part.end))) q (checked_at bytes part.start part.end c k) in
           n.whole
           ∙ ap (λ (ps : List Part). after n.before (cut_all ps)) b.2
-          ∙ after-refused n.before (part_between 0 bytes a e) (bodies StringTableTypes-record b.0) error f
-          ∙ ap (wire_refused {A = List Message}) (sym p)
+          ∙ after-refused n.before (part_between 0 bytes part.start part.end) (bodies StringTableTypes-record b.0) error f
 
       pub noting-full : {room : ℕ} → room ≡ length notes / 3 → room ≤ count
-          → (m : Message) → cut (rest_of 0 bytes start) ≡ ok m → NotedTold bytes start m notes NoRoom
+          → (m : Message) → cut (rest_of 0 bytes start) ≡ ok m → NotedTold bytes start m notes (Err NoRoom)
       noting-full h l m w room =
           let n = i m w in
           let b = next.is n.rest n.cuts in
           let q : length (bodies StringTableTypes-record n.rest) ≡ suc (length (bodies StringTableTypes-record b.0)) = ap length b.2 in
           omega (arith, room.long, n.many)
 
-      module _ {c : Checked} (k : CheckedTold (cut (◌from◌ a (part_from a e bytes))) c) (q : c ≡ checked.Whole) where
-        inner : (x : Message) × (cut (part_between 0 bytes a e) ≡ ok x)
-        inner = subst (CheckedTold (cut (part_between 0 bytes a e))) q (checked_at bytes a e c k)
+      module _ {c : Result Unit WireError} (k : CheckedTold (cut (◌from◌ part.start (part_from part.start part.end bytes))) c) (q : c ≡ Ok tt) where
+        inner : (x : Message) × (cut (part_between 0 bytes part.start part.end) ≡ ok x)
+        inner = subst (CheckedTold (cut (part_between 0 bytes part.start part.end))) q (checked_at bytes part.start part.end c k)
 
-        here : cut (◌from◌ a (part_from a e bytes)) ≡ ok inner.0
-        here = ap (λ (n : ℕ). cut (◌from◌ n (part_from a e bytes))) (sym (zero-add a)) ∙ inner.1
+        here : cut (◌from◌ part.start (part_from part.start part.end bytes)) ≡ ok inner.0
+        here = ap (λ (n : ℕ). cut (◌from◌ n (part_from part.start part.end bytes))) (sym (zero-add part.start)) ∙ inner.1
 
-        pub noting-next : 3 * count + 2 < length notes → a < 2 ^ 32 → {range : ℕ} (x : Indexed)
-            → ((m : Message) → cut (◌from◌ a (part_from a e bytes)) ≡ ok m → index Record-range m ≡ index_told x) → range ≡ served (index_told x)
-            → {notes' : List ℕ} → notes' ≡ noted_more notes count (packed_places a e) (total + range) → Noting bytes start notes' (total + range) (count + 1) e
+        pub noting-next : 3 * count + 2 < length notes → part.start < 2 ^ 32 → {range : ℕ} (x : Option ℕ)
+            → ((m : Message) → cut (◌from◌ part.start (part_from part.start part.end bytes)) ≡ ok m → index Record-range m ≡ index_told x) → range ≡ served (index_told x)
+            → {notes' : List ℕ} → notes' ≡ noted_more notes count (packed_places part.start part.end) (total + range) → Noting bytes start notes' (total + range) (count + 1) part.end
         unfolding record_of
         noting-next hs short {range} x d u {notes'} pf m w =
             let n = i m w in
@@ -285,7 +281,7 @@ module _ (bytes : List ℕ) (start : ℕ) (notes : List ℕ) (total count at : �
             let y = inner.0 in
             let v : (record_of y).range ≡ range = ap served (d y here) ∙ sym u in
             let sum : served_from notes count + (record_of y).range ≡ total + range = rw (n.last, v) in
-            let z : notes' ≡ noted_more notes count (packed_places a e) (served_from notes count + (record_of y).range) = pf ∙ ap (noted_more notes count (packed_places a e)) (sym sum) in
+            let z : notes' ≡ noted_more notes count (packed_places part.start part.end) (served_from notes count + (record_of y).range) = pf ∙ ap (noted_more notes count (packed_places part.start part.end)) (sym sum) in
             record {
               rest = b.0;
               cuts = b.1;
@@ -293,7 +289,7 @@ module _ (bytes : List ℕ) (start : ℕ) (notes : List ℕ) (total count at : �
               whole =
                   n.whole
                   ∙ ap (λ (ps : List Part). after n.before (cut_all ps)) b.2
-                  ∙ after_one n.before y (part_between 0 bytes a e) (bodies StringTableTypes-record b.0) inner.1;
+                  ∙ after_one n.before y (part_between 0 bytes part.start part.end) (bodies StringTableTypes-record b.0) inner.1;
               many = n.many ∙ ap (λ (ps : List Part). count + length ps) b.2 ∙ omega arith;
               noted =
                   let p = index-more bytes notes count (map record_of n.before) n.noted hs (record_of y) short (record {
@@ -304,7 +300,7 @@ module _ (bytes : List ℕ) (start : ℕ) (notes : List ℕ) (total count at : �
                     is = refl;
                   }) in
                   rw (z, map_snoc record_of n.before y) p;
-              last = rw (z, first-new notes count (packed_places a e) (served_from notes count + (record_of y).range) hs) sum;
+              last = rw (z, first-new notes count (packed_places part.start part.end) (served_from notes count + (record_of y).range) hs) sum;
             }
 
 -- The local names are looked into after all records are cut.
@@ -314,27 +310,29 @@ module _ (bytes : List ℕ) (start : ℕ) (m : Message) (w : cut (rest_of 0 byte
       let e : part_from start (length bytes) bytes ≡ drop start bytes = take_all (length bytes - start) (drop start bytes) (rw length-drop (le_refl (length bytes - start))) in
       ap (λ (bs : List ℕ). cut (◌from◌ start bs)) e ∙ ap (λ (n : ℕ). cut (◌from◌ n (drop start bytes))) (sym (zero-add start)) ∙ w
 
-  module _ {count : ℕ} (g : r ≡ Records count) where
-    noted : NotedTold bytes start m notes (Records count)
+  module _ {count : ℕ} (g : r ≡ Ok count) where
+    noted : NotedTold bytes start m notes (Ok count)
     noted = subst (NotedTold bytes start m notes) g t
 
-    module _ (c : Checked) (k : (m : Message) → cut (◌from◌ start (part_from start (length bytes) bytes)) ≡ ok m → CheckedTold (varints StringTableTypes-local_name m) c) where
-      pub index-whole : c ≡ checked.Whole → IndexTold bytes start m notes (Records count)
+    module _ (c : Result Unit WireError) (k : (m : Message) → cut (◌from◌ start (part_from start (length bytes) bytes)) ≡ ok m → CheckedTold (varints StringTableTypes-local_name m) c) where
+      pub index-whole : c ≡ Ok tt → IndexTold bytes start m notes (Ok count)
       unfolding records_of
       index-whole q =
           let l = subst (CheckedTold (varints StringTableTypes-local_name m)) q (k m from_start) in
           (map record_of noted.0, rw (noted.1, l.1), noted.2)
 
-      pub index-locals : {error err : WireError} → c ≡ checked.Refused error → err ≡ error → IndexTold bytes start m notes (Refused err)
+      pub index-locals : {error : WireError} → c ≡ Err error → IndexTold bytes start m notes (Err (Wire error))
       unfolding records_of
-      index-locals {error} {err} q p =
+      index-locals {error} q =
           let l : varints StringTableTypes-local_name m ≡ wire_refused error = subst (CheckedTold (varints StringTableTypes-local_name m)) q (k m from_start) in
-          rw (noted.1, l, p)
+          rw (noted.1, l)
 
 -- Where not all records are noted, that is the answer.
-pub index_stopped : (bytes : List ℕ) (start : ℕ) (m : Message) (notes : List ℕ) (r : RecordIndex) → ((count : ℕ) → r ≡ Records count → ⊥)
-    → NotedTold bytes start m notes r → IndexTold bytes start m notes r
+pub index_stopped : (bytes : List ℕ) (start : ℕ) (m : Message) (notes : List ℕ) {r : RecordIndex} {error : IndexError} → r ≡ Err error
+    → NotedTold bytes start m notes r → IndexTold bytes start m notes (Err error)
 unfolding records_of
-index_stopped bytes start m notes (Records count) k t = absurd (k count refl)
-index_stopped bytes start m notes NoRoom k t = t
-index_stopped bytes start m notes (Refused error) k t = let l : messages StringTableTypes-record m ≡ wire_refused error = t in rw l
+index_stopped bytes start m notes {r} {error} e t = go error (subst (NotedTold bytes start m notes) e t)
+  where
+    go : (error : IndexError) → NotedTold bytes start m notes (Err error) → IndexTold bytes start m notes (Err error)
+    go NoRoom t = t
+    go (Wire error) t = let l : messages StringTableTypes-record m ≡ wire_refused error = t in rw l

@@ -2,3 +2,4 @@ pub mod Name
 pub mod Stream
 pub mod Index
 pub mod RecordTold
+pub mod Encoded

@@ -4,4 +4,5 @@
 
 pub mod records; // records.rt: the records of the name table
 pub mod name; // name.rt: names as parts of the payload, the predefined list or d2
+pub mod encoded; // encoded.rt: bytes in UTF-8 and 16-bit units, read alike
 pub mod stream; // stream.rt: names written

@@ -1,11 +1,13 @@
 // A name, by the part that it is made of and what is done to its characters. What it means: specs/told/Name.antt, `name_text`.
-ghost use Rattle.std.specs.Prelude.{◌≡◌, List, ℕ};
+ghost use Rattle.std.specs.Prelude.{◌≡◌, ◌-◌, List, ℕ, take, drop};
 ghost use Rattle.foundation.specs.Choices.{is_some};
 ghost use Rattle.characters.specs.told.Places.{part_from};
 ghost use Rattle.characters.specs.told.Plain.{instead, with_dots, slashed_character};
 ghost use Rattle.names.specs.told.Name.{name_text, absent_name};
 ghost use Rattle.names.specs.Records.{predefined_text};
 ghost use Rattle.names.specs.told.Stream.{listed_text, base_of, change_of, with_dollars, changed};
+
+use foundation::Span;
 
 #[derive(Clone, Copy)]
 pub struct Name {
@@ -62,37 +64,24 @@ const STARTS: [u16; 45] = [
     748, 775, 809, 840, 878,
 ];
 
-#[derive(Clone, Copy)]
-pub enum PredefinedPart {
-    Part { start: usize, end: usize },
-    Nothing,
-}
-
-fn wide(n: u16) -> usize
-    ensures { result ≡ n }
-{
-    n as usize
-}
-
 // The part of the list that a predefined string is.
-pub fn predefined(index: u32) -> PredefinedPart
+pub fn predefined(index: u32) -> Option<Span>
     ensures { listed_text result ≡ predefined_text index }
 {
     if 44 <= index {
-        return PredefinedPart::Nothing;
+        return None;
     }
     let i = index as usize;
-    let next = i + 1;
     let starts = STARTS;
-    PredefinedPart::Part {
-        start: wide(starts[i]),
-        end: wide(starts[next]),
-    }
+    Some(Span {
+        start: usize::from(starts[i]),
+        end: usize::from(starts[i + 1]),
+    })
 }
 
 // The part of `s` from a place to another, as far as `s` goes.
-pub(crate) fn part_of(s: &[u8], start: usize, end: usize) -> &[u8]
-    ensures { result.now ≡ part_from start end s.now }
+pub fn part_of<T>(s: &[T], start: usize, end: usize) -> &[T]
+    ensures { result.now ≡ take (end - start) (drop start s.now) }
 {
     if end <= start {
         return &s[0..0];
@@ -106,15 +95,8 @@ pub(crate) fn part_of(s: &[u8], start: usize, end: usize) -> &[u8]
     &s[start..end]
 }
 
-// The list, lent for as long as the payload.
-fn shortened<'p, 'l: 'p>(list: &'l [u8], payload: &'p [u8]) -> &'p [u8]
-    ensures { result.now ≡ list.now }
-{
-    list
-}
-
 // What a name is made of, if not of units of d2: a part of the list or of the payload.
-fn base_text<'p, 'l: 'p>(
+pub fn base_text<'p, 'l: 'p>(
     payload: &'p [u8],
     list: &'l [u8],
     source: u8,
@@ -124,22 +106,9 @@ fn base_text<'p, 'l: 'p>(
     ensures { result.now ≡ part_from start end (base_of source payload.now list.now) }
 {
     if source == 2 {
-        return part_of(shortened(&*list, &*payload), start, end);
+        return part_of(list, start, end);
     }
-    part_of(&*payload, start, end)
-}
-
-// The same where both are lent for one lifetime, as to a caller that holds the list itself.
-pub fn base_part<'a>(
-    payload: &'a [u8],
-    list: &'a [u8],
-    source: u8,
-    start: usize,
-    end: usize,
-) -> &'a [u8]
-    ensures { result.now ≡ part_from start end (base_of source payload.now list.now) }
-{
-    base_text(&*payload, &*list, source, start, end)
+    part_of(payload, start, end)
 }
 
 // What is done to each character of a name, in this order.

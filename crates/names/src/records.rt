@@ -6,167 +6,97 @@ ghost use Rattle.wire.specs.Wire.{cut, Message};
 ghost use Rattle.wire.specs.Messages.{varints};
 ghost use Rattle.messages.specs.told.Asked.{FoundTold, index_told};
 ghost use Rattle.wire.specs.told.WireTold.{rest_of};
+ghost use Rattle.names.specs.declared.records.IndexError.TheVariants.{Wire};
 ghost use Rattle.names.specs.Records.{served, two_of};
 ghost use Rattle.names.specs.told.Index.{packed_places, NotedTold, IndexTold};
-ghost use Rattle.names.specs.told.RecordTold.{first_seen, with_field, FirstsTold, operation_in, both_numbers, RecordTold};
+ghost use Rattle.names.specs.told.RecordTold.{operation_in, both_numbers, RecordTold};
 
 use fields::{
     RECORD_OPERATION, RECORD_PREDEFINED_INDEX, RECORD_RANGE, RECORD_REPLACE_CHAR, RECORD_STRING,
     RECORD_SUBSTRING_INDEX, STRING_TABLE_TYPES_LOCAL_NAME, STRING_TABLE_TYPES_RECORD,
 };
-use messages::repeated::{FirstTwo, Two, check_varints, first_two};
-use messages::{Checked, Found, Indexed, check, index, next_body};
-use wire::{FieldStep, Number, Piece, WireError, WireValue, field_at};
-
-// The first occurrence of each field of a record.
-#[derive(Clone, Copy)]
-struct Firsts {
-    range: Found,
-    predefined: Found,
-    operation: Found,
-    substring: Found,
-    replaced: Found,
-    string: Found,
-}
-
-// The first occurrence of a field that is asked for, after one more field.
-fn first_seen(asked: u32, seen: Found, number: u32, value: WireValue) -> Found
-    ensures { result ≡ first_seen asked seen number value }
-{
-    if number != asked {
-        return seen;
-    }
-    let Found::Nothing = seen else {
-        return seen;
-    };
-    Found::Value { value }
-}
-
-impl Firsts {
-    fn with_field(self, number: u32, value: WireValue) -> Firsts
-        ensures { result ≡ with_field self number value }
-    {
-        let range = self.range;
-        let predefined = self.predefined;
-        let operation = self.operation;
-        let substring = self.substring;
-        let replaced = self.replaced;
-        let string = self.string;
-        Firsts {
-            range: first_seen(RECORD_RANGE, range, number, value),
-            predefined: first_seen(RECORD_PREDEFINED_INDEX, predefined, number, value),
-            operation: first_seen(RECORD_OPERATION, operation, number, value),
-            substring: first_seen(RECORD_SUBSTRING_INDEX, substring, number, value),
-            replaced: first_seen(RECORD_REPLACE_CHAR, replaced, number, value),
-            string: first_seen(RECORD_STRING, string, number, value),
-        }
-    }
-}
-
-// One walk of a record's message.
-fn firsts_in(s: &[u8], base: u32) -> Firsts
-    ensures { FirstsTold base s.now result }
-{
-    let mut firsts = Firsts {
-        range: Found::Nothing,
-        predefined: Found::Nothing,
-        operation: Found::Nothing,
-        substring: Found::Nothing,
-        replaced: Found::Nothing,
-        string: Found::Nothing,
-    };
-    let mut at = 0;
-    while at < s.len() {
-        let step = field_at(&*s, base, at);
-        let FieldStep::Field {
-            number,
-            value,
-            next,
-        } = step
-        else {
-            return firsts;
-        };
-        firsts = firsts.with_field(number, value);
-        at = next;
-    }
-    firsts
-}
+use foundation::Span;
+use messages::repeated::{Two, check_varints, first_two};
+use messages::{check, find_each, index, index_in, next_body, number_in, piece_in};
+use wire::{WireError, WireValue};
 
 // How many indices a record serves: range 0 counts as 1, and so does no range.
-fn served(range: Indexed) -> u32
+fn served(range: Option<u32>) -> u32
     ensures { result ≡ served (index_told range) }
 {
-    let Indexed::At { index } = range else {
-        return 1;
-    };
-    if index == 0 {
-        return 1;
+    match range {
+        None | Some(0) => 1,
+        Some(index) => index,
     }
-    index
 }
 
-fn operation_in(found: Found) -> u64
+fn operation_in(found: Option<WireValue>) -> u64
     ensures { result ≡ operation_in found }
 {
-    let number = found.varint();
-    let Number::Value { value } = number else {
-        return 0;
-    };
-    value
+    number_in(found).unwrap_or(0)
 }
 
 // A step's two numbers. Errors in its values, or fewer than two of them, mean that the step isn't taken.
-fn two_in(s: &[u8], base: u32, number: u32, found: Found) -> Two
+fn two_in(s: &[u8], base: u32, number: u32, found: Option<WireValue>) -> Two
     ensures { FoundTold base s.now number found → (m : Message) → cut (◌from◌ base s.now) ≡ ok m → two_of (varints number m) ≡ both_numbers result }
 {
-    let Found::Value { value: _ } = found else {
-        return Two::Neither;
-    };
-    let numbers = first_two(&*s, base, number);
-    let FirstTwo::Numbers { two } = numbers else {
-        return Two::Neither;
-    };
-    two
+    match found {
+        None => Two::Neither,
+        Some(_) => first_two(s, base, number).unwrap_or(Two::Neither),
+    }
 }
 
 #[derive(Clone, Copy)]
 pub struct Record {
     pub range: u32,
     // its place in the slice that was read
-    pub string: Piece,
-    pub predefined: Indexed,
+    pub string: Option<Span>,
+    pub predefined: Option<u32>,
     pub operation: u64,
     // the step is taken if both numbers are there
     pub substring: Two,
     pub replaced: Two,
 }
 
-// The record of a message that is cut.
+// The record of a message that is cut: one walk finds the first occurrence of each of its fields.
 pub fn record_in(s: &[u8], base: u32) -> Record
     ensures { RecordTold base s.now result }
 {
-    let firsts = firsts_in(&*s, base);
-    let range = firsts.range;
-    let predefined = firsts.predefined;
-    let operation = firsts.operation;
-    let substring = firsts.substring;
-    let replaced = firsts.replaced;
-    let string = firsts.string;
+    let [range, predefined, operation, substring, replaced, string] = find_each(
+        s,
+        base,
+        [
+            RECORD_RANGE,
+            RECORD_PREDEFINED_INDEX,
+            RECORD_OPERATION,
+            RECORD_SUBSTRING_INDEX,
+            RECORD_REPLACE_CHAR,
+            RECORD_STRING,
+        ],
+    );
     Record {
-        range: served(range.index()),
-        string: string.bytes(),
-        predefined: predefined.index(),
+        range: served(index_in(range)),
+        string: piece_in(string),
+        predefined: index_in(predefined),
         operation: operation_in(operation),
-        substring: two_in(&*s, base, RECORD_SUBSTRING_INDEX, substring),
-        replaced: two_in(&*s, base, RECORD_REPLACE_CHAR, replaced),
+        substring: two_in(s, base, RECORD_SUBSTRING_INDEX, substring),
+        replaced: two_in(s, base, RECORD_REPLACE_CHAR, replaced),
     }
 }
 
+// Why there is no index: the lent notes have no room for it, or the messages are refused.
 #[derive(Clone, Copy)]
-pub enum RecordIndex {
-    Records { count: usize },
+pub enum IndexError {
     NoRoom,
-    Refused { error: WireError },
+    Wire(WireError),
+}
+
+impl From<WireError> for IndexError {
+    ghost from_gives = { λ error made. made ≡ Wire error };
+
+    fn from(error: WireError) -> IndexError {
+        IndexError::Wire(error)
+    }
 }
 
 // Two places in one number.
@@ -190,60 +120,49 @@ fn put_entry(notes: &mut [u64], count: usize, start: u32, end: u32, next: u64)
     notes[at + 2] = next;
 }
 
-// Cuts the records of the name table in `bytes` from `at` on, and notes for each where it stands and the first index that it serves.
-fn note_records(bytes: &[u8], at: usize, notes: &mut [u64]) -> RecordIndex
+// Cuts the records of the name table in `bytes` from `at` on, and notes for each where it stands and the first index that it serves. How
+// many there are.
+fn note_records(bytes: &[u8], at: usize, notes: &mut [u64]) -> Result<usize, IndexError>
     ensures { (m : Message) → cut (rest_of 0 bytes.now at) ≡ ok m → NotedTold bytes.now at m notes.new result }
 {
     if 4294967295 < bytes.len() {
-        return RecordIndex::NoRoom;
+        return Err(IndexError::NoRoom);
     }
     let room = notes.len() / RECORD_WORDS;
     let mut total: u64 = 0;
     let mut count: usize = 0;
     let mut i = at;
     while i < bytes.len() {
-        let piece = next_body(&*bytes, 0, STRING_TABLE_TYPES_RECORD, i);
-        let Piece::Body { start, end } = piece else {
-            return RecordIndex::Records { count };
+        let Some(record) = next_body(bytes, 0, STRING_TABLE_TYPES_RECORD, i) else {
+            return Ok(count);
         };
-        let checked = check(&bytes[start..end], start as u32);
-        let Checked::Whole = checked else {
-            return RecordIndex::Refused {
-                error: checked.error(),
-            };
-        };
+        let message = &bytes[record.start..record.end];
+        let base = record.start as u32;
+        check(message, base)?;
         if room <= count {
-            return RecordIndex::NoRoom;
+            return Err(IndexError::NoRoom);
         }
-        let range = served(index(&bytes[start..end], start as u32, RECORD_RANGE));
+        let range = served(index(message, base, RECORD_RANGE));
         total += range as u64;
-        put_entry(notes, count, start as u32, end as u32, total);
+        put_entry(notes, count, base, record.end as u32, total);
         count += 1;
-        i = end;
+        i = record.end;
     }
-    RecordIndex::Records { count }
+    Ok(count)
 }
 
-// The index of a name table: `bytes` are the decoded ones up to its end, and it begins at `at`. An error in the local names refuses after
+// The index of a name table, and how many records it has: `bytes` are the decoded ones up to its end, and it begins at `at`. An error in the local names refuses after
 // all records are cut.
-pub fn index_records(bytes: &[u8], at: usize, notes: &mut [u64]) -> RecordIndex
+pub fn index_records(bytes: &[u8], at: usize, notes: &mut [u64]) -> Result<usize, IndexError>
     ensures { (m : Message) → cut (rest_of 0 bytes.now at) ≡ ok m → IndexTold bytes.now at m notes.new result }
 {
     if bytes.len() < at {
-        return RecordIndex::NoRoom;
+        return Err(IndexError::NoRoom);
     }
     if 4294967295 < at {
-        return RecordIndex::NoRoom;
+        return Err(IndexError::NoRoom);
     }
-    let noted = note_records(&*bytes, at, notes);
-    let RecordIndex::Records { count } = noted else {
-        return noted;
-    };
-    let checked = check_varints(&bytes[at..], at as u32, STRING_TABLE_TYPES_LOCAL_NAME);
-    let Checked::Whole = checked else {
-        return RecordIndex::Refused {
-            error: checked.error(),
-        };
-    };
-    RecordIndex::Records { count }
+    let count = note_records(bytes, at, notes)?;
+    check_varints(&bytes[at..], at as u32, STRING_TABLE_TYPES_LOCAL_NAME)?;
+    Ok(count)
 }

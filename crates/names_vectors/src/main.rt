@@ -4,10 +4,8 @@
 
 ghost use Rattle.std.specs.Prelude.{◌≤◌, ◌<◌, length, IfOk};
 
-use characters::Character;
-use messages::Checked;
-use names::name::{Change, Name, PREDEFINED};
-use names::records::RecordIndex;
+use names::encoded::Encoded;
+use names::name::{Change, Name, PREDEFINED, part_of};
 use std::io;
 use std::io::Read;
 
@@ -26,17 +24,12 @@ fn field_end(s: &[u8], at: usize) -> usize
     requires { at ≤ length s.now }
     ensures { (at ≤ result) × (result ≤ length s.now) }
 {
-    let mut i = at;
-    while i < s.len() {
-        if s[i] == b'|' {
+    for i in at..s.len() {
+        if s[i] == b'|' || s[i] == b'\n' {
             return i;
         }
-        if s[i] == b'\n' {
-            return i;
-        }
-        i += 1;
     }
-    i
+    s.len()
 }
 
 fn after(s: &[u8], end: usize) -> usize
@@ -49,58 +42,25 @@ fn after(s: &[u8], end: usize) -> usize
     end
 }
 
+// A number in hex, of its last eight digits.
 fn number(s: &[u8]) -> u32 {
     let mut n: u32 = 0;
-    let mut i = 0;
-    while i < s.len() {
-        n = n % 268435456 * 16 + digit(s[i]) as u32;
-        i += 1;
+    for c in s {
+        n = n % 268435456 * 16 + u32::from(digit(*c));
     }
     n
 }
 
-fn read_bytes(s: &[u8], area: &mut [u8]) -> usize
+// Numbers of so many hex digits each, as far as the area goes. How many.
+fn read_numbers<T: Drop, F: Fn(u32) -> T>(s: &[u8], digits: usize, area: &mut [T], item: F) -> usize
+    requires some { 0 < digits }
+    requires callable { F.IsAlwaysCallable item }
     ensures { result ≤ length area.new }
 {
-    let mut count = 0;
-    while count < area.len() {
-        if s.len() / 2 <= count {
-            return count;
-        }
-        area[count] = digit(s[2 * count]) * 16 + digit(s[2 * count + 1]);
-        count += 1;
+    for (place, number_of) in area.iter_mut().zip(s.chunks_exact(digits)) {
+        *place = item(number(number_of));
     }
-    count
-}
-
-fn read_units(s: &[u8], area: &mut [u16]) -> usize
-    ensures { result ≤ length area.new }
-{
-    let mut count = 0;
-    while count < area.len() {
-        if s.len() / 4 <= count {
-            return count;
-        }
-        let at = 4 * count;
-        area[count] = (number(&s[at..at + 4]) % 65536) as u16;
-        count += 1;
-    }
-    count
-}
-
-fn read_ends(s: &[u8], area: &mut [u32]) -> usize
-    ensures { result ≤ length area.new }
-{
-    let mut count = 0;
-    while count < area.len() {
-        if s.len() / 2 <= count {
-            return count;
-        }
-        let at = 2 * count;
-        area[count] = number(&s[at..at + 2]);
-        count += 1;
-    }
-    count
+    area.len().min(s.len() / digits)
 }
 
 fn print_character(rt: &impl Print, code: u32) -> io::Result<()> {
@@ -112,34 +72,13 @@ fn print_character(rt: &impl Print, code: u32) -> io::Result<()> {
     Ok(())
 }
 
-fn print_bytes(rt: &impl Print, s: &[u8], change: Change) -> io::Result<()> {
+fn print_text<E: Encoded>(rt: &impl Print, text: E, change: Change) -> io::Result<()> {
     let mut at = 0;
-    loop {
-        let character = characters::utf8_at(s, at);
-        let Character::Read { code, next } = character else {
-            return Ok(());
-        };
-        print_character(rt, names::name::character_of(change, code))?;
-        at = next;
+    while let Some(character) = text.character_at(at) {
+        print_character(rt, names::name::character_of(change, character.value))?;
+        at = character.next;
     }
-}
-
-fn print_units(
-    rt: &impl Print,
-    units: &[u16],
-    start: usize,
-    end: usize,
-    change: Change,
-) -> io::Result<()> {
-    let mut at = start;
-    loop {
-        let character = characters::utf16_at(units, at, end);
-        let Character::Read { code, next } = character else {
-            return Ok(());
-        };
-        print_character(rt, names::name::character_of(change, code))?;
-        at = next;
-    }
+    Ok(())
 }
 
 fn print_name(rt: &impl Print, payload: &[u8], units: &[u16], name: Name) -> io::Result<()> {
@@ -151,10 +90,10 @@ fn print_name(rt: &impl Print, payload: &[u8], units: &[u16], name: Name) -> io:
     }
     let change = names::name::change_of(name, false);
     if source == 3 {
-        return print_units(rt, units, start, end, change);
+        return print_text(rt, part_of(units, start, end), change);
     }
-    let s = names::name::base_part(payload, &PREDEFINED, source, start, end);
-    print_bytes(rt, s, change)
+    let s = names::name::base_text(payload, &PREDEFINED, source, start, end);
+    print_text(rt, s, change)
 }
 
 fn look_up(
@@ -165,13 +104,11 @@ fn look_up(
     index: u32,
     kind: u8,
 ) -> io::Result<()> {
-    let checked = messages::check(table, 0);
-    let Checked::Whole = checked else {
+    if messages::check(table, 0).is_err() {
         return print!(rt; "refused");
-    };
+    }
     let mut notes = [0u64; 48];
-    let indexed = names::records::index_records(table, 0, &mut notes);
-    let RecordIndex::Records { count } = indexed else {
+    let Ok(count) = names::records::index_records(table, 0, &mut notes) else {
         return print!(rt; "refused");
     };
     lookup::resolve::resolve(table, &mut notes, count);
@@ -224,7 +161,7 @@ fn with_units(
 {
     let end = field_end(s, at);
     let mut ends = [0u32; 8];
-    let count = read_ends(&s[at..end], &mut ends);
+    let count = read_numbers(&s[at..end], 2, &mut ends, |n| n);
     let next = after(s, end);
     with_strings(rt, s, next, table, units, &ends[..count])
 }
@@ -236,7 +173,7 @@ fn with_table(rt: &impl Print, s: &[u8], at: usize, table: &[u8]) -> io::Result<
 {
     let end = field_end(s, at);
     let mut units = [0u16; 16];
-    let count = read_units(&s[at..end], &mut units);
+    let count = read_numbers(&s[at..end], 4, &mut units, |n| (n % 65536) as u16);
     let next = after(s, end);
     with_units(rt, s, next, table, &units[..count])
 }
@@ -248,7 +185,7 @@ fn look_up_line(rt: &impl Print, s: &[u8], at: usize) -> io::Result<usize>
 {
     let end = field_end(s, at);
     let mut table = [0u8; 64];
-    let count = read_bytes(&s[at..end], &mut table);
+    let count = read_numbers(&s[at..end], 2, &mut table, |n| (n % 256) as u8);
     let next = after(s, end);
     with_table(rt, s, next, &table[..count])
 }

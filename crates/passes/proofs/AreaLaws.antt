@@ -9,7 +9,7 @@ use borrow.Author.Tests.{lt-ltb, le-ltb}
 use lib.Dec.{eqb}
 use lib.ListN.{length, take, drop}
 use lib.Seq.{sets, length-sets, take-append_seam}
-use Rattle.foundation.specs.Results.{Res, ok, text_too_long, sheet_too_long, ◌from◌}
+use Rattle.foundation.specs.Results.{Res, ok, ◌from◌}
 use Rattle.foundation.proofs.OverlayLaws.{sets_front}
 use Rattle.foundation.proofs.ResultLaws.{gives-ok}
 use Rattle.wire.specs.Wire.{Message, cut}
@@ -27,17 +27,17 @@ use Rattle.schema.specs.Members.{after_table}
 use Rattle.schema.specs.told.SchemaTold.{lent, Scoped, stop_refused}
 use Rattle.schema.specs.told.MembersTold.{Affords}
 use Rattle.schema.specs.declared.Tables.{Tables}
+use Rattle.schema.specs.declared.Stop.{Stop}
 use Rattle.schema.proofs.TypeCount.{body_enters}
 use Rattle.declarations.specs.Payload.{body_of, payload, declaration_rows}
 use Rattle.declarations.specs.told.PayloadTold.{OpenedAt, LentAt}
 use Rattle.declarations.specs.told.BodyTold.{body_cost, BodyTold, BodyWalked}
-use Rattle.declarations.specs.declared.body.Body.{Body}
-use Rattle.declarations.specs.declared.body.Body.TheVariants as body
+use Rattle.declarations.specs.declared.body.Sections.{Sections}
+use Rattle.std.proofs.Common.{Result, Ok, Err}
 use Rattle.declarations.proofs.PayloadLaws.{body-after}
-use Rattle.inputs.specs.Refusals.{number_of, detail_of}
 use Rattle.inputs.specs.told.OutcomesTold.{told}
-use Rattle.inputs.specs.declared.outcome.Outcome.{Outcome}
-use Rattle.inputs.proofs.OutcomeLaws.{refused_as}
+use Rattle.inputs.specs.declared.outcome.Refusal.TheVariants as refusal
+use Rattle.passes.specs.told.TaskTold.{sizes_at}
 use Rattle.passes.specs.Answered.{text_limit, sheet_written, written, answered}
 use Rattle.passes.specs.told.AreaTold.{strings, InLimits, start, last_of, MeasuredAt, WrittenOut}
 use Rattle.passes.specs.declared.Measured.{Measured}
@@ -76,7 +76,7 @@ module _ (kind : ℕ) (bytes d2 ends notes : List ℕ) (at : ℕ) (tables : Tabl
   by-table = by-body ∙ body-after kind named o.is.body allowance (o.is.reads allowance)
 
   -- the walk of a body from the start
-  pub from_start : InLimits bytes d2 ends → {s : State} → s ≡ start → (r : Body) (S S' T T' : List ℕ)
+  pub from_start : InLimits bytes d2 ends → {s : State} → s ≡ start → (r : Result Sections Stop) (S S' T T' : List ℕ)
       → BodyWalked kind (lent bytes d2 ends notes tables) (part_from at (length bytes) bytes) at s r S S' T T'
       → BodyTold kind (payload kind (strings d2 ends) bytes) start r S S' T T'
   from_start k e r S S' T T' t =
@@ -121,19 +121,16 @@ module _ (kind : ℕ) (bytes d2 ends notes : List ℕ) (x : Measured) (SS TT : L
     by_rows : answered S T kind bytes_read ≡ written S T rows (allowance - m.left)
     by_rows = ap (answered S T kind) m.reads
 
-    text-over : min (length T) text_limit < end.text → {r : Outcome} → r ≡ record { number = 11; detail = 0; sheet = 0; text = 0; types = 0 }
-        → answered S T kind bytes_read ≡ told r S T
-    unfolding written number_of detail_of
-    text-over h e =
+    text-over : min (length T) text_limit < end.text → answered S T kind bytes_read ≡ told (Err refusal.TextTooLong) S T
+    unfolding written
+    text-over h =
         let l : min (length T) text_limit < length (texts rows) = subst (λ (n : ℕ). min (length T) text_limit < n) length-is h in
-        by_rows ∙ rw (lt-ltb (min (length T) text_limit) (length (texts rows)) l) (refused_as e text_too_long 0 refl refl S T)
+        by_rows ∙ rw (lt-ltb (min (length T) text_limit) (length (texts rows)) l)
 
-    pub text-past-limit : text_limit < end.text → {r : Outcome} → r ≡ record { number = 11; detail = 0; sheet = 0; text = 0; types = 0 }
-        → answered S T kind bytes_read ≡ told r S T
+    pub text-past-limit : text_limit < end.text → answered S T kind bytes_read ≡ told (Err refusal.TextTooLong) S T
     text-past-limit h = text-over (omega arith)
 
-    pub text-past-area : length T < end.text → {r : Outcome} → r ≡ record { number = 11; detail = 0; sheet = 0; text = 0; types = 0 }
-        → answered S T kind bytes_read ≡ told r S T
+    pub text-past-area : length T < end.text → answered S T kind bytes_read ≡ told (Err refusal.TextTooLong) S T
     text-past-area h = text-over (omega arith)
 
     module _ (h : end.text ≤ text_limit) (i : end.text ≤ length T) where
@@ -143,15 +140,14 @@ module _ (kind : ℕ) (bytes d2 ends notes : List ℕ) (x : Measured) (SS TT : L
           let l : length (texts rows) ≤ min (length T) text_limit = omega (arith, length-is) in
           by_rows ∙ rw (le-ltb (min (length T) text_limit) (length (texts rows)) l)
 
-      pub sheet-over : length S < end.sheet → {r : Outcome} → r ≡ record { number = 12; detail = 0; sheet = 0; text = 0; types = 0 }
-          → answered S T kind bytes_read ≡ told r S T
-      unfolding sheet_written number_of detail_of
-      sheet-over j e =
+      pub sheet-over : length S < end.sheet → answered S T kind bytes_read ≡ told (Err refusal.SheetTooLong) S T
+      unfolding sheet_written
+      sheet-over j =
           let l : length S < length (sheet_from 0 rows) = omega (arith, size_is) in
-          by-sheet ∙ rw (lt-ltb (length S) (length (sheet_from 0 rows)) l) (refused_as e sheet_too_long 0 refl refl S T)
+          by-sheet ∙ rw (lt-ltb (length S) (length (sheet_from 0 rows)) l)
 
       pub all-written : end.sheet ≤ length S → {S' T' : List ℕ} → WrittenOut kind bytes_read S S' T T'
-          → answered S T kind bytes_read ≡ told (record { number = 0; detail = 0; sheet = end.sheet; text = end.text; types = 2048 - end.types }) S' T'
+          → answered S T kind bytes_read ≡ told (Ok (sizes_at end)) S' T'
       unfolding sheet_written
       all-written j {S'} {T'} w =
           let l : length (sheet_from 0 rows) ≤ length S = omega (arith, size_is) in
@@ -183,8 +179,8 @@ module _ (kind : ℕ) (bytes d2 ends notes : List ℕ) (x : Measured) (SS TT : L
             rw (f, e) (take-append_seam vs (drop (length vs) before))
 
     -- walked again
-    pub walked-out : (r : Body) → BodyTold kind bytes_read start r S S' T T' → WrittenOut kind bytes_read S S' T T'
-    walked-out (body.Done b) (a, n, f, p) d left e =
+    pub walked-out : (r : Result Sections Stop) → BodyTold kind bytes_read start r S S' T T' → WrittenOut kind bytes_read S S' T T'
+    walked-out (Ok b) (a, n, f, p) d left e =
         let c = same_read a n f in
         let c' = same_read d left e in
         let p' : PutRows rows n start b.aliases.state S S' T T' =
@@ -192,7 +188,7 @@ module _ (kind : ℕ) (bytes d2 ends notes : List ℕ) (x : Measured) (SS TT : L
         subst (λ (y : Declarations). (S' ≡ sheet_from 0 (declaration_rows kind y) ++ drop (length (sheet_from 0 (declaration_rows kind y))) S)
         × (T' ≡ texts (declaration_rows kind y) ++ drop (length (texts (declaration_rows kind y))) T)) c'
         (put_front p' (omega (arith, size_is)) (omega (arith, length-is)))
-    walked-out (body.Refused y) f d left e =
+    walked-out (Err y) f d left e =
         let g : ◌≡◌ {A = Res (Declarations × ℕ)} (stop_refused y) (ok (d, left)) = sym f ∙ e in
         let z : ◌≡◌ {A = ℕ} 0 1 = cc in
         absurd (omega arith)

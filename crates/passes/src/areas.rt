@@ -6,9 +6,8 @@ ghost use Rattle.declarations.specs.Payload.{payload};
 ghost use Rattle.passes.specs.Answered.{answered};
 ghost use Rattle.passes.specs.told.AreaTold.{strings, InLimits, last_of, MeasuredAt, WrittenOut};
 
-use crate::{Measured, walk};
-use inputs::outcome::{Outcome, refused};
-use schema::ALLOWANCE;
+use crate::{Measured, sizes_at, walk};
+use inputs::outcome::{Refusal, Sizes};
 use sheet::put_all;
 
 // No present ref is FFFFFFFF hex.
@@ -30,22 +29,24 @@ fn write_out(
     requires { InLimits bytes.now d2.now ends.now × ((last_of measured).sheet ≤ length sheet.old) × ((last_of measured).text ≤ length text.old) × MeasuredAt kind bytes.now d2.now ends.now notes.now measured scratch_sheet.now scratch_text.now }
     ensures { WrittenOut kind (payload kind (strings d2.now ends.now) bytes.now) sheet.old sheet.new text.old text.new }
 {
-    let sections = measured.sections;
-    let aliases = sections.aliases;
-    let end = aliases.state;
+    let end = measured.sections.aliases.state;
     let size = end.sheet;
     let length = end.text;
-    if size <= scratch_sheet.len() {
-        if length <= scratch_text.len() {
-            put_all(sheet, 0, &scratch_sheet[..size]);
-            put_all(text, 0, &scratch_text[..length]);
-            return;
-        }
+    if size <= scratch_sheet.len() && length <= scratch_text.len() {
+        put_all(sheet, 0, &scratch_sheet[..size]);
+        put_all(text, 0, &scratch_text[..length]);
+        return;
     }
-    let at = measured.at;
-    let tables = measured.tables;
-    walk(
-        kind, at, tables, &*bytes, &*d2, &*ends, &*notes, sheet, text,
+    let _ = walk(
+        kind,
+        measured.at,
+        measured.tables,
+        bytes,
+        d2,
+        ends,
+        notes,
+        sheet,
+        text,
     );
 }
 
@@ -61,42 +62,30 @@ pub(crate) fn write_in(
     scratch_text: &[u8],
     sheet: &mut [u8],
     text: &mut [u8],
-) -> Outcome
+) -> Result<Sizes, Refusal>
     requires { InLimits bytes.now d2.now ends.now × MeasuredAt kind bytes.now d2.now ends.now notes.now measured scratch_sheet.now scratch_text.now }
     ensures { answered sheet.old text.old kind (payload kind (strings d2.now ends.now) bytes.now) ≡ told result sheet.new text.new }
 {
-    let sections = measured.sections;
-    let aliases = sections.aliases;
-    let end = aliases.state;
+    let end = measured.sections.aliases.state;
     let size = end.sheet;
     let length = end.text;
-    if TEXT_LIMIT < length {
-        return refused(11, 0);
-    }
-    if text.len() < length {
-        return refused(11, 0);
+    if TEXT_LIMIT < length || text.len() < length {
+        return Err(Refusal::TextTooLong);
     }
     if sheet.len() < size {
-        return refused(12, 0);
+        return Err(Refusal::SheetTooLong);
     }
     write_out(
         kind,
         measured,
-        &*bytes,
-        &*d2,
-        &*ends,
-        &*notes,
-        &*scratch_sheet,
-        &*scratch_text,
+        bytes,
+        d2,
+        ends,
+        notes,
+        scratch_sheet,
+        scratch_text,
         sheet,
         text,
     );
-    let entered = ALLOWANCE - end.types;
-    Outcome {
-        number: 0,
-        detail: 0,
-        sheet: size,
-        text: length,
-        types: entered,
-    }
+    Ok(sizes_at(end))
 }

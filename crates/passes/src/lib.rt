@@ -10,15 +10,19 @@ ghost use Rattle.declarations.specs.told.PayloadTold.{LentAt, LentRoom};
 ghost use Rattle.declarations.specs.told.BodyTold.{BodyTold};
 ghost use Rattle.passes.specs.told.AreaTold as definition;
 ghost use Rattle.passes.specs.told.AreaTold.{strings, InLimits, last_of};
-ghost use Rattle.passes.specs.told.TaskTold.{no_lists};
-ghost use Rattle.passes.specs.told.PassTold.{FirstTold, PassedTold, FrameRoom, reading_of};
+ghost use Rattle.passes.specs.told.TaskTold.{no_lists, sizes_at};
+ghost use Rattle.inputs.specs.declared.outcome.Refusal.TheVariants as refusal;
+ghost use Rattle.passes.specs.declared.PassError.TheVariants.{Refused};
+ghost use Rattle.passes.specs.told.PassTold.{of_index, of_decode, FirstTold, PassedTold, FrameRoom, reading_of};
 
 use areas::write_in;
-use declarations::body::{Body, Section, Sections, body_in};
-use declarations::payload::{Opened, open_lent};
-use encoding::{Decoded, decode};
-use inputs::outcome::{Outcome, refused, stop_refusal};
-use schema::{ALLOWANCE, Stop, Tables};
+use declarations::body::{Sections, body_in};
+use declarations::payload::open_lent;
+use encoding::{DecodeError, decode};
+use inputs::Fault;
+use inputs::outcome::{Refusal, Sizes};
+use names::records::IndexError;
+use schema::{ALLOWANCE, Section, Stop, Tables};
 use sheet::State;
 
 mod areas; // areas.rt: what was measured, written into both areas
@@ -31,12 +35,51 @@ pub(crate) struct Measured {
     pub sections: Sections,
 }
 
-// The first pass, or why it stops.
+// Why there is no reply: d1 is refused, or the decoded bytes or their notes have no room in the frame.
 #[derive(Clone, Copy)]
-enum FirstPass {
-    Done { measured: Measured },
-    Refused { stop: Stop },
+pub enum PassError {
     NoRoom,
+    Refused(Refusal),
+}
+
+impl From<Refusal> for PassError {
+    ghost from_gives = { λ refusal e. e ≡ Refused refusal };
+
+    fn from(refusal: Refusal) -> PassError {
+        PassError::Refused(refusal)
+    }
+}
+
+impl From<Stop> for PassError {
+    ghost from_gives = { λ stop e. e ≡ Refused (refusal.Stop stop) };
+
+    fn from(stop: Stop) -> PassError {
+        PassError::Refused(Refusal::Stop(stop))
+    }
+}
+
+impl From<IndexError> for PassError {
+    ghost from_gives = { λ error e. e ≡ of_index error };
+
+    fn from(error: IndexError) -> PassError {
+        match error {
+            IndexError::NoRoom => PassError::NoRoom,
+            IndexError::Wire(error) => PassError::from(Stop::Wire(error)),
+        }
+    }
+}
+
+impl From<DecodeError> for PassError {
+    ghost from_gives = { λ error e. e ≡ of_decode error };
+
+    fn from(error: DecodeError) -> PassError {
+        match error {
+            DecodeError::TooLong => PassError::Refused(Refusal::Fault(Fault::D1TooLong)),
+            DecodeError::Empty => PassError::Refused(Refusal::EmptyPayload),
+            DecodeError::NotAByte { unit } => PassError::Refused(Refusal::NotAByte { unit }),
+            DecodeError::NoRoom => PassError::NoRoom,
+        }
+    }
 }
 
 // What is to be done with an input: its sheet and text written, or the room that they take told. It goes by value through the frames; `read_in`
@@ -53,18 +96,11 @@ pub struct Asked {
     pub kind: u8,
 }
 
-// Number, detail, both lengths and the types; and, where a room is told, how far both areas reach after each list and how many it has.
+// Both lengths and the types; and, where a room is told, how far both areas reach after each list and how many it has.
 #[derive(Clone, Copy)]
 pub struct Reply {
-    pub outcome: Outcome,
+    pub sizes: Sizes,
     pub sections: Sections,
-}
-
-// A reply, or no room in the frame for the decoded bytes or their notes.
-#[derive(Clone, Copy)]
-pub enum Passed {
-    Answered { reply: Reply },
-    NoRoom,
 }
 
 // Before anything is written.
@@ -79,8 +115,8 @@ pub fn start() -> State
 }
 
 // A reply that tells of no list.
-pub fn without_lists(outcome: Outcome) -> Reply
-    ensures { (result.outcome ≡ outcome) × (result.sections ≡ no_lists) }
+pub fn without_lists(sizes: Sizes) -> Reply
+    ensures { (result.sizes ≡ sizes) × (result.sections ≡ no_lists) }
 {
     let begin = start();
     let none = Section {
@@ -88,7 +124,7 @@ pub fn without_lists(outcome: Outcome) -> Reply
         count: 0,
     };
     Reply {
-        outcome,
+        sizes,
         sections: Sections {
             head: begin,
             constructors: none,
@@ -99,23 +135,26 @@ pub fn without_lists(outcome: Outcome) -> Reply
     }
 }
 
+// What is taken where both areas are written so far.
+pub(crate) fn sizes_at(end: State) -> Sizes
+    requires { end.types ≤ allowance }
+    ensures { result ≡ sizes_at end }
+{
+    Sizes {
+        sheet: end.sheet,
+        text: end.text,
+        types: ALLOWANCE - end.types,
+    }
+}
+
 // What was measured, told: both lengths at their true size, also where no area would hold them.
 fn told_room(measured: Measured) -> Reply
     requires { (last_of measured).types ≤ allowance }
-    ensures { (result.outcome ≡ record { number = 0; detail = 0; sheet = (last_of measured).sheet; text = (last_of measured).text; types = allowance - (last_of measured).types }) × (result.sections ≡ measured.sections) }
+    ensures { (result.sizes ≡ sizes_at (last_of measured)) × (result.sections ≡ measured.sections) }
 {
     let sections = measured.sections;
-    let aliases = sections.aliases;
-    let end = aliases.state;
-    let entered = ALLOWANCE - end.types;
     Reply {
-        outcome: Outcome {
-            number: 0,
-            detail: 0,
-            sheet: end.sheet,
-            text: end.text,
-            types: entered,
-        },
+        sizes: sizes_at(sections.aliases.state),
         sections,
     }
 }
@@ -131,7 +170,7 @@ fn walk(
     notes: &[u64],
     sheet: &mut [u8],
     text: &mut [u8],
-) -> Body
+) -> Result<Sections, Stop>
     requires { InLimits bytes.now d2.now ends.now × LentAt bytes.now d2.now ends.now notes.now at tables }
     ensures { BodyTold kind (payload kind (strings d2.now ends.now) bytes.now) definition.start result sheet.old sheet.new text.old text.new }
 {
@@ -159,40 +198,27 @@ fn measure(
     notes: &mut [u64],
     scratch_sheet: &mut [u8],
     scratch_text: &mut [u8],
-) -> FirstPass
+) -> Result<Measured, PassError>
     requires { InLimits bytes.now d2.now ends.now }
     ensures { FirstTold kind bytes.now d2.now ends.now notes.new result scratch_sheet.new scratch_text.new }
 {
-    let opened = open_lent(&*bytes, &*d2, &*ends, notes);
-    let Opened::Body { at, tables } = opened else {
-        let Opened::Refused { error } = opened else {
-            return FirstPass::NoRoom;
-        };
-        return FirstPass::Refused {
-            stop: Stop::Wire { error },
-        };
-    };
-    let body = walk(
+    let opened = open_lent(bytes, d2, ends, notes)?;
+    let sections = walk(
         kind,
-        at,
-        tables,
-        &*bytes,
-        &*d2,
-        &*ends,
+        opened.at,
+        opened.tables,
+        bytes,
+        d2,
+        ends,
         notes,
         scratch_sheet,
         scratch_text,
-    );
-    let Body::Done { sections } = body else {
-        return FirstPass::Refused { stop: body.stop() };
-    };
-    FirstPass::Done {
-        measured: Measured {
-            at,
-            tables,
-            sections,
-        },
-    }
+    )?;
+    Ok(Measured {
+        at: opened.at,
+        tables: opened.tables,
+        sections,
+    })
 }
 
 // The decoded bytes of a kind that carries declarations: the first pass, then what the task asks for.
@@ -206,46 +232,36 @@ fn read_in(
     scratch_text: &mut [u8],
     sheet: &mut [u8],
     text: &mut [u8],
-) -> Passed
+) -> Result<Reply, PassError>
     requires { InLimits bytes.now d2.now ends.now }
     ensures { PassedTold asked (payload asked.kind (strings d2.now ends.now) bytes.now) (LentRoom bytes.now notes.new) result sheet.old sheet.new text.old text.new }
 {
-    let first = measure(
+    let measured = measure(
         asked.kind,
-        &*bytes,
-        &*d2,
-        &*ends,
+        bytes,
+        d2,
+        ends,
         notes,
         scratch_sheet,
         scratch_text,
-    );
-    let FirstPass::Done { measured } = first else {
-        let FirstPass::Refused { stop } = first else {
-            return Passed::NoRoom;
-        };
-        return Passed::Answered {
-            reply: without_lists(stop_refusal(stop)),
-        };
-    };
-    let task = asked.task;
-    match task {
-        Task::Read => Passed::Answered {
-            reply: without_lists(write_in(
+    )?;
+    match asked.task {
+        Task::Read => {
+            let sizes = write_in(
                 asked.kind,
                 measured,
-                &*bytes,
-                &*d2,
-                &*ends,
+                bytes,
+                d2,
+                ends,
                 notes,
                 scratch_sheet,
                 scratch_text,
                 sheet,
                 text,
-            )),
-        },
-        Task::Room => Passed::Answered {
-            reply: told_room(measured),
-        },
+            )?;
+            Ok(without_lists(sizes))
+        }
+        Task::Room => Ok(told_room(measured)),
     }
 }
 
@@ -262,32 +278,20 @@ pub fn decode_in(
     scratch_text: &mut [u8],
     sheet: &mut [u8],
     text: &mut [u8],
-) -> Passed
+) -> Result<Reply, PassError>
     requires { InLimits d1.now d2.now ends.now }
     ensures { PassedTold asked (reading_of asked.kind d1.now d2.now ends.now) (FrameRoom d1.now bytes.new notes.new) result sheet.old sheet.new text.old text.new }
 {
-    let decoded = decode(&*d1, bytes);
-    match decoded {
-        Decoded::Bytes { length } => read_in(
-            asked,
-            &bytes[..length],
-            &*d2,
-            &*ends,
-            notes,
-            scratch_sheet,
-            scratch_text,
-            sheet,
-            text,
-        ),
-        Decoded::TooLong => Passed::Answered {
-            reply: without_lists(refused(1, 0)),
-        },
-        Decoded::Empty => Passed::Answered {
-            reply: without_lists(refused(5, 0)),
-        },
-        Decoded::NotAByte { unit } => Passed::Answered {
-            reply: without_lists(refused(6, unit as u64)),
-        },
-        Decoded::NoRoom => Passed::NoRoom,
-    }
+    let length = decode(d1, bytes)?;
+    read_in(
+        asked,
+        &bytes[..length],
+        d2,
+        ends,
+        notes,
+        scratch_sheet,
+        scratch_text,
+        sheet,
+        text,
+    )
 }

@@ -8,13 +8,12 @@ use Prim.Native.Nat.{ℕ, ◌+◌, ◌-◌, ◌≤◌, ◌<◌}
 use native.Mathlib.Omega.{arith}
 use lib.Dec.{eqb}
 use lib.ListN.{length, take, drop, length-drop, drop_of_length-le}
-use Rattle.std.specs.Prelude.{if◌then◌else◌}
+use Rattle.std.specs.Prelude.{if◌then◌else◌, Some, None}
 use Rattle.foundation.specs.Choices.{map_option}
 use Rattle.foundation.specs.Texts.{Text}
 use Rattle.characters.specs.Characters.{is_scalar, from_utf8_after, from_utf8}
 use Rattle.characters.specs.told.Places.{part_from}
-use Rattle.characters.specs.told.CharactersTold.{utf8_at}
-use Rattle.characters.specs.declared.Character.TheVariants.{Read, End}
+use Rattle.characters.specs.told.CharactersTold.{character_read, utf8_at}
 use Rattle.characters.proofs.CharacterLaws.{utf8-none, utf8-end, utf8-inside, utf8-next}
 use Rattle.characters.proofs.SplitLaws.{Boundary, boundary_start, boundary-next, boundary-text}
 use Rattle.characters.proofs.PartLaws.{rest-is}
@@ -24,8 +23,7 @@ use Rattle.names.proofs.StepLaws.{operated-is}
 use Rattle.record_names.specs.told.Ends.{LastTold, EndsTold}
 use Rattle.record_names.specs.told.Steps.{with_steps, turned_steps}
 use Rattle.record_names.specs.declared.ends.Last.{Last}
-use Rattle.record_names.specs.declared.ends.Last.TheVariants as last
-use Rattle.record_names.specs.declared.Extent.TheVariants as extent
+use Rattle.std.specs.declared.option.Option as rust
 
 -- A text between two characters.
 but_last : (m : Text) (l : ℕ) → all_but_last (m ++ (l ∷ [])) ≡ m
@@ -87,23 +85,20 @@ module _ (s : List ℕ) where
   begins-start = record { inside = λ h. h; boundary = boundary_start s }
 
   module _ (at : ℕ) (i : Begins at) where
-    pub begins-end : length s ≤ at → s ≡ []
-    begins-end h = go s (λ l. omega (arith, i.inside l))
+    pub begins-end : utf8_at at (drop at s) ≡ None → s ≡ []
+    begins-end e =
+        let z : length (drop at s) ≡ 0 = ap length (utf8-none s at e) in
+        go s (λ l. omega (arith, i.inside l, length-drop at s))
       where
         go : (l : List ℕ) → (0 < length l → ⊥) → l ≡ []
         go [] f = refl
         go (b ∷ l) f = absurd (f (omega arith))
 
-    pub begins-never : at < length s → utf8_at at (drop at s) ≡ End → s ≡ []
-    begins-never h e =
-        let z : length (drop at s) ≡ 0 = ap length (utf8-none s at e) in
-        absurd (omega (arith, length-drop at s))
-
-    module _ {code next : ℕ} (e : utf8_at at (drop at s) ≡ Read code next) where
+    module _ {code next : ℕ} (e : utf8_at at (drop at s) ≡ character_read code next) where
       pub begins-next : next < length s → Begins next
       begins-next h = record { inside = λ l. h; boundary = boundary-next s i.boundary e }
 
-      pub last-is : length s ≤ next → LastTold s (last.Character at code)
+      pub last-is : length s ≤ next → LastTold s (Some record { place = at; code = code })
       unfolding from_utf8_after
       last-is h =
           let z : drop next s ≡ [] = drop_of_length-le s h in (
@@ -113,46 +108,46 @@ module _ (s : List ℕ) where
 
 -- Bytes by their first character, and by the last of those after it.
 module _ (s : List ℕ) where
-  pub ends-none : utf8_at 0 (drop 0 s) ≡ End → EndsTold s extent.Nothing
+  pub ends-none : utf8_at 0 (drop 0 s) ≡ None → EndsTold s None
   unfolding without_ends
   ends-none e = rw (utf8-end s 0 e)
 
-  module _ {code next : ℕ} (e : utf8_at 0 (drop 0 s) ≡ Read code next) where
+  module _ {code next : ℕ} (e : utf8_at 0 (drop 0 s) ≡ character_read code next) where
     pub next-inside : next ≤ length s
     next-inside = (utf8-inside s 0 e).1
 
     pub first-text : from_utf8 s ≡ code ∷ from_utf8 (drop next s)
     first-text = utf8-next s 0 e
 
-    module _ (r : Last) (t : LastTold (part_from next (length s) s) r) where
+    module _ (r : rust.Option Last) (t : LastTold (part_from next (length s) s) r) where
       rest : LastTold (drop next s) r
       rest = subst (λ (bs : List ℕ). LastTold bs r) (rest-is s next) t
 
-      pub single-text : r ≡ last.Nothing → from_utf8 s ≡ code ∷ []
+      pub single-text : r ≡ None → from_utf8 s ≡ code ∷ []
       unfolding from_utf8_after
       single-text g =
           let z : drop next s ≡ [] = subst (LastTold (drop next s)) g rest in
           first-text ∙ ap (λ (bs : List ℕ). code ∷ from_utf8 bs) z
 
-      pub ends-single : r ≡ last.Nothing → EndsTold s extent.Nothing
+      pub ends-single : r ≡ None → EndsTold s None
       unfolding without_ends
       ends-single g = rw (single-text g)
 
-      module _ {place l : ℕ} (g : r ≡ last.Character place l) where
-        ends : LastTold (drop next s) (last.Character place l)
+      module _ {last : Last} (g : r ≡ Some last) where
+        ends : LastTold (drop next s) (Some last)
         ends = subst (LastTold (drop next s)) g rest
 
-        pub whole-text : from_utf8 s ≡ code ∷ (from_utf8 (take place (drop next s)) ++ (l ∷ []))
+        pub whole-text : from_utf8 s ≡ code ∷ (from_utf8 (take last.place (drop next s)) ++ (last.code ∷ []))
         whole-text = first-text ∙ ap (λ (u : Text). code ∷ u) ends.0
 
-        pub place_inside : next + place ≤ length s
+        pub place_inside : next + last.place ≤ length s
         place_inside = omega (arith, ends.1, length-drop next s, next-inside)
 
-        pub ends-between : EndsTold s (extent.Part next (next + place))
+        pub ends-between : EndsTold s (Some record { start = next; end = next + last.place })
         ends-between =
-            let z : next + place - next ≡ place = omega arith in (
+            let z : next + last.place - next ≡ last.place = omega arith in (
               ap without_ends whole-text
-                  ∙ between code (from_utf8 (take place (drop next s))) l
+                  ∙ between code (from_utf8 (take last.place (drop next s))) last.code
                   ∙ ap (λ (n : ℕ). from_utf8 (take n (drop next s))) (sym z),
               omega arith,
               place_inside,

@@ -1,74 +1,54 @@
 -- The name that a record builds, step by step.
 -- Assumes nothing.
 use mathlib.Core.Path.{◌≡◌, refl, ap, sym, ◌∙◌, subst}
-use mathlib.Core.Bool.{Bool, true, false, ◌&&◌, ◌||◌}
+use mathlib.Core.Logic.{inl, inr}
+use mathlib.Core.Bool.{Bool, true, false, ◌&&◌}
 use mathlib.Core.List.{List, [], ◌∷◌}
 use mathlib.Core.Option.{Option, none, some}
-use Prim.Native.Nat.{ℕ, ◌+◌, ◌-◌, ◌^◌, ◌≤◌, ◌<◌}
+use Prim.Native.Nat.{ℕ, ◌+◌, ◌-◌, ◌≤◌, ◌<◌}
 use native.Mathlib.Omega.{arith}
-use borrow.Author.Tests.{eq-eqb, ne_eqb, lt-ltb, le-ltb, le-leb, eqb-true, ltb-true, leb-true}
+use borrow.Author.Tests.{lt-ltb, le-ltb, eqb-true, ltb-true, leb-true}
 use lib.Dec.{eqb, leb, ltb}
 use lib.ListN.{length, drop, length-drop}
-use Rattle.std.specs.Prelude.{if◌then◌else◌}
-use Rattle.foundation.specs.Choices.{if_some, is_some, map_option, IfSome}
+use Rattle.std.specs.Prelude.{if◌then◌else◌, MatchOption, Some, None}
+use Rattle.foundation.specs.Choices.{if_some, map_option, IfSome}
 use Rattle.foundation.specs.Texts.{Text}
-use Rattle.foundation.proofs.ChoiceLaws.{and_left, and_right}
-use Rattle.messages.specs.told.Asked.{piece_told, PieceInside, index_told}
-use Rattle.wire.specs.declared.Piece.{Piece}
-use Rattle.wire.specs.declared.Piece.TheVariants as piece
-use Rattle.messages.specs.declared.Indexed.{Indexed}
-use Rattle.messages.specs.declared.Indexed.TheVariants as indexed
+use Rattle.foundation.proofs.ChoiceLaws.{and_right}
+use Rattle.messages.specs.told.Asked.{PieceInside}
 use Rattle.messages.specs.declared.repeated.Two.{Two}
 use Rattle.messages.specs.declared.repeated.Two.TheVariants.{Neither, One, Both}
 use Rattle.characters.specs.Characters.{is_scalar, from_utf8}
 use Rattle.characters.specs.told.Places.{part_from, place_of}
 use Rattle.characters.specs.told.CharactersTold.{place_told}
-use Rattle.characters.proofs.PartLaws.{part-part, part-short, rest-is}
+use Rattle.characters.proofs.PartLaws.{part-part, rest-is}
 use Rattle.characters.specs.Splits.{substring_of}
-use Rattle.characters.specs.declared.Place.{Place}
-use Rattle.characters.specs.declared.Place.TheVariants as place
-use Rattle.characters.proofs.TestLaws.{under}
+use Rattle.characters.proofs.TestLaws.{under, above}
+use Rattle.characters.proofs.TestLaws.{within as between-is}
 use Rattle.characters.proofs.SplitLaws.{place-within, substring-source}
 use Rattle.names.specs.Records as definition
 use Rattle.names.specs.Records.{base_text, text_of, predefined_text, substituted, replace_of, dotted, dollars_dotted, without_ends, operated, stepped}
 use Rattle.names.specs.told.Name.{predefined_list, turned, dropped, source_text, name_text, plain, absent_name}
 use Rattle.names.specs.told.RecordTold.{both_numbers, record_told}
 use Rattle.names.specs.told.Stream.{listed_text, base_of}
-use Rattle.record_names.specs.told.Steps.{SubstringTold, PieceFits, text_in, OfBytes, BaseTold, StepTold, LeftTold, known, with_steps, turned_steps}
+use Rattle.record_names.specs.told.Steps.{within, BytesName, SubstringTold, base_in, text_in, OfBytes, BaseTold, StepTold, LeftTold, known, with_steps, turned_steps}
 use Rattle.names.specs.declared.name.Name.{Name}
 use Rattle.names.specs.declared.records.Record.{Record}
-use Rattle.names.specs.declared.name.PredefinedPart.{PredefinedPart}
-use Rattle.names.specs.declared.name.PredefinedPart.TheVariants as listed
-use Rattle.record_names.specs.declared.Extent.TheVariants as extent
 use Rattle.record_names.specs.told.Ends.{EndsTold}
 use Rattle.record_names.proofs.EndsLaws.{steps_dropped}
-use Rattle.record_names.specs.declared.steps.Span.{Span}
+use Rattle.foundation.specs.declared.Span.{Span}
+use Rattle.std.specs.declared.option.Option as rust
+use Rattle.std.specs.Option as options
+use Rattle.std.specs.Char.{InScalarRange, OutOfScalarRange}
 use Rattle.record_names.specs.declared.steps.Base.{Base}
-use Rattle.record_names.specs.declared.steps.Base.TheVariants as base
 use Rattle.names.proofs.NameLaws.{source-bytes}
 
 -- Tests of numbers.
-module _ (c : ℕ) where
-  pub scalar-low : c < 0xd800 → true ≡ is_scalar c
-  unfolding is_scalar
-  scalar-low h = rw (lt-ltb c 0xd800 h)
-
-  pub scalar-surrogate : 0xd800 ≤ c → c < 0xe000 → false ≡ is_scalar c
-  unfolding is_scalar
-  scalar-surrogate h l = rw (le-ltb c 0xd800 h, under 0xe000 0x10ffff c l)
-
-  pub scalar-high : 0xe000 ≤ c → leb c 0x10ffff ≡ is_scalar c
-  unfolding is_scalar
-  scalar-high h = rw (le-ltb c 0xd800 (omega arith), le-leb 0xe000 c h)
-
-pub known-one : (n : ℕ) → n ≡ 1 → 1 ≡ known n
-known-one n h = rw (eq-eqb n 1 h)
-
-pub known_two : (n : ℕ) → n ≡ 2 → 2 ≡ known n
-known_two n h = rw (ne_eqb n 1 (λ z. omega arith), eq-eqb n 2 h)
-
-pub known_none : (n : ℕ) → (n ≡ 1 → ⊥) → (n ≡ 2 → ⊥) → 0 ≡ known n
-known_none n h g = rw (ne_eqb n 1 h, ne_eqb n 2 g)
+pub scalar-is : (r : rust.Option ℕ) (c : ℕ) → MatchOption r (OutOfScalarRange c) (λ x. InScalarRange c) → options.is_some r ≡ is_scalar c
+unfolding is_scalar
+scalar-is None c (inl h) = rw (le-ltb c 0xd800 h.0, under 0xe000 0x10ffff c (omega (arith, h.1)))
+scalar-is None c (inr h) = rw (le-ltb c 0xd800 (omega arith), above 0xe000 0x10ffff c (omega arith))
+scalar-is (Some x) c (inl h) = rw (lt-ltb c 0xd800 h)
+scalar-is (Some x) c (inr h) = rw (le-ltb c 0xd800 (omega (arith, h.0)), between-is 0xe000 0x10ffff c h.0 h.1)
 
 pub known-low : (n : ℕ) {k : ℕ} → k ≡ known n → k < 4
 known-low n {k} e = rw e (go (eqb n 1) (eqb n 2))
@@ -78,7 +58,7 @@ known-low n {k} e = rw e (go (eqb n 1) (eqb n 2))
     go false true = omega arith
     go false false = omega arith
 
-scalar_least : (c : ℕ) → is_scalar c ≡ true → c < 2097152
+pub scalar_least : (c : ℕ) → is_scalar c ≡ true → c < 2097152
 unfolding is_scalar
 scalar_least c h = go (ltb c 0xd800) refl
   where
@@ -86,34 +66,29 @@ scalar_least c h = go (ltb c 0xd800) refl
     go true e = omega (arith, ltb-true c 0xd800 e)
     go false e = omega (arith, leb-true c 0x10ffff (and_right (leb 0xe000 c) (leb c 0x10ffff) (rw e at h)))
 
-pub scalars_low : (a b : ℕ) {t : Bool} → t ≡ is_scalar a && is_scalar b → t ≡ true → (a < 2097152) × (b < 2097152)
-scalars_low a b e h =
-    let g = sym e ∙ h in
-    (scalar_least a (and_left (is_scalar a) (is_scalar b) g), scalar_least b (and_right (is_scalar a) (is_scalar b) g))
-
 -- The part that a substring is.
 module _ (s : List ℕ) (first last : ℕ) where
-  pub sub-backward : last < first → SubstringTold s first last extent.Nothing
+  pub sub-backward : last < first → SubstringTold s first last None
   sub-backward h = record { is = substring-source first last s ∙ rw (lt-ltb last first h); inside = tt }
 
-  module _ (h : first ≤ last) {p : Place} (e : place_told p ≡ place_of first s) where
-    pub sub-outside : p ≡ place.Nothing → SubstringTold s first last extent.Nothing
+  module _ (h : first ≤ last) {p : rust.Option ℕ} (e : place_told p ≡ place_of first s) where
+    pub sub-outside : p ≡ None → SubstringTold s first last None
     sub-outside g = record { is = substring-source first last s ∙ rw (le-ltb last first h, ← e, g); inside = tt }
 
-    module _ {a : ℕ} (g : p ≡ place.At a) where
+    module _ {a : ℕ} (g : p ≡ Some a) where
       at : place_of first s ≡ some a
       at = sym e ∙ ap place_told g
 
       pub sub-start : a ≤ length s
       sub-start = subst (IfSome λ k. k ≤ length s) at (place-within s first)
 
-      module _ {q : Place} (f : place_told q ≡ place_of (last - first) (part_from a (length s) s)) where
-        pub sub-past : q ≡ place.Nothing → SubstringTold s first last extent.Nothing
+      module _ {q : rust.Option ℕ} (f : place_told q ≡ place_of (last - first) (part_from a (length s) s)) where
+        pub sub-past : q ≡ None → SubstringTold s first last None
         sub-past i =
             let z : place_of (last - first) (drop a s) ≡ none = ap (place_of (last - first)) (sym (rest-is s a)) ∙ sym f ∙ ap place_told i in
             record { is = substring-source first last s ∙ rw (le-ltb last first h, at, z); inside = tt }
 
-        module _ {k : ℕ} (i : q ≡ place.At k) where
+        module _ {k : ℕ} (i : q ≡ Some k) where
           size : place_of (last - first) (drop a s) ≡ some k
           size = ap (place_of (last - first)) (sym (rest-is s a)) ∙ sym f ∙ ap place_told i
 
@@ -122,7 +97,7 @@ module _ (s : List ℕ) (first last : ℕ) where
               let w : k ≤ length (drop a s) = subst (IfSome λ k. k ≤ length (drop a s)) size (place-within (drop a s) (last - first)) in
               omega (arith, length-drop a s, sub-start)
 
-          pub sub_is : SubstringTold s first last (extent.Part a (a + k))
+          pub sub_is : SubstringTold s first last (Some record { start = a; end = a + k })
           sub_is =
               let z : a + k - a ≡ k = omega arith in
               record {
@@ -131,92 +106,55 @@ module _ (s : List ℕ) (first last : ℕ) where
               }
 
 -- What a record's text is made of.
-module _ (from : ℕ) (index : Indexed) {string : Piece} where
-  pub base-string : {a b : ℕ} → string ≡ piece.Body a b → BaseTold from string index (base.Part 1 (from + a) (from + b))
+module _ (from : ℕ) (index : rust.Option ℕ) {string : rust.Option Span} where
+  pub base-string : {p : Span} → string ≡ Some p → BaseTold from string index (Some record { source = 1; part = within from p })
   unfolding source_text
-  base-string {a} {b} g = record {
+  base-string {p} g = record {
     bytes = (omega arith, omega arith);
     is = λ payload d2 end h.
         let i = subst (PieceInside (part_from from end payload)) g h in
-        rw g (ap (λ (l : List ℕ). some (from_utf8 l)) (part-part payload from end a b i.0 i.1));
+        rw g (ap (λ (l : List ℕ). some (from_utf8 l)) (part-part payload from end p.start p.end i.0 i.1));
   }
 
-  module _ (g : string ≡ piece.Nothing) where
-    pub base-nothing : index ≡ indexed.Nothing → BaseTold from string index base.Nothing
-    base-nothing i = record { bytes = tt; is = λ payload d2 end h. rw (g, i) }
-
-    module _ {n : ℕ} (i : index ≡ indexed.At n) (r : PredefinedPart) (e : listed_text r ≡ predefined_text n) where
-      pub base-past : r ≡ listed.Nothing → BaseTold from string index base.Nothing
-      base-past q = record { bytes = tt; is = λ payload d2 end h. rw (g, i, ← e, q) }
-
-      pub base-listed : {a b : ℕ} → r ≡ listed.Part a b → BaseTold from string index (base.Part 2 a b)
+  module _ (g : string ≡ None) where
+    module _ {n : ℕ} (i : index ≡ Some n) (r : rust.Option Span) (e : listed_text r ≡ predefined_text n) where
+      pub base-listed : {p : Span} → r ≡ Some p → BaseTold from string index (Some record { source = 2; part = p })
       unfolding source_text
       base-listed q = record { bytes = (omega arith, omega arith); is = λ payload d2 end h. rw (g, i, ← e, q) }
 
--- A substring of what it is made of.
-module _ (payload s : List ℕ) (source start end first last : ℕ) (p : 0 < source) (q : source ≤ 2)
-    (e : s ≡ part_from start end (base_of source payload predefined_list)) where
-  source_is : (d2 : List ℕ) (a b : ℕ) → source_text payload d2 (plain source a b) ≡ some (from_utf8 (part_from a b (base_of source payload predefined_list)))
-  source_is d2 a b = source-bytes payload d2 (plain source a b) p (omega arith) λ z. omega arith
+-- A substring of what it is made of, and what is between its first and its last character.
+module _ (payload s : List ℕ) (base : Base) (o : OfBytes base) (e : s ≡ part_from base.part.start base.part.end (base_of base.source payload predefined_list)) where
+  -- the base itself, and a part of it
+  abbrev whole : List ℕ
+  whole = base_of base.source payload predefined_list
 
-  pub part-ends : {a b : ℕ} → SubstringTold s first last (extent.Part a b) → (a ≤ b) × (b ≤ end - start)
-  part-ends t =
-      let l = base_of source payload predefined_list in
-      (t.inside.0, omega (arith, t.inside.1, ap length e, part-short l start end))
+  text-at : (d2 : List ℕ) (a b : ℕ) → source_text payload d2 (plain base.source a b) ≡ some (from_utf8 (part_from a b whole))
+  text-at d2 a b = source-bytes payload d2 (plain base.source a b) o.0 (omega (arith, o.1)) λ z. omega (arith, o.1)
 
-  pub part_none : SubstringTold s first last extent.Nothing → StepTold payload (substring_of first last) source start end base.Nothing
-  part_none t = record { bytes = tt; is = λ d2. rw (source_is d2 start end, ← e) t.is }
+  all-of : (d2 : List ℕ) → base_in payload d2 base ≡ some (from_utf8 s)
+  all-of d2 = text-at d2 base.part.start base.part.end ∙ ap (λ (l : List ℕ). some (from_utf8 l)) (sym e)
 
-  pub part-some : {a b : ℕ} → SubstringTold s first last (extent.Part a b) → StepTold payload (substring_of first last) source start end (base.Part source (start + a) (start + b))
-  part-some {a} {b} t =
-      let l = base_of source payload predefined_list in
-      let f : part_from a b s ≡ part_from (start + a) (start + b) l =
-      ap (part_from a b) e ∙ part-part l start end a b t.inside.0 (subst (λ (x : List ℕ). b ≤ length x) e t.inside.1) in
-      record {
-        bytes = (p, q);
-        is = λ d2.
-            rw (source_is d2 start end, ← e)
-            (t.is ∙ ap (λ (x : List ℕ). some (from_utf8 x)) f ∙ sym (source_is d2 (start + a) (start + b)));
-      }
+  abbrev pub inner : Span → Base
+  inner p = record { source = base.source; part = within base.part.start p }
 
--- The part that an operation leaves.
-module _ (payload : List ℕ) (source start end : ℕ) where
-  pub left-whole : (op : ℕ) → (op ≡ 2 → ⊥) → LeftTold payload source start end (dropped op) (record { start = start; end = end })
-  left-whole op f d2 = go (source_text payload d2 (plain source start end))
-    where
-      go : (o : Option Text) → map_option (dropped op) o ≡ o
-      go none = refl
-      go (some t) = rw (ne_eqb op 2 f)
+  inner-is : (p : Span) → p.start ≤ p.end → p.end ≤ length s → (d2 : List ℕ) → base_in payload d2 (inner p) ≡ some (from_utf8 (part_from p.start p.end s))
+  inner-is p h i d2 =
+      let f : part_from p.start p.end s ≡ part_from (base.part.start + p.start) (base.part.start + p.end) whole =
+      ap (part_from p.start p.end) e ∙ part-part whole base.part.start base.part.end p.start p.end h (subst (λ (x : List ℕ). p.end ≤ length x) e i) in
+      text-at d2 (base.part.start + p.start) (base.part.start + p.end) ∙ ap (λ (l : List ℕ). some (from_utf8 l)) (sym f)
 
-  pub left-inner : (op : ℕ) → op ≡ 2 → (r : Span) → LeftTold payload source start end without_ends r → LeftTold payload source start end (dropped op) r
-  left-inner op e r t d2 = go (source_text payload d2 (plain source start end)) ∙ t d2
-    where
-      go : (o : Option Text) → map_option (dropped op) o ≡ map_option without_ends o
-      go none = refl
-      go (some u) = rw (eq-eqb op 2 e)
+  module _ (first last : ℕ) where
+    pub part_none : SubstringTold s first last None → StepTold payload (substring_of first last) base None
+    part_none t = record { bytes = tt; is = λ d2. rw (all-of d2) t.is }
 
-  module _ (s : List ℕ) (p : 0 < source) (q : source ≤ 2) (e : s ≡ part_from start end (base_of source payload predefined_list)) where
-    text-of : (d2 : List ℕ) (a b : ℕ) → source_text payload d2 (plain source a b) ≡ some (from_utf8 (part_from a b (base_of source payload predefined_list)))
-    text-of d2 a b = source-bytes payload d2 (plain source a b) p (omega arith) λ z. omega arith
+    pub part-some : {p : Span} → SubstringTold s first last (Some p) → StepTold payload (substring_of first last) base (Some (inner p))
+    part-some {p} t = record { bytes = o; is = λ d2. rw (all-of d2) (t.is ∙ sym (inner-is p t.inside.0 t.inside.1 d2)) }
 
-    whole_of : (d2 : List ℕ) → source_text payload d2 (plain source start end) ≡ some (from_utf8 s)
-    whole_of d2 = text-of d2 start end ∙ ap (λ (l : List ℕ). some (from_utf8 l)) (sym e)
+  pub inner-same : EndsTold s None → LeftTold payload base without_ends base
+  inner-same t = record { bytes = o; is = λ d2. rw (all-of d2) (ap some t) }
 
-    pub inner-same : EndsTold s extent.Nothing → LeftTold payload source start end without_ends (record { start = start; end = end })
-    inner-same t d2 = ap (map_option without_ends) (whole_of d2) ∙ ap some t ∙ sym (whole_of d2)
-
-    module _ {a b : ℕ} (t : EndsTold s (extent.Part a b)) where
-      pub inner-ends : (a ≤ b) × (b ≤ end - start)
-      inner-ends = (t.1, omega (arith, t.2, ap length e, part-short (base_of source payload predefined_list) start end))
-
-      pub inner_cut : LeftTold payload source start end without_ends (record { start = start + a; end = start + b })
-      inner_cut d2 =
-          let l = base_of source payload predefined_list in
-          let f : part_from a b s ≡ part_from (start + a) (start + b) l =
-          ap (part_from a b) e ∙ part-part l start end a b t.1 (subst (λ (x : List ℕ). b ≤ length x) e t.2) in
-          ap (map_option without_ends) (whole_of d2)
-          ∙ ap some (t.0 ∙ ap from_utf8 f)
-          ∙ sym (text-of d2 (start + a) (start + b))
+  pub inner_cut : {p : Span} → EndsTold s (Some p) → LeftTold payload base without_ends (inner p)
+  inner_cut {p} t = record { bytes = o; is = λ d2. rw (all-of d2) (ap some t.0 ∙ sym (inner-is p t.1 t.2 d2)) }
 
 -- Replacement, and what an operation turns into dots.
 turned-known : (op : ℕ) (t : Text) → turned (known op) t ≡ turned op t
@@ -244,58 +182,48 @@ not-both Neither h = refl
 not-both (One a) h = refl
 not-both (Both a b) h = absurd (h a b refl)
 
-module _ (payload d2 : List ℕ) (source start end op : ℕ) where
+pub absent-made : {n : Name} → n ≡ absent_name → BytesName n
+absent-made e = rw e (omega arith, refl, omega arith, omega arith, omega arith, refl)
+
+module _ (payload d2 : List ℕ) (base : Base) (op : ℕ) where
   abbrev steps_of : ℕ → ℕ → ℕ → Name
-  steps_of from to k = record { source = source; start = start; end = end; from = from; to = to; operation = k; qualified = false; size = 0 }
+  steps_of from to k = record { source = base.source; start = base.part.start; end = base.part.end; from = from; to = to; operation = k; qualified = false; size = 0 }
 
   named-is : (from to : ℕ) {k : ℕ} → k ≡ known op
-      → name_text payload d2 (steps_of from to k) ≡ map_option (λ t. turned op (substituted from to t)) (source_text payload d2 (plain source start end))
+      → name_text payload d2 (steps_of from to k) ≡ map_option (λ t. turned op (substituted from to t)) (base_in payload d2 base)
   unfolding name_text source_text
-  named-is from to e = rw e (go (source_text payload d2 (plain source start end)))
+  named-is from to e = rw e (go (base_in payload d2 base))
     where
       go : (o : Option Text) → map_option (λ t. turned (known op) (substituted from to t)) o ≡ map_option (λ t. turned op (substituted from to t)) o
       go none = refl
       go (some t) = ap some (turned-known op (substituted from to t))
 
   pub steps-none : (two : Two) → both_numbers two ≡ none → {k : ℕ} → k ≡ known op
-      → name_text payload d2 (steps_of 0 0 k) ≡ turned_steps (both_numbers two) op (source_text payload d2 (plain source start end))
-  steps-none two q e = named-is 0 0 e ∙ rw q (go (source_text payload d2 (plain source start end)))
+      → name_text payload d2 (steps_of 0 0 k) ≡ turned_steps (both_numbers two) op (base_in payload d2 base)
+  steps-none two q e = named-is 0 0 e ∙ rw q (go (base_in payload d2 base))
     where
       go : (o : Option Text) → map_option (λ t. turned op (substituted 0 0 t)) o ≡ turned_steps none op o
       go none = refl
       go (some t) = ap (λ (x : Text). some (turned op x)) (same-substituted t)
 
-  module _ {two : Two} {a b : ℕ} (q : two ≡ Both a b) {scalars : Bool} (s : scalars ≡ is_scalar a && is_scalar b) where
-    pub steps-both : scalars ≡ true → {k : ℕ} → k ≡ known op
-        → name_text payload d2 (steps_of a b k) ≡ turned_steps (both_numbers two) op (source_text payload d2 (plain source start end))
+  module _ {two : Two} {a b : ℕ} (q : two ≡ Both a b) where
+    pub steps-both : is_scalar a ≡ true → is_scalar b ≡ true → {k : ℕ} → k ≡ known op
+        → name_text payload d2 (steps_of a b k) ≡ turned_steps (both_numbers two) op (base_in payload d2 base)
     unfolding replace_of
-    steps-both t e = named-is a b e ∙ rw (q, ← s, t) (go (source_text payload d2 (plain source start end)))
+    steps-both s t e = named-is a b e ∙ rw (q, s, t) (go (base_in payload d2 base))
       where
         go : (o : Option Text) → map_option (λ t. turned op (substituted a b t)) o ≡ if_some o none λ t. some (turned op (substituted a b t))
         go none = refl
         go (some t) = refl
 
-    pub steps-absent : scalars ≡ false → {n : Name} → n ≡ absent_name
-        → name_text payload d2 n ≡ turned_steps (both_numbers two) op (source_text payload d2 (plain source start end))
+    pub steps-absent : is_scalar a && is_scalar b ≡ false → {n : Name} → n ≡ absent_name
+        → name_text payload d2 n ≡ turned_steps (both_numbers two) op (base_in payload d2 base)
     unfolding replace_of name_text source_text
-    steps-absent t e = rw (e, q, ← s, t) (go (source_text payload d2 (plain source start end)))
+    steps-absent t e = rw (e, q, t) (go (base_in payload d2 base))
       where
         go : (o : Option Text) → ◌≡◌ {A = Option Text} none (if_some o none λ t. none)
         go none = refl
         go (some t) = refl
-
--- The substring of a record, if it has one.
-pub sub_both : (payload : List ℕ) (source start end : ℕ) {two : Two} {a b : ℕ} (r : Base) → two ≡ Both a b
-    → StepTold payload (substring_of a b) source start end r → StepTold payload (stepped substring_of (both_numbers two)) source start end r
-sub_both payload source start end r e t = rw e t
-
-pub sub_none : (payload : List ℕ) (source start end : ℕ) (two : Two) → both_numbers two ≡ none → 0 < source → source ≤ 2
-    → StepTold payload (stepped substring_of (both_numbers two)) source start end (base.Part source start end)
-sub_none payload source start end two e p q = record { bytes = (p, q); is = λ d2. rw e (go (source_text payload d2 (plain source start end))) }
-  where
-    go : (o : Option Text) → if_some o none some ≡ o
-    go none = refl
-    go (some t) = refl
 
 -- A record's text, from what it is made of.
 text-is : (r : definition.Record) → text_of r ≡ with_steps r.replaced r.operation (if_some (base_text r) none (stepped substring_of r.substring))
@@ -308,10 +236,7 @@ text-is r = go (base_text r)
     go none = refl
     go (some t) = refl
 
-module _ (payload : List ℕ) (from : ℕ) (read : Record) (x : Base) (t : BaseTold from read.string read.predefined x) where
-  pub of-bytes : {source start end : ℕ} → x ≡ base.Part source start end → (0 < source) × (source ≤ 2)
-  of-bytes g = subst OfBytes g t.bytes
-
+module _ (payload : List ℕ) (from : ℕ) (read : Record) {x : rust.Option Base} (t : BaseTold from read.string read.predefined x) where
   module _ (n : Name) (d2 : List ℕ) (end : ℕ) (h : PieceInside (part_from from end payload) read.string) where
     abbrev told : definition.Record
     told = record_told from (part_from from end payload) read
@@ -320,39 +245,25 @@ module _ (payload : List ℕ) (from : ℕ) (read : Record) (x : Base) (t : BaseT
     unfolding base_text
     base-is = t.is payload d2 end h
 
-    pub record-nothing : x ≡ base.Nothing → n ≡ absent_name → name_text payload d2 n ≡ text_of told
+    pub record-nothing : x ≡ None → n ≡ absent_name → name_text payload d2 n ≡ text_of told
     unfolding name_text source_text
     record-nothing g e = rw (e, text-is told, base-is, g)
 
-    module _ {source start stop : ℕ} (g : x ≡ base.Part source start stop) (y : Base)
-        (u : StepTold payload (stepped substring_of (both_numbers read.substring)) source start stop y) where
+    module _ {base : Base} (g : x ≡ Some base) {y : rust.Option Base}
+        (u : StepTold payload (stepped substring_of (both_numbers read.substring)) base y) where
       part-is : if_some (base_text told) none (stepped substring_of told.substring) ≡ text_in payload d2 y
       part-is = ap (λ (o : Option Text). if_some o none (stepped substring_of told.substring)) (base-is ∙ ap (text_in payload d2) g) ∙ u.is d2
 
-      pub record-cut : y ≡ base.Nothing → n ≡ absent_name → name_text payload d2 n ≡ text_of told
+      pub record-cut : y ≡ None → n ≡ absent_name → name_text payload d2 n ≡ text_of told
       unfolding name_text source_text
       record-cut q e = rw (e, text-is told, part-is, q)
 
-      pub record-built : {of a b : ℕ} → y ≡ base.Part of a b
-          → (l : Span) → LeftTold payload of a b (dropped read.operation) l
-          → name_text payload d2 n ≡ turned_steps (both_numbers read.replaced) read.operation (source_text payload d2 (plain of l.start l.end))
+      pub record-built : {part left : Base} → y ≡ Some part → LeftTold payload part (dropped read.operation) left
+          → name_text payload d2 n ≡ turned_steps (both_numbers read.replaced) read.operation (base_in payload d2 left)
           → name_text payload d2 n ≡ text_of told
-      record-built {of} {a} {b} q l left e =
+      record-built {part} {left} q l e =
           let steps : Option Text → Option Text = turned_steps told.replaced told.operation in
           e
-          ∙ ap steps (sym (left d2))
-          ∙ sym (steps_dropped told.replaced told.operation (source_text payload d2 (plain of a b)))
+          ∙ ap steps (sym (l.is d2))
+          ∙ sym (steps_dropped told.replaced told.operation (base_in payload d2 part))
           ∙ sym (text-is told ∙ ap (with_steps told.replaced told.operation) (part-is ∙ ap (text_in payload d2) q))
-
--- Whether a record decides.
-module _ (string : Piece) (index : Indexed) (from : ℕ) (s : List ℕ) where
-  pub decides-string : {a b : ℕ} → string ≡ piece.Body a b → true ≡ is_some (piece_told from s string) || is_some (index_told index)
-  decides-string e = rw e
-
-  pub decides-index : {b : Bool} → string ≡ piece.Nothing → b ≡ is_some (index_told index) → b ≡ is_some (piece_told from s string) || is_some (index_told index)
-  decides-index e g = rw e g
-
--- A piece of a part of some bytes has places among them.
-pub piece-fits : (bytes : List ℕ) (start end : ℕ) → start ≤ end → end < 2 ^ 64 → (p : Piece) → PieceInside (part_from start end bytes) p → PieceFits start p
-piece-fits bytes start end h l (piece.Body a b) i = (i.0, omega (arith, i.1, part-short bytes start end))
-piece-fits bytes start end h l piece.Nothing i = tt

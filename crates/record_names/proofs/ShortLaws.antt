@@ -9,54 +9,34 @@ use native.Mathlib.Omega.{arith}
 use borrow.Author.Tests.{lt-ltb, ne_eqb}
 use lib.Dec.{eqb}
 use lib.ListN.{length, get_or}
-use Rattle.std.specs.Prelude.{if◌then◌else◌}
+use Rattle.std.specs.Prelude.{if◌then◌else◌, Some, None}
 use Rattle.foundation.specs.Choices.{if_some, is_some}
 use Rattle.foundation.specs.Results.{ok, ◌from◌, got, map_got}
 use Rattle.foundation.specs.Texts.{Text}
 use Rattle.wire.specs.Wire.{groups_from, read_varint, varint, field, read_field, repeated, Message, cut}
 use Rattle.wire.specs.Messages.{values, first_of, as_body, varint_of, index, bytes_of, joined, varints}
-use Rattle.messages.specs.told.Asked.{piece_told, index_told}
 use Rattle.wire.proofs.FieldLaws.{value-varint, number_fine, field-value}
 use Rattle.wire.proofs.WalkLaws.{ok_same}
 use Rattle.characters.specs.told.Places.{part_from}
 use Rattle.characters.proofs.UnitLaws.{units-ended, units-cons}
 use Rattle.names.specs.Records.{record_of, decides, predefined_text, base_text, operated, text_of}
-use Rattle.names.specs.told.RecordTold.{RecordTold}
 use Rattle.names.specs.told.Name.{turned, source_text, name_text, plain, absent_name}
 use Rattle.names.specs.told.Stream.{listed_text}
-use Rattle.record_names.specs.told.Steps.{BuiltTold}
 use Rattle.record_names.specs.told.Named.{PredefinedTold, NamedTold}
 use Rattle.names.specs.declared.name.Name.{Name}
-use Rattle.names.specs.declared.name.PredefinedPart.{PredefinedPart}
-use Rattle.names.specs.declared.name.PredefinedPart.TheVariants as listed
-use Rattle.names.specs.declared.records.Record.{Record}
-use Rattle.record_names.specs.declared.Decided.TheVariants as decided
-use Rattle.record_names.proofs.PartLaws.{same-substituted}
-
--- Any record, as it was read.
-module _ (bytes : List ℕ) (start end : ℕ) (read : Record) (r : RecordTold start (part_from start end bytes) read)
-    {b : Bool} (d : (base : ℕ) (s : List ℕ) → b ≡ is_some (piece_told base s read.string) || is_some (index_told read.predefined)) where
-  by-it : (m : Message) → cut (◌from◌ start (part_from start end bytes)) ≡ ok m → decides (record_of m) ≡ b
-  by-it m w = ap decides (r.is m w) ∙ sym (d start (part_from start end bytes))
-
-  pub named-decided : b ≡ true → {name : Name} → BuiltTold bytes start read name → NamedTold bytes start end (decided.Yes name)
-  named-decided c n = record {
-    made = n.bytes;
-    is = λ m w units. (by-it m w ∙ c, ap text_of (r.is m w) ∙ sym (n.is units end r.inside));
-  }
-
-  pub named-undecided : b ≡ false → NamedTold bytes start end decided.No
-  named-undecided c = record { made = tt; is = λ m w units. by-it m w ∙ c }
+use Rattle.foundation.specs.declared.Span.{Span}
+use Rattle.std.specs.declared.option.Option as rust
+use Rattle.record_names.proofs.PartLaws.{absent-made, same-substituted}
 
 -- A predefined string as a name.
-module _ {index : ℕ} {l : PredefinedPart} (e : listed_text l ≡ predefined_text index) where
-  pub listed-absent : l ≡ listed.Nothing → {n : Name} → n ≡ absent_name → PredefinedTold index n
+module _ {index : ℕ} {l : rust.Option Span} (e : listed_text l ≡ predefined_text index) where
+  pub listed-absent : l ≡ None → {n : Name} → n ≡ absent_name → PredefinedTold index n
   unfolding name_text source_text
-  listed-absent g q = subst (PredefinedTold index) (sym q) record { bytes = (omega arith, refl, omega arith, omega arith, omega arith, refl); is = λ payload units. ap listed_text (sym g) ∙ e }
+  listed-absent g q = subst (PredefinedTold index) (sym q) record { bytes = absent-made refl; is = λ payload units. ap listed_text (sym g) ∙ e }
 
-  pub listed-named : {a b : ℕ} → l ≡ listed.Part a b → PredefinedTold index (plain 2 a b)
+  pub listed-named : {p : Span} → l ≡ Some p → {n : Name} → n ≡ plain 2 p.start p.end → PredefinedTold index n
   unfolding name_text source_text turned
-  listed-named {a} {b} g = record {
+  listed-named g q = subst (PredefinedTold index) (sym q) record {
     bytes = (omega arith, refl, omega arith, omega arith, omega arith, refl);
     is = λ payload units. ap some (same-substituted _) ∙ ap listed_text (sym g) ∙ e;
   }
@@ -113,7 +93,7 @@ module _ (v : ℕ) (h : v < 128) where
 
 -- So of a message from start to end.
 module _ (bytes : List ℕ) (start end : ℕ) where
-  pub short_none : end ≤ start → NamedTold bytes start end decided.No
+  pub short_none : end ≤ start → NamedTold bytes start end None
   short_none h = record {
     made = tt;
     is = λ m w units.
@@ -135,13 +115,13 @@ module _ (bytes : List ℕ) (start end : ℕ) where
           let e = ap (λ (x : ℕ). cut (◌from◌ start (x ∷ v ∷ []))) f ∙ cut-one start n v o h k in
           ok_same (sym w ∙ ap (λ (s : List ℕ). cut (◌from◌ start s)) are ∙ e)
 
-    pub short-without : (n : ℕ) → t ≡ n * 8 → 0 < n → n < 16 → (n ≡ 2 → ⊥) → NamedTold bytes start end decided.No
+    pub short-without : (n : ℕ) → t ≡ n * 8 → 0 < n → n < 16 → (n ≡ 2 → ⊥) → NamedTold bytes start end None
     short-without n f o h g = record {
       made = tt;
       is = λ m w units. ap (λ (x : Message). decides (record_of x)) (message-is n f o h m w) ∙ without_one n v g;
     }
 
-    pub short-predefined : t ≡ 16 → {name : Name} → PredefinedTold v name → NamedTold bytes start end (decided.Yes name)
+    pub short-predefined : t ≡ 16 → {name : Name} → PredefinedTold v name → NamedTold bytes start end (Some name)
     short-predefined f l = record {
       made = l.bytes;
       is = λ m w units.

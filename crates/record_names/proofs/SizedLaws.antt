@@ -6,11 +6,10 @@ use mathlib.Core.List.{List, []}
 use mathlib.Core.Option.{some}
 use Prim.Native.Nat.{ℕ, zero, suc, ◌+◌, ◌-◌, ◌≤◌, ◌<◌}
 use native.Mathlib.Omega.{arith}
-use native.Mathlib.Nat.{le_refl}
-use borrow.Author.Tests.{ltb-true, ltb-false, lt-ltb, le-ltb, eq-eqb, ne_eqb}
-use lib.Dec.{eqb, ltb}
+use native.Mathlib.Nat.{le_refl, min-eq_left, min-eq_right}
+use lib.Dec.{eqb}
 use lib.ListN.{length}
-use Rattle.std.specs.Prelude.{if◌then◌else◌}
+use Rattle.std.specs.Prelude.{if◌then◌else◌, min, Option, Some, None}
 use Rattle.foundation.specs.Choices.{map_option}
 use Rattle.foundation.specs.Texts.{Text}
 use Rattle.characters.specs.Characters.{utf8, from_utf8}
@@ -24,59 +23,26 @@ use Rattle.names.specs.told.Name.{predefined_list, turned, source_text, stepped_
 use Rattle.names.specs.told.Stream.{base_of, name_bytes}
 use Rattle.names.specs.declared.name.Name.{Name}
 use Rattle.record_names.specs.told.Steps.{BytesName}
-use Rattle.record_names.specs.told.Note.{class_size, class_of, NameFits, WordsTold}
+use Rattle.record_names.specs.told.Note.{class_size, class_of, WordsTold}
 use Rattle.record_names.specs.told.ClassNames.{qualified_part, class_text, part_size, ClassTold}
 use Rattle.record_names.specs.told.Named.{NamedIs, ClassIs, NamedTold, WordsFor, RecordWords}
-use Rattle.record_names.specs.told.Sized.{least, limit_of, clipped_name, SizeTold, with_size}
+use Rattle.record_names.specs.told.Sized.{clipped_name, SizeTold, with_size}
 use Rattle.record_names.proofs.WordLaws.{noted-no, class-no}
 use Rattle.record_names.specs.declared.note.Words.{Words}
-use Rattle.record_names.specs.declared.Decided.{Decided}
-use Rattle.record_names.specs.declared.Decided.TheVariants as decided
-
-least-below : (a b : ℕ) → least a b ≤ b
-least-below a b = go (ltb a b) refl
-  where
-    go : (t : Bool) → ltb a b ≡ t → (if t then a else b) ≤ b
-    go true e = omega (arith, ltb-true a b e)
-    go false e = le_refl b
 
 -- a part, as far as its bytes go
-part-least : (l : List ℕ) (start end : ℕ) → part_from (least start end) end l ≡ part_from start end l
-part-least l start end = go (ltb start end) refl
-  where
-    go : (t : Bool) → ltb start end ≡ t → part_from (if t then start else end) end l ≡ part_from start end l
-    go true e = refl
-    go false e = units-ended l end end (le_refl end) ∙ sym (units-ended l start end (ltb-false start end e))
+part-min : (l : List ℕ) (start end : ℕ) → part_from (min start end) end l ≡ part_from start end l
+part-min l start end = below end start (λ h. rw (min-eq_left {n = start} {m = end} (omega arith)) refl) λ h. rw (min-eq_right h) (units-ended l end end (le_refl end) ∙ sym (units-ended l start end h))
 
-part_clipped : (l : List ℕ) (start end : ℕ) → part_from start (least end (length l)) l ≡ part_from start end l
-part_clipped l start end = go (ltb end (length l)) refl
-  where
-    go : (t : Bool) → ltb end (length l) ≡ t → part_from start (if t then end else length l) l ≡ part_from start end l
-    go true e = refl
-    go false e = part-rest l start end (ltb-false end (length l) e)
+part_clipped : (l : List ℕ) (start end : ℕ) → part_from start (min end (length l)) l ≡ part_from start end l
+part_clipped l start end = below (length l) end (λ h. rw (min-eq_left {n = end} {m = length l} (omega arith)) refl) λ h. rw (min-eq_right h) (part-rest l start end h)
 
-part_same : (l : List ℕ) (start end : ℕ) → part_from (least start (least end (length l))) (least end (length l)) l ≡ part_from start end l
-part_same l start end = part-least l start (least end (length l)) ∙ part_clipped l start end
+part_same : (l : List ℕ) (start end : ℕ) → part_from (min start (min end (length l))) (min end (length l)) l ≡ part_from start end l
+part_same l start end = part-min l start (min end (length l)) ∙ part_clipped l start end
 
 list_length : length predefined_list ≡ 878
 unfolding predefined_list
 list_length = refl
-
-pub least_first : (a b : ℕ) → a < b → a ≡ least a b
-least_first a b h = rw (lt-ltb a b h)
-
-pub least-second : (a b : ℕ) → b ≤ a → b ≡ least a b
-least-second a b h = rw (le-ltb a b h)
-
-pub limit_listed : (source size : ℕ) → source ≡ 2 → 878 ≡ limit_of source size
-limit_listed source size h = rw (eq-eqb source 2 h)
-
-pub limit_size : (source size : ℕ) → (source ≡ 2 → ⊥) → size ≡ limit_of source size
-limit_size source size h = rw (ne_eqb source 2 h)
-
-pub clipped_is : (size : ℕ) (n : Name) {limit end start : ℕ} → limit ≡ limit_of n.source size → end ≡ least n.end limit → start ≡ least n.start end
-    → ◌≡◌ {A = Name} (record { source = n.source; start = start; end = end; from = n.from; to = n.to; operation = n.operation; qualified = n.qualified; size = 0 }) (clipped_name size n)
-clipped_is size n p q r = rw (r, q, p)
 
 -- The source of a name doesn't depend on its size.
 source-kept : (bytes d2 : List ℕ) (n : Name) (size : ℕ) → source_text bytes d2 (with_size n size) ≡ source_text bytes d2 n
@@ -126,7 +92,7 @@ module _ (bytes : List ℕ) (n : Name) (b : n.source ≤ 2) where
       there : 1 ≤ n.source → size ≡ part_size bytes n n.start n.end
       there l = e ∙ unstepped_size bytes unstepped refl refl refl _ (source_of bytes unstepped b [] l)
 
--- The clipped name is the same name, and fits two words.
+-- The clipped name is the same name.
 module _ (bytes : List ℕ) where
   source-same : (d2 : List ℕ) (source start end from to operation : ℕ) (qualified : Bool) → source ≤ 2
       → (let n : Name = record { source = source; start = start; end = end; from = from; to = to; operation = operation; qualified = qualified; size = 0 } in
@@ -135,7 +101,7 @@ module _ (bytes : List ℕ) where
   source-same d2 zero start end from to operation qualified h = refl
   source-same d2 (suc zero) start end from to operation qualified h = ap (λ (x : List ℕ). some (from_utf8 x)) (part_same bytes start end)
   source-same d2 (suc (suc zero)) start end from to operation qualified h =
-      ap (λ (k : ℕ). some (from_utf8 (part_from (least start (least end k)) (least end k) predefined_list))) (sym list_length)
+      ap (λ (k : ℕ). some (from_utf8 (part_from (min start (min end k)) (min end k) predefined_list))) (sym list_length)
       ∙ ap (λ (x : List ℕ). some (from_utf8 x)) (part_same predefined_list start end)
   source-same d2 (suc (suc (suc k))) start end from to operation qualified h = absurd (omega arith)
 
@@ -143,75 +109,21 @@ module _ (bytes : List ℕ) where
   unfolding name_text
   clip-same d2 n b = rw (b.5, source-same d2 n.source n.start n.end n.from n.to n.operation n.qualified b.0)
 
-  limit-short : (source : ℕ) → length bytes < 65536 → limit_of source (length bytes) < 65536
-  limit-short source h = go (eqb source 2)
-    where
-      go : (t : Bool) → (if t then 878 else length bytes) < 65536
-      go true = omega arith
-      go false = h
-
   clip-bytes : (n : Name) → BytesName n → BytesName (clipped_name (length bytes) n)
   clip-bytes n b = (b.0, b.1, b.2, b.3, b.4, refl)
 
-  pub clip-made : (n : Name) → BytesName n → {c : Name} → c ≡ clipped_name (length bytes) n → BytesName c
-  clip-made n b e = rw e (clip-bytes n b)
-
-  -- the places of a clipped name
-  module _ (h : length bytes < 65536) (n : Name) where
-    abbrev clipped : Name
-    clipped = clipped_name (length bytes) n
-
-    pub clipped-ordered : clipped.start ≤ clipped.end
-    clipped-ordered = least-below n.start (least n.end (limit_of n.source (length bytes)))
-
-    pub clipped-short : clipped.end < 65536
-    clipped-short =
-        let l = limit-short n.source h in
-        let e = least-below n.end (limit_of n.source (length bytes)) in
-        below e l
-      where
-        below : {a b c : ℕ} → a ≤ b → b < c → a < c
-        below p q = omega arith
-
   -- What is noted of a record: nothing of one that doesn't decide.
-  pub words-none : {d : Decided} → d ≡ decided.No → WordsFor bytes d (record { place = 0; steps = 0 })
+  pub words-none : {d : Option Name} → d ≡ None → WordsFor bytes d (record { place = 0; steps = 0 })
   words-none e r f = record {
     is = λ units. subst (NamedIs bytes units r) noted-no (subst (NamedIs bytes units r) e (f units));
     class = λ units. subst (ClassIs bytes units r) class-no (subst (NamedIs bytes units r) e (f units));
   }
 
   -- else its name, clipped, with its size, and the part that is left of it as a class name
-  module _ (h : length bytes < 65536) {d : Decided} {n c q : Name} (e : d ≡ decided.Yes n) (b : BytesName n) (f : c ≡ clipped_name (length bytes) n)
+  module _ {d : Option Name} {n c q : Name} (e : d ≡ Some n) (b : BytesName n) (f : c ≡ clipped_name (length bytes) n)
       (k : ClassTold bytes c q) {size : ℕ} (s : SizeTold bytes c size) where
     made : BytesName c
     made = rw f (clip-bytes n b)
-
-    ordered : c.start ≤ c.end
-    ordered = rw f (clipped-ordered h n)
-
-    short : c.end < 65536
-    short = rw f (clipped-short h n)
-
-    pub name-fits : {z : Name} → z ≡ with_size c size → NameFits z
-    name-fits g =
-        let o = ordered in
-        let l = short in
-        rw g (record {
-          source = made.0;
-          start = omega arith;
-          end = l;
-          from = made.3;
-          to = made.4;
-          operation = made.2;
-          qualified = made.1;
-          size = s.fits;
-        })
-
-    pub class-fits : (q.start < 65536) × (q.end < 65536)
-    class-fits =
-        let i = k.inside ordered in
-        let l = short in
-        (omega (arith, i.0), omega (arith, i.1))
 
     text-size : (d2 : List ℕ) → name_text bytes d2 (with_size c size) ≡ name_text bytes d2 c
     text-size d2 = size_same bytes c made.0 made.5 size s.is d2
@@ -226,7 +138,7 @@ module _ (bytes : List ℕ) where
 
     pub words-some : {z : Name} → z ≡ with_size c size → {w : Words} → WordsTold z q.start q.end w → WordsFor bytes d w
     words-some {z} g {w} t r x =
-        let y : (units : List ℕ) → NamedIs bytes units r (decided.Yes n) = λ units. subst (NamedIs bytes units r) e (x units) in
+        let y : (units : List ℕ) → NamedIs bytes units r (Some n) = λ units. subst (NamedIs bytes units r) e (x units) in
         let same : (units : List ℕ) → name_text bytes units n ≡ name_text bytes units c = λ units. sym (ap (name_text bytes units) f ∙ clip-same units n b) in
         record {
           is = λ units.
@@ -238,5 +150,5 @@ module _ (bytes : List ℕ) where
         }
 
 -- What is noted of a record, by its message.
-pub record_words : (bytes : List ℕ) {start end : ℕ} (d : Decided) → NamedTold bytes start end d → {w : Words} → WordsFor bytes d w → RecordWords bytes start end w
+pub record_words : (bytes : List ℕ) {start end : ℕ} (d : Option Name) → NamedTold bytes start end d → {w : Words} → WordsFor bytes d w → RecordWords bytes start end w
 record_words bytes d t f r b = f r λ units. rw b.is (t.is b.message b.cuts units)

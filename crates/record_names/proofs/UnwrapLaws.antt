@@ -10,14 +10,13 @@ use native.Mathlib.Omega.{arith}
 use borrow.Author.Tests.{eq-eqb, ne_eqb, eqb-true, eqb-false}
 use lib.Dec.{eqb}
 use lib.ListN.{length, take, drop}
-use Rattle.std.specs.Prelude.{if◌then◌else◌}
+use Rattle.std.specs.Prelude.{if◌then◌else◌, Some, None}
 use Rattle.foundation.specs.Choices.{if_some, map_option}
 use Rattle.foundation.specs.Texts.{Text}
 use Rattle.characters.specs.Characters.{width, utf8_of, utf8, from_utf8}
 use Rattle.characters.specs.told.Places.{part_from}
-use Rattle.characters.specs.told.CharactersTold.{utf8_at}
+use Rattle.characters.specs.told.CharactersTold.{character_read, utf8_at}
 use Rattle.characters.specs.told.Plain.{instead}
-use Rattle.characters.specs.declared.Character.TheVariants.{Read, End}
 use Rattle.characters.proofs.TestLaws.{below}
 use Rattle.foundation.proofs.EveryLaws.{map_twice}
 use Rattle.characters.proofs.CharacterLaws.{utf8-end, utf8-inside}
@@ -32,8 +31,8 @@ use Rattle.record_names.specs.told.Ends.{LastTold}
 use Rattle.record_names.specs.told.ClassNames.{size_with, UnwrapTold, qualified_part, class_text, ClassTold}
 use Rattle.names.specs.declared.name.Name.{Name}
 use Rattle.record_names.specs.declared.ends.Last.{Last}
-use Rattle.record_names.specs.declared.ends.Last.TheVariants as last
-use Rattle.record_names.specs.declared.Extent.TheVariants as extent
+use Rattle.std.specs.declared.option.Option as rust
+use Rattle.foundation.specs.declared.Span.{Span}
 use Rattle.names.proofs.NameLaws.{source-bytes}
 use Rattle.record_names.proofs.EndsLaws.{first-text, single-text, whole-text, place_inside}
 
@@ -166,53 +165,53 @@ unfolding utf8 utf8_of width
 between-size m = omega (arith, bytes_cons 0x4c (m ++ (0x3b ∷ [])), bytes-append m (0x3b ∷ []))
 
 module _ (s : List ℕ) (from to : ℕ) where
-  pub unwrap-empty : utf8_at 0 (drop 0 s) ≡ End → UnwrapTold s from to extent.Nothing
+  pub unwrap-empty : utf8_at 0 (drop 0 s) ≡ None → UnwrapTold s from to None
   unwrap-empty e = ap (λ (t : Text). unwrapped (substituted from to t)) (utf8-end s 0 e) ∙ ap (substituted from to) (sym (utf8-end s 0 e))
 
-  module _ {code next : ℕ} (e : utf8_at 0 (drop 0 s) ≡ Read code next) {c : ℕ} (p : c ≡ instead from to code) where
+  module _ {code next : ℕ} (e : utf8_at 0 (drop 0 s) ≡ character_read code next) {c : ℕ} (p : c ≡ instead from to code) where
     -- the whole, if its text stays
-    stays : {t : Text} → from_utf8 s ≡ t → unwrapped (substituted from to t) ≡ substituted from to t → UnwrapTold s from to extent.Nothing
+    stays : {t : Text} → from_utf8 s ≡ t → unwrapped (substituted from to t) ≡ substituted from to t → UnwrapTold s from to None
     stays q f = rw q f
 
-    pub unwrap-other : (c ≡ 0x4c → ⊥) → UnwrapTold s from to extent.Nothing
+    pub unwrap-other : (c ≡ 0x4c → ⊥) → UnwrapTold s from to None
     unwrap-other h = stays (first-text s e) (unwrap-first (instead from to code) (substituted from to (from_utf8 (drop next s))) λ z. h (p ∙ z))
 
-    module _ (r : Last) (t : LastTold (part_from next (length s) s) r) where
-      pub unwrap-single : r ≡ last.Nothing → UnwrapTold s from to extent.Nothing
+    module _ (r : rust.Option Last) (t : LastTold (part_from next (length s) s) r) where
+      pub unwrap-single : r ≡ None → UnwrapTold s from to None
       unwrap-single g = stays (single-text s e r t g) (unwrap-alone (instead from to code))
 
-      module _ {place l : ℕ} (g : r ≡ last.Character place l) {d : ℕ} (q : d ≡ instead from to l) where
+      module _ {last : Last} (g : r ≡ Some last) {d : ℕ} (q : d ≡ instead from to last.code) where
         abbrev middle : Text
-        middle = from_utf8 (take place (drop next s))
+        middle = from_utf8 (take last.place (drop next s))
 
-        whole : from_utf8 s ≡ code ∷ (middle ++ (l ∷ []))
+        whole : from_utf8 s ≡ code ∷ (middle ++ (last.code ∷ []))
         whole = whole-text s e r t g
 
-        changed : substituted from to (code ∷ (middle ++ (l ∷ []))) ≡ instead from to code ∷ (substituted from to middle ++ (instead from to l ∷ []))
-        changed = ap (λ (u : Text). instead from to code ∷ u) (substituted-append from to middle (l ∷ []))
+        changed : substituted from to (code ∷ (middle ++ (last.code ∷ []))) ≡ instead from to code ∷ (substituted from to middle ++ (instead from to last.code ∷ []))
+        changed = ap (λ (u : Text). instead from to code ∷ u) (substituted-append from to middle (last.code ∷ []))
 
-        pub unwrap-open : (d ≡ 0x3b → ⊥) → UnwrapTold s from to extent.Nothing
+        pub unwrap-open : (d ≡ 0x3b → ⊥) → UnwrapTold s from to None
         unwrap-open h =
             stays whole
             (ap unwrapped changed
-            ∙ unwrap-last (instead from to code) (substituted from to middle) (instead from to l) (λ z. h (q ∙ z))
+            ∙ unwrap-last (instead from to code) (substituted from to middle) (instead from to last.code) (λ z. h (q ∙ z))
             ∙ sym changed)
 
-        closed-size : c ≡ 0x4c → d ≡ 0x3b → size_with from to s ≡ size_with from to (take place (drop next s)) + 2
+        closed-size : c ≡ 0x4c → d ≡ 0x3b → size_with from to s ≡ size_with from to (take last.place (drop next s)) + 2
         closed-size h k =
             let x : instead from to code ≡ 0x4c = sym p ∙ h in
-            let y : instead from to l ≡ 0x3b = sym q ∙ k in
+            let y : instead from to last.code ≡ 0x3b = sym q ∙ k in
             let m = substituted from to middle in
             ap (λ (u : Text). length (utf8 (substituted from to u))) whole
-            ∙ ap (λ (u : Text). length (utf8 u)) (changed ∙ ap (λ (f : ℕ). f ∷ (m ++ (instead from to l ∷ []))) x ∙ ap (λ (f : ℕ). 0x4c ∷ (m ++ (f ∷ []))) y)
+            ∙ ap (λ (u : Text). length (utf8 u)) (changed ∙ ap (λ (f : ℕ). f ∷ (m ++ (instead from to last.code ∷ []))) x ∙ ap (λ (f : ℕ). 0x4c ∷ (m ++ (f ∷ []))) y)
             ∙ between-size m
 
-        pub unwrap-closed : c ≡ 0x4c → d ≡ 0x3b → UnwrapTold s from to (extent.Part next (next + place))
+        pub unwrap-closed : c ≡ 0x4c → d ≡ 0x3b → UnwrapTold s from to (Some record { start = next; end = next + last.place })
         unwrap-closed h k =
-            let z : next + place - next ≡ place = omega arith in (
+            let z : next + last.place - next ≡ last.place = omega arith in (
               ap (λ (u : Text). unwrapped (substituted from to u)) whole
                   ∙ ap unwrapped changed
-                  ∙ unwrap-both (instead from to code) (substituted from to middle) (instead from to l) (sym p ∙ h) (sym q ∙ k)
+                  ∙ unwrap-both (instead from to code) (substituted from to middle) (instead from to last.code) (sym p ∙ h) (sym q ∙ k)
                   ∙ ap (λ (n : ℕ). substituted from to (from_utf8 (take n (drop next s)))) (sym z),
               omega arith,
               place_inside s e r t g,
@@ -283,25 +282,25 @@ module _ (payload : List ℕ) (n : Name) (b : BytesName n) where
     class-made q d2 = rw q (below 1 n.source (λ l. class-absent d2 (omega arith)) λ l. class-there d2 (omega arith))
 
   module _ (s : List ℕ) (e : s ≡ part_from n.start n.end (base_of n.source payload predefined_list)) where
-    pub class-stays : UnwrapTold s n.from n.to extent.Nothing → {r : Name} → r ≡ qualified_part n n.start n.end → ClassTold payload n r
+    pub class-stays : UnwrapTold s n.from n.to None → {r : Name} → r ≡ qualified_part n n.start n.end → ClassTold payload n r
     class-stays t q =
-        told_same q (class-made n.start n.end (subst (λ (bs : List ℕ). UnwrapTold bs n.from n.to extent.Nothing) e t) q)
+        told_same q (class-made n.start n.end (subst (λ (bs : List ℕ). UnwrapTold bs n.from n.to None) e t) q)
 
-    module _ {i j : ℕ} (t : UnwrapTold s n.from n.to (extent.Part i j)) where
-      pub class-ends : (i ≤ j) × (j ≤ n.end - n.start)
+    module _ {p : Span} (t : UnwrapTold s n.from n.to (Some p)) where
+      pub class-ends : (p.start ≤ p.end) × (p.end ≤ n.end - n.start)
       class-ends = (t.1, omega (arith, t.2, ap length e, part-short (base_of n.source payload predefined_list) n.start n.end))
 
-      pub class-cut : {r : Name} → r ≡ qualified_part n (n.start + i) (n.start + j) → ClassTold payload n r
+      pub class-cut : {r : Name} → r ≡ qualified_part n (n.start + p.start) (n.start + p.end) → ClassTold payload n r
       class-cut q =
           let l = base_of n.source payload predefined_list in
-          let u = subst (λ (bs : List ℕ). UnwrapTold bs n.from n.to (extent.Part i j)) e t in
-          let p = part-part l n.start n.end i j u.1 u.2 in
+          let u = subst (λ (bs : List ℕ). UnwrapTold bs n.from n.to (Some p)) e t in
+          let f = part-part l n.start n.end p.start p.end u.1 u.2 in
           let c = class-ends in
           record {
             part = rw q;
-            is = class-made (n.start + i) (n.start + j) (u.0 ∙ ap (λ (bs : List ℕ). substituted n.from n.to (from_utf8 bs)) p) q;
+            is = class-made (n.start + p.start) (n.start + p.end) (u.0 ∙ ap (λ (bs : List ℕ). substituted n.from n.to (from_utf8 bs)) f) q;
             inside = λ o. rw q (omega (arith, c.0, c.1), omega (arith, c.1));
             size =
-                rw (q, ne_eqb (n.start + i) n.start (λ z. omega (arith, u.3)))
-                (u.4 ∙ ap (λ (bs : List ℕ). size_with n.from n.to bs + 2) p);
+                rw (q, ne_eqb (n.start + p.start) n.start (λ z. omega (arith, u.3)))
+                (u.4 ∙ ap (λ (bs : List ℕ). size_with n.from n.to bs + 2) f);
           }

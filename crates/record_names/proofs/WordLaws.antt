@@ -5,19 +5,18 @@ use mathlib.Core.Bool.{Bool, true, false}
 use Prim.Native.Nat.{ℕ, ◌+◌, ◌-◌, ◌*◌, ◌/◌, ◌%◌, ◌<◌}
 use native.Mathlib.Omega.{arith}
 use native.Mathlib.Nat.{mod-eq_of_lt}
-use borrow.Author.Tests.{eq-eqb, ne_eqb}
+use borrow.Author.Tests.{ne_eqb}
 use lib.Dec.{eqb}
-use Rattle.std.specs.Prelude.{if◌then◌else◌}
-use Rattle.record_names.specs.told.Note.{noted_name, noted, class_size, class_of, noted_class, noted_as, NameFits}
+use Rattle.std.specs.Prelude.{if◌then◌else◌, Some, None}
+use Rattle.record_names.specs.told.Note.{noted_name, noted, class_size, class_of, noted_class, NameFits}
 use Rattle.names.specs.declared.name.Name.{Name}
-use Rattle.record_names.specs.declared.Decided.{Decided}
-use Rattle.record_names.specs.declared.Decided.TheVariants as decided
+use Rattle.std.proofs.lemmas.Option.{same_Some}
 
-pub noted-no : decided.No ≡ noted 0 0
+pub noted-no : None ≡ noted 0 0
 unfolding noted
 noted-no = refl
 
-pub class-no : decided.No ≡ noted_class 0 0
+pub class-no : None ≡ noted_class 0 0
 unfolding noted_class
 class-no = refl
 
@@ -92,52 +91,27 @@ module _ (n : Name) (a b place steps : ℕ) (h : NameFits n) (ha : a < 65536) (h
       more : (s : ℕ) → 1 + s ≡ 0 → ⊥
       more s e = omega arith
 
-  pub words-told : (noted place steps ≡ decided.Yes n) × (noted_class place steps ≡ decided.Yes (class_of n a b))
+  pub words-told : (noted place steps ≡ Some n) × (noted_class place steps ≡ Some (class_of n a b))
   unfolding noted noted_class
   words-told =
       let f = class-starts n.start n.end a b place h.start h.end ha hb p in
       let g = class-ends n.start n.end a b place h.start h.end ha hb p in
-      (rw there (ap decided.Yes name-is), rw (there, f, g) (ap (λ (m : Name). decided.Yes (class_of m a b)) name-is))
-
--- Answers that are the same, and that are not.
-name_of : Decided → Name → Name
-name_of (decided.Yes n) m = n
-name_of decided.No m = m
-
-same-yes : (n m : Name) → decided.Yes n ≡ decided.Yes m → n ≡ m
-unfolding name_of
-same-yes n m e = ap (λ (d : Decided). name_of d n) e
-
-is_yes : Decided → ℕ
-is_yes (decided.Yes n) = 1
-is_yes decided.No = 0
-
-no_name : {n : Name} → decided.No ≡ decided.Yes n → ⊥
-unfolding is_yes
-no_name e = let z : ◌≡◌ {A = ℕ} 0 1 = ap is_yes e in omega arith
+      (rw there (ap Some name-is), rw (there, f, g) (ap (λ (m : Name). Some (class_of m a b)) name-is))
 
 -- Words taken apart.
 module _ (place steps : ℕ) where
-  pub noted-none : steps % 4 ≡ 0 → decided.No ≡ noted place steps
-  unfolding noted
-  noted-none h = rw (eq-eqb (steps % 4) 0 h)
-
-  pub noted-some : (steps % 4 ≡ 0 → ⊥) → decided.Yes (noted_name place steps) ≡ noted place steps
-  unfolding noted
-  noted-some h = rw (ne_eqb (steps % 4) 0 h)
-
   -- the class name, by the name
-  pub class-none : decided.No ≡ noted place steps → decided.No ≡ noted_class place steps
+  pub class-none : None ≡ noted place steps → None ≡ noted_class place steps
   unfolding noted noted_class
   class-none = go (eqb (steps % 4) 0)
     where
-      go : (b : Bool) → decided.No ≡ (if b then decided.No else decided.Yes (noted_name place steps))
-          → decided.No ≡ (if b then decided.No else decided.Yes (class_of (noted_name place steps) (place / 65536 / 65536 % 65536) (place / 65536 / 65536 / 65536 % 65536)))
+      go : (b : Bool) → None ≡ (if b then None else Some (noted_name place steps))
+          → None ≡ (if b then None else Some (class_of (noted_name place steps) (place / 65536 / 65536 % 65536) (place / 65536 / 65536 / 65536 % 65536)))
       go true e = refl
-      go false e = absurd (no_name e)
+      go false e = cc
 
-  pub class-some : {n : Name} → decided.Yes n ≡ noted place steps → {size : ℕ} → size ≡ class_size n.size n.start (place / 65536 / 65536 % 65536)
-      → decided.Yes
+  pub class-some : {n : Name} → Some n ≡ noted place steps → {size : ℕ} → size ≡ class_size n.size n.start (place / 65536 / 65536 % 65536)
+      → Some
       (record {
         source = n.source;
         start = place / 65536 / 65536 % 65536;
@@ -152,22 +126,8 @@ module _ (place steps : ℕ) where
   unfolding noted noted_class
   class-some {n} e {size} f = rw f (go (eqb (steps % 4) 0) e)
     where
-      go : (b : Bool) → decided.Yes n ≡ (if b then decided.No else decided.Yes (noted_name place steps))
-          → decided.Yes (class_of n (place / 65536 / 65536 % 65536) (place / 65536 / 65536 / 65536 % 65536))
-          ≡ (if b then decided.No else decided.Yes (class_of (noted_name place steps) (place / 65536 / 65536 % 65536) (place / 65536 / 65536 / 65536 % 65536)))
-      go true e = absurd (no_name (sym e))
-      go false e = ap (λ (m : Name). decided.Yes (class_of m (place / 65536 / 65536 % 65536) (place / 65536 / 65536 / 65536 % 65536))) (same-yes n (noted_name place steps) e)
-
-  pub as-class : {c : Bool} {d : Decided} → c ≡ true → d ≡ noted_class place steps → d ≡ noted_as c place steps
-  as-class e f = rw e f
-
-  pub as-name : {c : Bool} {d : Decided} → c ≡ false → d ≡ noted place steps → d ≡ noted_as c place steps
-  as-name e f = rw e f
-
--- The size of a class name.
-module _ (size start first : ℕ) where
-  pub class_same : first ≡ start → size ≡ class_size size start first
-  class_same e = rw (eq-eqb first start e)
-
-  pub class-less : (first ≡ start → ⊥) → {r : ℕ} → r ≡ size - 2 → r ≡ class_size size start first
-  class-less h e = rw (ne_eqb first start h) e
+      go : (b : Bool) → Some n ≡ (if b then None else Some (noted_name place steps))
+          → Some (class_of n (place / 65536 / 65536 % 65536) (place / 65536 / 65536 / 65536 % 65536))
+          ≡ (if b then None else Some (class_of (noted_name place steps) (place / 65536 / 65536 % 65536) (place / 65536 / 65536 / 65536 % 65536)))
+      go true e = cc
+      go false e = ap (λ (m : Name). Some (class_of m (place / 65536 / 65536 % 65536) (place / 65536 / 65536 / 65536 % 65536))) (same_Some n (noted_name place steps) e)

@@ -4,48 +4,40 @@ ghost use Rattle.std.specs.Prelude.{◌≡◌};
 ghost use Rattle.record_names.specs.told.Steps.{BytesName};
 ghost use Rattle.record_names.specs.told.ClassNames.{UnwrapTold, qualified_part, ClassTold};
 
-use crate::Extent;
-use crate::ends::{Last, last_of};
-use characters::{Character, utf8_at};
-use names::name::{Name, PREDEFINED, base_part, instead};
+use crate::ends::last_of;
+use crate::within;
+use characters::utf8_at;
+use foundation::Span;
+use names::name::{Name, PREDEFINED, base_text, instead};
 
 // The part between a leading L and a trailing ; of some bytes' text, every character `from` become `to`.
-fn unwrapped_part(s: &[u8], from: u32, to: u32) -> Extent
+fn unwrapped_part(s: &[u8], from: u32, to: u32) -> Option<Span>
     ensures { UnwrapTold s.now from to result }
 {
-    let character = utf8_at(&*s, 0);
-    let Character::Read { code, next } = character else {
-        return Extent::Nothing;
-    };
-    if instead(from, to, code) != 0x4c {
-        return Extent::Nothing;
+    let first = utf8_at(s, 0)?;
+    if instead(from, to, first.value) != 0x4c {
+        return None;
     }
-    let ending = last_of(&s[next..]);
-    let Last::Character { place, code: last } = ending else {
-        return Extent::Nothing;
-    };
-    if instead(from, to, last) != 0x3b {
-        return Extent::Nothing;
+    let last = last_of(&s[first.next..])?;
+    if instead(from, to, last.code) != 0x3b {
+        return None;
     }
-    Extent::Part {
-        start: next,
-        end: next + place,
-    }
+    Some(Span {
+        start: first.next,
+        end: first.next + last.place,
+    })
 }
 
 // A name as a class name, made of another part of its source.
-fn qualified_part(name: Name, start: usize, end: usize) -> Name
-    ensures { result ≡ qualified_part name start end }
+fn qualified_part(name: Name, part: Span) -> Name
+    ensures { result ≡ qualified_part name part.start part.end }
 {
     Name {
-        source: name.source,
-        start,
-        end,
-        from: name.from,
-        to: name.to,
-        operation: name.operation,
+        start: part.start,
+        end: part.end,
         qualified: true,
         size: 0,
+        ..name
     }
 }
 
@@ -54,13 +46,13 @@ pub(crate) fn qualified_bytes(payload: &[u8], name: Name) -> Name
     requires { BytesName name }
     ensures { ClassTold payload.now name result }
 {
-    let source = name.source;
-    let start = name.start;
-    let end = name.end;
-    let s = base_part(&*payload, &PREDEFINED, source, start, end);
-    let part = unwrapped_part(s, name.from, name.to);
-    let Extent::Part { start: a, end: b } = part else {
-        return qualified_part(name, start, end);
+    let s = base_text(payload, &PREDEFINED, name.source, name.start, name.end);
+    let Some(part) = unwrapped_part(s, name.from, name.to) else {
+        return Name {
+            qualified: true,
+            size: 0,
+            ..name
+        };
     };
-    qualified_part(name, start + a, start + b)
+    qualified_part(name, within(name.start, part))
 }

@@ -2,7 +2,9 @@
 // names: names' specs/Records.antt, specs/Names.antt; what the answers tell: specs/told/Named.antt.
 #![tactic(auto)]
 
-ghost use Rattle.std.specs.Prelude.{◌≡◌, ◌^◌, ◌≤◌, ◌<◌, length};
+ghost use Rattle.std.specs.Prelude.{◌≡◌, ◌+◌, ◌^◌, ◌≤◌, ◌<◌, length};
+ghost use Rattle.names.specs.told.Name.{plain};
+ghost use Rattle.record_names.specs.told.Steps.{within};
 ghost use Rattle.record_names.specs.told.Named.{PredefinedTold, NamedTold, RecordWords};
 
 mod class_name; // class_name.rt: a record's class name
@@ -15,55 +17,57 @@ use crate::note::Words;
 use crate::sized::words_for;
 use crate::steps::{decides, record_name};
 use fields::{RECORD_OPERATION, RECORD_PREDEFINED_INDEX, RECORD_RANGE};
-use names::name::{Name, PredefinedPart, absent, predefined};
+use foundation::Span;
+use names::name::{Name, absent, predefined};
 use names::records::record_in;
 
-// A part of a slice, `&s[start..end]`.
-#[derive(Clone, Copy)]
-pub enum Extent {
-    Part { start: usize, end: usize },
-    Nothing,
-}
-
-#[derive(Clone, Copy)]
-pub enum Decided {
-    Yes { name: Name },
-    No,
-}
-
-// The name that the record from `start` to `end` builds, if it decides.
-fn read_record(bytes: &[u8], start: usize, end: usize) -> Decided
-    requires { (start ≤ end) × (end ≤ length bytes.now) × (start < 2 ^ 32) }
-    ensures { NamedTold bytes.now start end result }
+// A part of what begins at `from`, as a part of the whole.
+fn within(from: usize, part: Span) -> Span
+    requires { (part.start ≤ part.end) × (from + part.end < 2 ^ 64) }
+    ensures { result ≡ within from part }
 {
-    let read = record_in(&bytes[start..end], start as u32);
-    let text = read.string;
-    let predefined = read.predefined;
-    if decides(text, predefined) {
-        let name = record_name(&*bytes, start, read);
-        return Decided::Yes { name };
+    Span {
+        start: from + part.start,
+        end: from + part.end,
     }
-    Decided::No
 }
 
-// A predefined string as a name, with no step.
-fn listed_name(index: u32) -> Name
-    ensures { PredefinedTold index result }
+// A part of a source as a name, with no step. The sources: see `Name`.
+pub fn plain(source: u8, part: Span) -> Name
+    ensures { result ≡ plain source part.start part.end }
 {
-    let listed = predefined(index);
-    let PredefinedPart::Part { start, end } = listed else {
-        return absent();
-    };
     Name {
-        source: 2,
-        start,
-        end,
+        source,
+        start: part.start,
+        end: part.end,
         from: 0,
         to: 0,
         operation: 0,
         qualified: false,
         size: 0,
     }
+}
+
+// The name that the record whose message is a part of the bytes builds, if it decides.
+fn read_record(bytes: &[u8], part: Span) -> Option<Name>
+    requires { (part.start ≤ part.end) × (part.end ≤ length bytes.now) × (part.start < 2 ^ 32) }
+    ensures { NamedTold bytes.now part.start part.end result }
+{
+    let read = record_in(&bytes[part.start..part.end], part.start as u32);
+    if decides(read.string, read.predefined) {
+        return Some(record_name(bytes, part.start, read));
+    }
+    None
+}
+
+// A predefined string as a name.
+fn listed_name(index: u32) -> Name
+    ensures { PredefinedTold index result }
+{
+    let Some(part) = predefined(index) else {
+        return absent();
+    };
+    plain(2, part)
 }
 
 // The tags of a record's fields 1 to 3, which are varints.
@@ -74,40 +78,30 @@ const PREDEFINED_INDEX_TAG: u32 = RECORD_PREDEFINED_INDEX * 8;
 const OPERATION_TAG: u32 = RECORD_OPERATION * 8;
 
 // The same as `read_record`. Most records have no field, or one of two bytes: its tag and its number.
-fn record_at(bytes: &[u8], start: usize, end: usize) -> Decided
-    requires { (start ≤ end) × (end ≤ length bytes.now) × (start < 2 ^ 32) }
-    ensures { NamedTold bytes.now start end result }
+fn record_at(bytes: &[u8], part: Span) -> Option<Name>
+    requires { (part.start ≤ part.end) × (part.end ≤ length bytes.now) × (part.start < 2 ^ 32) }
+    ensures { NamedTold bytes.now part.start part.end result }
 {
-    let size = end - start;
+    let start = part.start;
+    let size = part.end - start;
     if size == 0 {
-        return Decided::No;
+        return None;
     }
-    if size == 2 {
-        let tag = characters::wide(bytes[start]);
-        let number = characters::wide(bytes[start + 1]);
-        if number < 128 {
-            if tag == PREDEFINED_INDEX_TAG {
-                return Decided::Yes {
-                    name: listed_name(number),
-                };
-            }
-            if tag == RANGE_TAG {
-                return Decided::No;
-            }
-            if tag == OPERATION_TAG {
-                return Decided::No;
-            }
+    if size == 2 && bytes[start + 1] < 128 {
+        match u32::from(bytes[start]) {
+            PREDEFINED_INDEX_TAG => return Some(listed_name(u32::from(bytes[start + 1]))),
+            RANGE_TAG | OPERATION_TAG => return None,
+            _ => {}
         }
     }
-    read_record(&*bytes, start, end)
+    read_record(bytes, part)
 }
 
-// What is noted of the record from `start` to `end`: its name and its class name, in two words.
+// What is noted of the record whose message is a part of the bytes: its name and its class name, in two words.
 // Callers show that its message stands in the payload, and that places of the payload fit 16 bits: lookup::resolve tests both.
-pub fn record_words(bytes: &[u8], start: usize, end: usize) -> Words
-    requires { (start ≤ end) × (end ≤ length bytes.now) × (length bytes.now < 65536) }
-    ensures { RecordWords bytes.now start end result }
+pub fn record_words(bytes: &[u8], part: Span) -> Words
+    requires { (part.start ≤ part.end) × (part.end ≤ length bytes.now) × (length bytes.now < 65536) }
+    ensures { RecordWords bytes.now part.start part.end result }
 {
-    let answer = record_at(&*bytes, start, end);
-    words_for(&*bytes, answer)
+    words_for(bytes, record_at(bytes, part))
 }

@@ -1,50 +1,58 @@
 // What a record builds, in two words: worked out once, when the table is indexed. The definition: specs/told/Note.antt.
 ghost use Rattle.std.specs.Prelude.{◌≡◌, ◌<◌};
-ghost use Rattle.record_names.specs.told.Note.{noted, noted_class, noted_as, class_size, NameFits, WordsTold};
+ghost use Rattle.record_names.specs.told.Note.{noted, noted_class, class_size, NameFits, WordsTold};
 
-use crate::Decided;
+use foundation::Span;
 use names::name::Name;
 
+// A place has 16 bits, a character 21.
+const PLACE: u64 = 65536;
+
+const CHARACTER: u64 = 2097152;
+
+// What is noted of a record: `place` has 16 bits for each of four places, `steps` the rest.
 #[derive(Clone, Copy)]
 pub struct Words {
     pub place: u64,
     pub steps: u64,
 }
 
-// A record's name with its size, and the part of its source from `start` to `end` that is left of it as a class name.
-pub(crate) fn words_of(name: Name, start: usize, end: usize) -> Words
-    requires { NameFits name × (start < 65536) × (end < 65536) }
-    ensures { WordsTold name start end result }
+// A record's name with its size, and the part of its source that is left of it as a class name.
+pub(crate) fn words_of(name: Name, class: Span) -> Words
+    requires { NameFits name × (class.start < 65536) × (class.end < 65536) }
+    ensures { WordsTold name class.start class.end result }
 {
-    let parts = name.start as u64 + 65536 * (name.end as u64);
-    let class = start as u64 + 65536 * (end as u64);
-    let characters = name.from as u64 + 2097152 * (name.to as u64 + 2097152 * (name.size as u64));
-    let low = 1 + name.source as u64 + 4 * (name.operation as u64);
+    let parts = name.start as u64 + PLACE * (name.end as u64);
+    let class = class.start as u64 + PLACE * (class.end as u64);
+    let characters = u64::from(name.from)
+        + CHARACTER * (u64::from(name.to) + CHARACTER * (name.size as u64));
+    let low = 1 + u64::from(name.source) + 4 * u64::from(name.operation);
     Words {
-        place: parts + 4294967296 * class,
+        place: parts + PLACE * PLACE * class,
         steps: low + 16 * characters,
     }
 }
 
 // The name of a record whose words these are.
-fn noted(place: u64, steps: u64) -> Decided
-    ensures { result ≡ noted place steps }
+#[tactic(auto, unfolding(crate::specs::told::Note::noted))]
+pub fn noted(words: Words) -> Option<Name>
+    ensures { result ≡ noted words.place words.steps }
 {
+    let Words { place, steps } = words;
     let kind = steps % 4;
     if kind == 0 {
-        return Decided::No;
+        return None;
     }
-    let name = Name {
+    Some(Name {
         source: (kind - 1) as u8,
-        start: (place % 65536) as usize,
-        end: (place / 65536 % 65536) as usize,
-        from: (steps / 4 / 4 % 2097152) as u32,
-        to: (steps / 4 / 4 / 2097152 % 2097152) as u32,
+        start: (place % PLACE) as usize,
+        end: (place / PLACE % PLACE) as usize,
+        from: (steps / 4 / 4 % CHARACTER) as u32,
+        to: (steps / 4 / 4 / CHARACTER % CHARACTER) as u32,
         operation: (steps / 4 % 4) as u8,
         qualified: false,
-        size: (steps / 4 / 4 / 2097152 / 2097152) as usize,
-    };
-    Decided::Yes { name }
+        size: (steps / 4 / 4 / CHARACTER / CHARACTER) as usize,
+    })
 }
 
 // The size of a class name's text: without L and ; it has two bytes less. It begins later than the name then.
@@ -54,41 +62,21 @@ pub fn class_size(size: usize, start: usize, first: usize) -> usize
     if first == start {
         return size;
     }
-    if size < 2 {
-        return 0;
-    }
-    size - 2
+    size.saturating_sub(2)
 }
 
 // Its class name.
-fn noted_class(place: u64, steps: u64) -> Decided
-    ensures { result ≡ noted_class place steps }
+#[tactic(auto, unfolding(crate::specs::told::Note::noted, crate::specs::told::Note::noted_class))]
+pub fn noted_class(words: Words) -> Option<Name>
+    ensures { result ≡ noted_class words.place words.steps }
 {
-    let answer = noted(place, steps);
-    let Decided::Yes { name } = answer else {
-        return Decided::No;
-    };
-    let first = (place / 65536 / 65536 % 65536) as usize;
-    Decided::Yes {
-        name: Name {
-            source: name.source,
-            start: first,
-            end: (place / 65536 / 65536 / 65536 % 65536) as usize,
-            from: name.from,
-            to: name.to,
-            operation: name.operation,
-            qualified: true,
-            size: class_size(name.size, name.start, first),
-        },
-    }
-}
-
-// The name, or with `class` the class name.
-pub fn noted_as(class: bool, place: u64, steps: u64) -> Decided
-    ensures { result ≡ noted_as class place steps }
-{
-    if class {
-        return noted_class(place, steps);
-    }
-    noted(place, steps)
+    let name = noted(words)?;
+    let start = (words.place / PLACE / PLACE % PLACE) as usize;
+    Some(Name {
+        start,
+        end: (words.place / PLACE / PLACE / PLACE % PLACE) as usize,
+        qualified: true,
+        size: class_size(name.size, name.start, start),
+        ..name
+    })
 }

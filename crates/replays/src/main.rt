@@ -8,11 +8,10 @@ use std::io::Read;
 // One input; false at the end.
 fn replay<R: Read>(rt: &impl Print, input: &mut R) -> io::Result<bool> {
     let mut head = [0u8; 4];
-    let got = read_full(input, &mut head);
-    if got < 4 {
+    if read_full(input, &mut head) < head.len() {
         return Ok(false);
     }
-    let size = line::input::four_in(&head, 0, 0);
+    let size = u32::from_le_bytes(head) as usize;
     let mut area = [0u8; 262190];
     let length = answer_lines::answer_input(input, size, &mut area);
     rt.write_all(&area[..length])?;
@@ -21,6 +20,7 @@ fn replay<R: Read>(rt: &impl Print, input: &mut R) -> io::Result<bool> {
 
 fn main(rt: HostRuntime) -> io::Result<()> {
     let mut input = rt.stdin();
+    // A loop has to end, and a reader need not.
     for _ in 0..1000000 {
         if !replay(&rt, &mut input)? {
             break;

@@ -8,7 +8,7 @@ ghost use Rattle.room.specs.Room as definition;
 ghost use Rattle.room.specs.told.RoomTold.{others_bytes, parameters_left, TextsRise, texts_between, tells_room};
 
 use declarations::body::Sections;
-use inputs::outcome::Outcome;
+use inputs::outcome::{Refusal, Sizes};
 use metadata::measure;
 
 // How many records of each kind, 1 to 9; `counts` are those of kind 9.
@@ -35,49 +35,27 @@ pub struct ListTexts {
     pub head: usize,
 }
 
-// Number and detail of a refusal (0 and 0: none), both lengths, the types, the records, the text by lists.
+// Both lengths and the types, the records, the text by lists.
 #[derive(Clone, Copy)]
 pub struct RoomAnswer {
-    pub number: u64,
-    pub detail: u64,
-    pub sheet: usize,
-    pub text: usize,
-    pub types: usize,
+    pub sizes: Sizes,
     pub records: Records,
     pub texts: ListTexts,
 }
 
 // The parameters' records. Every kind has a width of its own, so that they take what all the others leave of the sheet: 23 bytes are the head's and
 // kind 9's, 24 a constructor's with its kind 7, 29 a function's with its, 40 a property's, 13 an alias's, 10 a type's, 6 a parameter's.
-fn parameters_in(outcome: Outcome, sections: Sections) -> usize
-    requires { (others_bytes outcome sections ≤ outcome.sheet) × (outcome.sheet ≤ longest_sheet) }
-    ensures { result ≡ parameters_left outcome sections }
+fn parameters_in(sizes: Sizes, sections: Sections) -> usize
+    requires { (others_bytes sizes sections ≤ sizes.sheet) × (sizes.sheet ≤ longest_sheet) }
+    ensures { result ≡ parameters_left sizes sections }
 {
-    let constructors = sections.constructors;
-    let functions = sections.functions;
-    let properties = sections.properties;
-    let aliases = sections.aliases;
-    let closed = 24 * constructors.count + 29 * functions.count;
-    let others = 23 + closed + 40 * properties.count + 13 * aliases.count + 10 * outcome.types;
-    let parameters = outcome.sheet - others;
-    parameters / 6
-}
-
-// No record of any kind.
-fn no_records() -> Records
-    ensures { result ≡ record { heads = 0; constructors = 0; functions = 0; properties = 0; parameters = 0; types = 0; defaults = 0; aliases = 0; counts = 0 } }
-{
-    Records {
-        heads: 0,
-        constructors: 0,
-        functions: 0,
-        properties: 0,
-        parameters: 0,
-        types: 0,
-        defaults: 0,
-        aliases: 0,
-        counts: 0,
-    }
+    let closed = 24 * sections.constructors.count + 29 * sections.functions.count;
+    let others = 23
+        + closed
+        + 40 * sections.properties.count
+        + 13 * sections.aliases.count
+        + 10 * sizes.types;
+    (sizes.sheet - others) / 6
 }
 
 // The text of each list: what stands between where the text before it ends and where its own does. The aliases' ends where the whole text does.
@@ -85,82 +63,50 @@ fn texts_in(text: usize, sections: Sections) -> ListTexts
     requires { TextsRise text sections }
     ensures { result ≡ texts_between text sections }
 {
-    let head = sections.head;
-    let constructors = sections.constructors;
-    let constructors_end = constructors.state;
-    let functions = sections.functions;
-    let functions_end = functions.state;
-    let properties = sections.properties;
-    let properties_end = properties.state;
-    let of_properties = properties_end.text - functions_end.text;
-    let of_functions = functions_end.text - constructors_end.text;
-    let of_constructors = constructors_end.text - head.text;
-    let of_aliases = text - properties_end.text;
+    let head = sections.head.text;
+    let constructors = sections.constructors.state.text;
+    let functions = sections.functions.state.text;
+    let properties = sections.properties.state.text;
     ListTexts {
-        properties: of_properties,
-        functions: of_functions,
-        constructors: of_constructors,
-        aliases: of_aliases,
-        head: head.text,
-    }
-}
-
-// No text in any list.
-fn no_texts() -> ListTexts
-    ensures { result ≡ record { properties = 0; functions = 0; constructors = 0; aliases = 0; head = 0 } }
-{
-    ListTexts {
-        properties: 0,
-        functions: 0,
-        constructors: 0,
-        aliases: 0,
-        head: 0,
+        properties: properties - functions,
+        functions: functions - constructors,
+        constructors: constructors - head,
+        aliases: text - properties,
+        head,
     }
 }
 
 // Tells of one class, from k, mv, d1's units, d2's units and where its strings end, what its reading takes; or the refusal that reading gives
 // short of 11 and 12.
-pub fn room(k: i32, version: [i32; 3], d1: &[u16], d2: &[u16], ends: &[u32]) -> RoomAnswer
+pub fn room(
+    k: i32,
+    version: [i32; 3],
+    d1: &[u16],
+    d2: &[u16],
+    ends: &[u32],
+) -> Result<RoomAnswer, Refusal>
     ensures { definition.room (input k version d1.now d2.now ends.now) ≡ tells_room result }
 {
-    let reply = measure(k, version, &*d1, &*d2, &*ends);
-    let outcome = reply.outcome;
-    if outcome.number != 0 {
-        return RoomAnswer {
-            number: outcome.number,
-            detail: outcome.detail,
-            sheet: 0,
-            text: 0,
-            types: 0,
-            records: no_records(),
-            texts: no_texts(),
-        };
-    }
+    let reply = measure(k, version, d1, d2, ends)?;
+    let sizes = reply.sizes;
     let sections = reply.sections;
-    let parameters = parameters_in(outcome, sections);
-    let texts = texts_in(outcome.text, sections);
-    let constructors = sections.constructors;
-    let functions = sections.functions;
-    let properties = sections.properties;
-    let aliases = sections.aliases;
-    let defaults = constructors.count + functions.count;
-    RoomAnswer {
-        number: 0,
-        detail: 0,
-        sheet: outcome.sheet,
-        text: outcome.text,
-        types: outcome.types,
+    let parameters = parameters_in(sizes, sections);
+    let texts = texts_in(sizes.text, sections);
+    let constructors = sections.constructors.count;
+    let functions = sections.functions.count;
+    Ok(RoomAnswer {
+        sizes,
         records: Records {
             heads: 1,
-            constructors: constructors.count,
-            functions: functions.count,
-            properties: properties.count,
+            constructors,
+            functions,
+            properties: sections.properties.count,
             parameters,
-            types: outcome.types,
-            defaults,
-            aliases: aliases.count,
+            types: sizes.types,
+            defaults: constructors + functions,
+            aliases: sections.aliases.count,
             counts: 1,
         },
         texts,
-    }
+    })
 }

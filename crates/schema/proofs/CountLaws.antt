@@ -5,6 +5,8 @@ use mathlib.Core.List.{List}
 use Prim.Native.Nat.{ℕ, ◌+◌, ◌*◌, ◌^◌, ◌≤◌}
 use native.Mathlib.Omega.{arith}
 use lib.ListN.{length}
+use Rattle.std.specs.declared.option.Option.TheVariants.{Some}
+use Rattle.std.specs.declared.result.Result.TheVariants.{Ok}
 use Rattle.foundation.specs.Choices.{All}
 use Rattle.sheet.specs.Rows.{Cell}
 use Rattle.sheet.specs.told.Put.{PutHead, past}
@@ -12,12 +14,9 @@ use Rattle.sheet.specs.declared.State.{State}
 use Rattle.sheet.proofs.PutLaws.{put-types}
 use Rattle.declaration_rows.specs.told.Written as written
 use Rattle.declaration_rows.specs.told.Written.{cell_limit}
-use Rattle.schema.specs.told.SchemaTold.{Ready, Spends}
-use Rattle.schema.specs.told.MembersTold.{Affords, Within, PickedWithin, ListedWithin}
-use Rattle.schema.specs.declared.Listed.{Listed}
-use Rattle.schema.specs.declared.Listed.TheVariants as listed
-use Rattle.schema.specs.declared.Picked.{Picked}
-use Rattle.schema.specs.declared.Picked.TheVariants as picked
+use Rattle.schema.specs.told.SchemaTold.{Picked, Ready, Spends}
+use Rattle.schema.specs.told.MembersTold.{ListWalked, Affords, Within, PickedWithin, ListedWithin}
+use Rattle.schema.specs.declared.Section.{Section}
 use Rattle.declaration_rows.proofs.WrittenLaws.{Small, head-room}
 
 -- Steps one after the other; a step that takes no more than is said.
@@ -79,8 +78,8 @@ module _ {payload d2 : List ℕ} {n : ℕ} {s : State} (h : Affords payload d2 n
         record { counts = omega (arith, r.places, put-types p); types = omega (arith, put-types p) }
 
 -- The same of an answer that is known.
-pub picked_within : {n : ℕ} {s : State} {r : Picked} {s' : State} → PickedWithin n s r → r ≡ picked.Kept s' → Within n s s'
+pub picked_within : {n : ℕ} {s : State} {r : Picked} {s' : State} → PickedWithin n s r → r ≡ Ok (Some s') → Within n s s'
 picked_within {n} {s} h e = subst (PickedWithin n s) e h
 
-pub listed-within : {n : ℕ} {s : State} {r : Listed} {s' : State} {count : ℕ} → ListedWithin n s r → r ≡ listed.Done s' count → Within n s s'
+pub listed-within : {n : ℕ} {s : State} {r : ListWalked} {x : Section} → ListedWithin n s r → r ≡ Ok x → Within n s x.state
 listed-within {n} {s} h e = subst (ListedWithin n s) e h

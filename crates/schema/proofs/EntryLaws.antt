@@ -13,21 +13,21 @@ use Rattle.foundation.specs.Texts.{Text}
 use Rattle.foundation.proofs.PresenceLaws.{elem_none, elem_there}
 use Rattle.wire.specs.Wire.{Message}
 use Rattle.messages.specs.told.Asked.{index_told}
-use Rattle.wire.specs.declared.Piece.{Piece}
-use Rattle.wire.specs.declared.Piece.TheVariants as piece
-use Rattle.messages.specs.declared.Indexed.{Indexed}
-use Rattle.messages.specs.declared.Indexed.TheVariants as indexed
 use Rattle.names.specs.told.Index.{start_of, end_of}
 use Rattle.names.specs.Names.{Names, strings_from, d2_string}
 use Rattle.schema.specs.Reading.{pure, lift}
 use Rattle.schema.specs.told.SchemaTold.{EntryAt, EntriesOf, NamesOf}
 use Rattle.schema.specs.told.TypesTold.{EntryInside, EntryBelow, EntryTold}
+use Rattle.std.specs.declared.option.Option as rust
+use Rattle.std.specs.declared.option.Option.TheVariants.{Some, None}
+use Rattle.foundation.specs.declared.Span.{Span}
+use Rattle.messages.specs.told.Asked.{span}
 
 module _ (payload notes : List ℕ) (first count i : ℕ) {j : ℕ} (e : j ≡ i) where
-  pub entry_past : count ≤ j → EntryTold payload (drop first notes) count i piece.Nothing
+  pub entry_past : count ≤ j → EntryTold payload (drop first notes) count i None
   entry_past h = record { is = λ types o. elem_none types i (omega (arith, o.many)); inside = tt; below = tt }
 
-  pub entry-no-place : length notes - first ≤ j → EntryTold payload (drop first notes) count i piece.Nothing
+  pub entry-no-place : length notes - first ≤ j → EntryTold payload (drop first notes) count i None
   entry-no-place h = record { is = λ types o. elem_none types i (omega (arith, o.many, o.long, length-drop first notes)); inside = tt; below = tt }
 
   module _ {a b : ℕ} (f : a ≡ start_of (get_or notes (first + j) 0)) (g : b ≡ end_of (get_or notes (first + j) 0)) where
@@ -48,13 +48,13 @@ module _ (payload notes : List ℕ) (first count i : ℕ) {j : ℕ} (e : j ≡ i
         go none q = refl
         go (some m) q = absurd (h m q)
 
-    pub entry-outside : length payload < b → EntryTold payload (drop first notes) count i piece.Nothing
+    pub entry-outside : length payload < b → EntryTold payload (drop first notes) count i None
     entry-outside h = record { is = λ types o. nowhere types λ m q. omega (arith, (at types o m q).inside); inside = tt; below = tt }
 
-    pub entry-falls : b < a → EntryTold payload (drop first notes) count i piece.Nothing
+    pub entry-falls : b < a → EntryTold payload (drop first notes) count i None
     entry-falls h = record { is = λ types o. nowhere types λ m q. omega (arith, (at types o m q).ordered); inside = tt; below = tt }
 
-    pub entry_found : j < count → b ≤ length payload → a ≤ b → EntryTold payload (drop first notes) count i (piece.Body a b)
+    pub entry_found : j < count → b ≤ length payload → a ≤ b → EntryTold payload (drop first notes) count i (Some (span a b))
     entry_found h k l = record {
       is = λ types o. let m = elem_there types i (omega (arith, o.many)) in (m.0, m.1, (at types o m.0 m.1).cuts);
       inside = (l, k);
@@ -67,17 +67,17 @@ pub names-are : {payload d2 ends notes : List ℕ} {count : ℕ} {n : Names} →
 names-are {n = n} o = ap (λ (f : ℕ → Res (Option Text)). record { records = n.records; d2 = f }) o.strings
 
 -- a name by its index, as `name_in` and `class_name_in` are
-module _ (look : ℕ → Res (Option Text)) {o : Option ℕ} {y : Indexed} (e : o ≡ index_told y) (l : ℕ) where
-  pub looked-none : y ≡ indexed.Nothing → {t : Option Text} → t ≡ none → if_some o (pure none) (λ i. lift (look i)) l ≡ ok (t, l)
+module _ (look : ℕ → Res (Option Text)) {o : Option ℕ} {y : rust.Option ℕ} (e : o ≡ index_told y) (l : ℕ) where
+  pub looked-none : y ≡ None → {t : Option Text} → t ≡ none → if_some o (pure none) (λ i. lift (look i)) l ≡ ok (t, l)
   looked-none g h = rw (e, g, h)
 
-  pub looked-up : {i : ℕ} → y ≡ indexed.At i → {t : Option Text} → look i ≡ ok t → if_some o (pure none) (λ i. lift (look i)) l ≡ ok (t, l)
+  pub looked-up : {i : ℕ} → y ≡ Some i → {t : Option Text} → look i ≡ ok t → if_some o (pure none) (λ i. lift (look i)) l ≡ ok (t, l)
   looked-up g h = rw (e, g, h)
 
-pub entry_in : (payload entries : List ℕ) (count i : ℕ) {x : Piece} → EntryTold payload entries count i x → {a b : ℕ} → x ≡ piece.Body a b
+pub entry_in : (payload entries : List ℕ) (count i : ℕ) {x : rust.Option Span} → EntryTold payload entries count i x → {a b : ℕ} → x ≡ Some (span a b)
     → (a ≤ b) × (b ≤ length payload)
 entry_in payload entries count i t g = subst (EntryInside payload) g t.inside
 
-pub entry_below : (payload entries : List ℕ) (count i : ℕ) {x : Piece} → EntryTold payload entries count i x → {a b : ℕ} → x ≡ piece.Body a b
+pub entry_below : (payload entries : List ℕ) (count i : ℕ) {x : rust.Option Span} → EntryTold payload entries count i x → {a b : ℕ} → x ≡ Some (span a b)
     → i < count
 entry_below payload entries count i t g = subst (EntryBelow count i) g t.below

@@ -4,10 +4,11 @@ use mathlib.Core.Path.{◌≡◌, refl, ap, sym, subst, ◌∙◌}
 use mathlib.Core.Bool.{Bool, false}
 use mathlib.Core.List.{List, [], ◌∷◌}
 use mathlib.Core.Option.{Option, none, some}
-use Prim.Native.Nat.{ℕ, zero, suc, ◌+◌, ◌-◌, ◌^◌, ◌≤◌, ◌<◌}
+use Prim.Native.Nat.{ℕ, zero, suc, ◌+◌, ◌-◌, ◌≤◌, ◌<◌}
 use native.Mathlib.Omega.{arith}
-use lib.Dec.{leb}
 use lib.ListN.{length, take, drop, get_elem?}
+use Rattle.std.specs.declared.option.Option as rust
+use Rattle.std.specs.declared.option.Option.TheVariants.{Some, None}
 use Rattle.foundation.specs.Choices.{map_option}
 use Rattle.foundation.specs.Results as Results
 use Rattle.foundation.specs.Results.{Res, ok, refused, Part, ◌from◌}
@@ -16,24 +17,21 @@ use Rattle.wire.specs.Wire.{Message, cut}
 use Rattle.wire.specs.Messages.{index, cut_option, message, messages, cut_all}
 use Rattle.wire.specs.told.WireTold.{rest_of, part_between}
 use Rattle.messages.specs.told.Asked.{piece_told, PieceInside, BytesTold, index_told, bodies, NextIs, NextBodyTold, PieceAfter}
-use Rattle.wire.specs.declared.Piece.{Piece}
-use Rattle.wire.specs.declared.Piece.TheVariants as piece
-use Rattle.messages.specs.declared.Indexed.{Indexed}
-use Rattle.messages.specs.declared.Indexed.TheVariants as indexed
 use Rattle.wire.proofs.WalkLaws.{whole, ok_same}
 use Rattle.declaration_rows.specs.Declarations.{star, Ty, Argument, projected, blank}
 use Rattle.schema.specs.Reading.{Read, pure, enter, keep, kept, Scope, allowance}
 use Rattle.schema.specs.Types.{max_depth, type_in, projection_in, argument_in, type_at, declared_type}
-use Rattle.schema.specs.told.SchemaTold.{EntryAt, Stands, entries_in}
+use Rattle.schema.specs.told.SchemaTold.{entry_nullable, EntryAt, Stands, entries_in}
 use Rattle.schema.specs.told.TypesTold.{or_nullable, EntryIs, EntryInside, EntryTold}
-use Rattle.schema.specs.told.PlacesTold.{TableOf, FoundTypeTold, FoundTypeFalls, EntryFound, PlaceFound, head_type, Unnamed, ElementTold, DeclaredFound, ArgumentFound}
+use Rattle.schema.specs.told.PlacesTold.{found_type, TableOf, FoundTypeTold, FoundTypeFalls, EntryFound, PlaceFound, head_type, Unnamed, ElementTold, DeclaredFound, ArgumentFound}
 use Rattle.schema.specs.declared.Tables.{Tables}
 use Rattle.schema.specs.declared.FoundType.{FoundType}
-use Rattle.schema.specs.declared.FoundType.TheVariants as found
 use Rattle.schema.proofs.ArgumentLaws.{Typed, argument-star, argument-typed}
 use Rattle.schema.proofs.TypeLaws.{resolve_nothing, resolve_deep, resolve_entry}
 use Rattle.schema.proofs.ListLaws.{First, cut-first}
 use Rattle.schema.proofs.StandsLaws.{stands-cut, stands-entry, body-ends, body-stands, body_entry}
+use Rattle.foundation.specs.declared.Span.{Span}
+use Rattle.messages.specs.told.Asked.{span}
 
 -- A reading that was accepted: what it was made of was.
 pub never_given : {A B : Type 0} {c : Results.Cause} {p : ℕ} {a : A} → ◌≡◌ {A = Res A} (refused c p) (ok a) → B
@@ -50,7 +48,7 @@ first-same e = ap (λ q. q.0) (ok_same e)
 given-found : (payload : List ℕ) (c : Scope) (start end : ℕ) (m : Message) → EntryAt payload start end m → (d : ℕ) {left : ℕ} → left ≡ max_depth - d
     → (nullable : Bool) (o : Option Ty) (l b : ℕ)
     → Results.◌>>=◌ (type_at allowance c d m l) (λ q. pure (some (or_nullable nullable q.0)) q.1) ≡ ok (o, b)
-    → FoundTypeTold payload c o (found.Type start end nullable left)
+    → FoundTypeTold payload c o (Some (found_type start end nullable left))
 given-found payload c start end m at d deep nullable o l b e =
     let it = bind_given (type_at allowance c d m l) (λ q. pure (some (or_nullable nullable q.0)) q.1) e in (
       it.0.0,
@@ -60,27 +58,27 @@ given-found payload c start end m at d deep nullable o l b e =
 
 -- The type at an index.
 module _ (payload notes : List ℕ) (tables : Tables) (i left : ℕ) where
-  pub entry-none-left : left ≡ 0 → EntryFound payload notes tables i left found.Nothing
+  pub entry-none-left : left ≡ 0 → EntryFound payload notes tables i left None
   entry-none-left h = record {
     inside = tt;
     falls = tt;
     is = λ c t d deep o l b e. sym (first-same (sym (resolve_deep c d i l (omega arith)) ∙ e));
   }
 
-  module _ {x : Piece} (t : EntryTold payload (entries_in tables notes) tables.types i x) where
-    there : {y : Piece} → x ≡ y → (c : Scope) → TableOf payload notes tables c → EntryIs payload (get_elem? c.table.types i) y
+  module _ {x : rust.Option Span} (t : EntryTold payload (entries_in tables notes) tables.types i x) where
+    there : {y : rust.Option Span} → x ≡ y → (c : Scope) → TableOf payload notes tables c → EntryIs payload (get_elem? c.table.types i) y
     there g c o = subst (EntryIs payload (get_elem? c.table.types i)) g (t.is c.table.types o.entries)
 
-    pub entry-nowhere : x ≡ piece.Nothing → EntryFound payload notes tables i left found.Nothing
+    pub entry-nowhere : x ≡ None → EntryFound payload notes tables i left None
     entry-nowhere g = record {
       inside = tt;
       falls = tt;
       is = λ c s d deep o l b e. sym (first-same (sym (resolve_nothing c d i l (there g c s)) ∙ e));
     }
 
-    pub entry-there : length payload ≤ 32768 → (left ≡ 0 → ⊥) → i < 2 ^ 32 → {a b : ℕ} → x ≡ piece.Body a b
-        → EntryFound payload notes tables i left (found.Type a b (leb tables.first_nullable i) (left - 1))
-    entry-there short h k {a} {b} g =
+    pub entry-there : length payload ≤ 32768 → (left ≡ 0 → ⊥) → {n : Bool} → n ≡ entry_nullable tables.first_nullable i → {a b : ℕ} → x ≡ Some (span a b)
+        → EntryFound payload notes tables i left (Some (found_type a b n (left - 1)))
+    entry-there short h {n = nullable} k {a} {b} g =
         let inside = subst (EntryInside payload) g t.inside in
         record {
           inside = inside;
@@ -89,19 +87,19 @@ module _ (payload notes : List ℕ) (tables : Tables) (i left : ℕ) where
               let m = there g c s in
               let at : EntryAt payload a b m.0 = record { ordered = inside.0; inside = inside.1; cuts = m.2 } in
               let shallow : d < max_depth = omega arith in
-              given-found payload c a b m.0 at (d + 1) (omega arith) (leb tables.first_nullable i) o l n
-              (sym (resolve_entry c tables.first_nullable s.nullable d i l m.0 shallow k m.1) ∙ e);
+              given-found payload c a b m.0 at (d + 1) (omega arith) nullable o l n
+              (rw k (sym (resolve_entry c tables.first_nullable s.nullable d i l m.0 shallow m.1)) ∙ e);
         }
 
 -- The walk from a message goes as far as from the start at least.
-falls-more : (left start end start' end' : ℕ) → end - start ≤ end' - start' → (r : FoundType) → FoundTypeFalls left start end r → FoundTypeFalls left start' end' r
-falls-more left start end start' end' h (found.Type a b n l) f = (f.0, omega (arith, f.1))
-falls-more left start end start' end' h found.Nothing f = tt
+falls-more : (left start end start' end' : ℕ) → end - start ≤ end' - start' → (r : rust.Option FoundType) → FoundTypeFalls left start end r → FoundTypeFalls left start' end' r
+falls-more left start end start' end' h (Some x) f = (f.0, omega (arith, f.1))
+falls-more left start end start' end' h None f = tt
 
 -- A type inline in a message, whose cutting was accepted.
 given_inline : (payload : List ℕ) (c : Scope) (start end inline by_index : ℕ) (p : Part) → ((m : Message) → cut p ≡ ok m → EntryAt payload start end m)
     → (m : Message) (r : Res Message) → cut p ≡ r → message inline m ≡ Results.◌>>=◌ r (λ inner. ok (some inner)) → (d : ℕ) {left : ℕ} → left ≡ max_depth - d
-    → (o : Option Ty) (l n : ℕ) → type_in (type_at allowance c) c d inline by_index m l ≡ ok (o, n) → FoundTypeTold payload c o (found.Type start end false left)
+    → (o : Option Ty) (l n : ℕ) → type_in (type_at allowance c) c d inline by_index m l ≡ ok (o, n) → FoundTypeTold payload c o (Some (found_type start end false left))
 unfolding type_in
 given_inline payload c start end inline by_index p at m (ok inner) q f d deep o l n e =
     given-found payload c start end inner (at inner q) d deep false o l n (rw f at e)
@@ -109,30 +107,30 @@ given_inline payload c start end inline by_index p at m (refused cause place) q 
 
 -- The type in a message.
 module _ (payload notes : List ℕ) (tables : Tables) (msg : List ℕ) (base inline by_index left : ℕ) (st : Stands payload msg base)
-    {x : Piece} (t : BytesTold base msg inline x) where
-  here : {y : Piece} → x ≡ y → (m : Message) → EntryAt payload base (base + length msg) m → message inline m ≡ cut_option (piece_told base msg y)
+    {x : rust.Option Span} (t : BytesTold base msg inline x) where
+  here : {y : rust.Option Span} → x ≡ y → (m : Message) → EntryAt payload base (base + length msg) m → message inline m ≡ cut_option (piece_told base msg y)
   unfolding message
   here g m at = ap cut_option (t.is m (stands-cut st at) ∙ ap (piece_told base msg) g)
 
-  pub place_in : {a b : ℕ} → x ≡ piece.Body a b → (a ≤ b) × (b ≤ length msg) × (0 < a)
+  pub place_in : {a b : ℕ} → x ≡ Some (span a b) → (a ≤ b) × (b ≤ length msg) × (0 < a)
   place_in g = subst (PieceInside msg) g t.inside
 
-  pub place-inline : {a b : ℕ} → x ≡ piece.Body a b → {r : FoundType} → r ≡ found.Type (base + a) (base + b) false left
-      → PlaceFound payload notes tables base (base + length msg) inline by_index left r
-  place-inline {a} {b} g {r} q =
+  pub place-inline : {a b : ℕ} → x ≡ Some (span a b) → {y : FoundType} → y ≡ found_type (base + a) (base + b) false left
+      → PlaceFound payload notes tables base (base + length msg) inline by_index left (Some y)
+  place-inline {a} {b} g {y} q =
       let i = place_in g in
       let body = part_between base msg a b in
-      let told : PlaceFound payload notes tables base (base + length msg) inline by_index left (found.Type (base + a) (base + b) false left) = record {
+      let told : PlaceFound payload notes tables base (base + length msg) inline by_index left (Some (found_type (base + a) (base + b) false left)) = record {
         inside = (omega arith, omega (arith, st.inside));
         falls = (omega arith, omega arith);
         is = λ c s m at d deep o l n e.
             given_inline payload c (base + a) (base + b) inline by_index body (λ inner. body_entry st a b i.0 i.1) m
             (cut body) refl (here g m at) d deep o l n e;
       } in
-      subst (PlaceFound payload notes tables base (base + length msg) inline by_index left) (sym q) told
+      subst (λ (y : FoundType). PlaceFound payload notes tables base (base + length msg) inline by_index left (Some y)) (sym q) told
 
-  module _ (g : x ≡ piece.Nothing) {y : Indexed} (i : (m : Message) → cut (◌from◌ base msg) ≡ ok m → index by_index m ≡ index_told y) where
-    pub place-nowhere : y ≡ indexed.Nothing → PlaceFound payload notes tables base (base + length msg) inline by_index left found.Nothing
+  module _ (g : x ≡ None) {y : rust.Option ℕ} (i : (m : Message) → cut (◌from◌ base msg) ≡ ok m → index by_index m ≡ index_told y) where
+    pub place-nowhere : y ≡ None → PlaceFound payload notes tables base (base + length msg) inline by_index left None
     unfolding type_in
     place-nowhere h = record {
       inside = tt;
@@ -140,7 +138,7 @@ module _ (payload notes : List ℕ) (tables : Tables) (msg : List ℕ) (base inl
       is = λ c s m at d deep o l n e. sym (first-same (rw (here g m at, i m (stands-cut st at), h) at e));
     }
 
-    pub place-indexed : {k : ℕ} → y ≡ indexed.At k → {r : FoundType} → EntryFound payload notes tables k left r
+    pub place-indexed : {k : ℕ} → y ≡ Some k → {r : rust.Option FoundType} → EntryFound payload notes tables k left r
         → PlaceFound payload notes tables base (base + length msg) inline by_index left r
     unfolding type_in
     place-indexed h {r} f = record {
@@ -150,7 +148,7 @@ module _ (payload notes : List ℕ) (tables : Tables) (msg : List ℕ) (base inl
     }
 
 -- A declaration's own type, at depth 0.
-pub declared-found : {payload notes : List ℕ} {tables : Tables} {start end inline by_index : ℕ} {r : FoundType}
+pub declared-found : {payload notes : List ℕ} {tables : Tables} {start end inline by_index : ℕ} {r : rust.Option FoundType}
     → PlaceFound payload notes tables start end inline by_index max_depth r → DeclaredFound payload notes tables start end inline by_index r
 unfolding declared_type
 declared-found p = record { inside = p.inside; falls = p.falls; is = λ c s m at o l n e. p.is c s m at 0 refl o l n e }
@@ -190,18 +188,18 @@ pub record Passed (f : Message → Read (Option Argument)) (base : ℕ) (msg : L
   pub after : ℕ
   pub given : kept f others before ≡ ok (ts, after)
 
-module _ (f : Message → Read (Option Argument)) (base : ℕ) (msg : List ℕ) (at : ℕ) (ts : List Argument) (g : Passed f base msg at ts) {x : Piece}
+module _ (f : Message → Read (Option Argument)) (base : ℕ) (msg : List ℕ) (at : ℕ) (ts : List Argument) (g : Passed f base msg at ts) {x : rust.Option Span}
     (t : NextBodyTold base msg Type-argument at x) where
-  pub next_is : {y : Piece} → x ≡ y → NextIs base msg Type-argument g.rest y
+  pub next_is : {y : rust.Option Span} → x ≡ y → NextIs base msg Type-argument g.rest y
   next_is e = subst (NextIs base msg Type-argument g.rest) e (t.is g.rest g.cuts)
 
-  pub passed-all : x ≡ piece.Nothing → ts ≡ []
+  pub passed-all : x ≡ None → ts ≡ []
   unfolding cut_all kept
   passed-all e =
       let none_left : g.others ≡ [] = ok_same (sym g.many ∙ ap cut_all (next_is e)) in
       sym (first-same (ap (λ (ms : List Message). kept f ms g.before) (sym none_left) ∙ g.given))
 
-  module _ {a b : ℕ} (e : x ≡ piece.Body a b) where
+  module _ {a b : ℕ} (e : x ≡ Some (span a b)) where
     pub next : First (part_between base msg a b) (bodies Type-argument (next_is e).0) g.others
     next = cut-first (part_between base msg a b) (bodies Type-argument (next_is e).0) g.others (ap cut_all (sym (next_is e).2) ∙ g.many)
 
@@ -253,8 +251,8 @@ module _ (payload notes : List ℕ) (tables : Tables) (msg : List ℕ) (base lef
     };
   }
 
-  module _ (at : ℕ) (g : Seeking payload notes tables msg base left at) {x : Piece} (t : NextBodyTold base msg Type-argument at x) where
-    pub seeking-end : x ≡ piece.Nothing → ArgumentFound payload notes tables base (base + length msg) left found.Nothing
+  module _ (at : ℕ) (g : Seeking payload notes tables msg base left at) {x : rust.Option Span} (t : NextBodyTold base msg Type-argument at x) where
+    pub seeking-end : x ≡ None → ArgumentFound payload notes tables base (base + length msg) left None
     seeking-end q = record {
       inside = tt;
       falls = tt;
@@ -263,7 +261,7 @@ module _ (payload notes : List ℕ) (tables : Tables) (msg : List ℕ) (base lef
           (sym (passed-all (argument_in (type_at allowance c) c d) base msg at ts (g.passed c s m a ms h d deep ts l b e) t q)) tt;
     }
 
-    module _ {a b : ℕ} (q : x ≡ piece.Body a b) where
+    module _ {a b : ℕ} (q : x ≡ Some (span a b)) where
       pub seeking-in : (a ≤ b) × (b ≤ length msg) × (at < b)
       seeking-in = let i = subst (PieceInside msg) q t.inside in (i.0, i.1, subst (PieceAfter at) q t.later)
 
@@ -272,7 +270,7 @@ module _ (payload notes : List ℕ) (tables : Tables) (msg : List ℕ) (base lef
 
       -- A star is the first kept argument, and has no name.
       pub seeking-star : ((m : Message) → cut (◌from◌ (base + a) (take (b - a) (drop a msg))) ≡ ok m → projection_in m ≡ star)
-          → ArgumentFound payload notes tables base (base + length msg) left found.Nothing
+          → ArgumentFound payload notes tables base (base + length msg) left None
       seeking-star star-at = record {
         inside = tt;
         falls = tt;
@@ -286,7 +284,7 @@ module _ (payload notes : List ℕ) (tables : Tables) (msg : List ℕ) (base lef
             subst Unnamed (sym (passed-kept f base msg at ts k t q same)) refl;
       }
 
-      module _ (typed : Typed (base + a) (take (b - a) (drop a msg))) {r : FoundType}
+      module _ (typed : Typed (base + a) (take (b - a) (drop a msg))) {r : rust.Option FoundType}
           (p : PlaceFound payload notes tables (base + a) (base + a + length (take (b - a) (drop a msg))) Type-Argument-type Type-Argument-type_id left r) where
         -- what the place says of the next argument
         argument-found : (c : Scope) → TableOf payload notes tables c → (d : ℕ) → left ≡ max_depth - d → (ts : List Argument)
@@ -307,8 +305,8 @@ module _ (payload notes : List ℕ) (tables : Tables) (msg : List ℕ) (base lef
               sym (first-same it.2),
             )
 
-        pub seeking-kept : {u v : ℕ} {nullable : Bool} {w : ℕ} → r ≡ found.Type u v nullable w → ArgumentFound payload notes tables base (base + length msg) left r
-        seeking-kept {u} {v} {nullable} {w} e = record {
+        pub seeking-kept : {y : FoundType} → r ≡ Some y → ArgumentFound payload notes tables base (base + length msg) left r
+        seeking-kept {y} e = record {
           inside = p.inside;
           falls =
               let ends = body-ends st a b seeking-in.0 seeking-in.1 in
@@ -319,11 +317,11 @@ module _ (payload notes : List ℕ) (tables : Tables) (msg : List ℕ) (base lef
               let x = argument-found c s d deep ts k in
               let it = subst (FoundTypeTold payload c x.0) e x.2 in
               let kept-it = passed-kept f base msg at ts k t q (x.3 ∙ ap (map_option (projected x.1)) it.2) in
-              let told : FoundTypeTold payload c (head_type ts) (found.Type u v nullable w) = (it.0, it.1, kept-it) in
+              let told : FoundTypeTold payload c (head_type ts) (Some y) = (it.0, it.1, kept-it) in
               subst (ElementTold payload c (head_type ts)) (sym e) told;
         }
 
-        pub seeking-on : r ≡ found.Nothing → Seeking payload notes tables msg base left b
+        pub seeking-on : r ≡ None → Seeking payload notes tables msg base left b
         seeking-on e = record {
           passed = λ c s m h ms i d deep ts l n j.
               let f = argument_in (type_at allowance c) c d in

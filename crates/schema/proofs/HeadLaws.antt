@@ -8,6 +8,10 @@ use Prim.Native.Nat.{ℕ, ◌≤◌, ◌<◌}
 use native.Mathlib.Omega.{arith}
 use lib.Dec.{eqb}
 use lib.ListN.{length}
+use Rattle.std.specs.declared.option.Option as rust
+use Rattle.std.specs.Option.{option_flatten}
+use Rattle.std.specs.Prelude.{unwrap_or}
+use Rattle.std.specs.declared.option.Option.TheVariants.{Some, None}
 use Rattle.foundation.specs.Choices.{if_some}
 use Rattle.foundation.specs.Results.{ok, Part, ◌from◌}
 use Rattle.fields.specs.Fields.{Type-argument, Type-nullable, Type-class_name}
@@ -17,21 +21,19 @@ use Rattle.wire.specs.told.WireTold.{rest_of, value_of, FieldTold, value_number,
 use Rattle.messages.specs.told.Asked.{number_told, piece_told, index_told, bodies}
 use Rattle.wire.specs.declared.WireError.{WireError}
 use Rattle.wire.specs.declared.WireValue.{WireValue}
-use Rattle.wire.specs.declared.FieldStep.{FieldStep}
-use Rattle.wire.specs.declared.FieldStep.TheVariants as step
-use Rattle.wire.specs.declared.Piece.{Piece}
-use Rattle.wire.specs.declared.Piece.TheVariants as piece
-use Rattle.messages.specs.declared.Indexed.{Indexed}
-use Rattle.messages.specs.declared.Indexed.TheVariants as indexed
+use Rattle.wire.specs.declared.Field as code
+use Rattle.foundation.specs.declared.Read.{Read}
+use Rattle.std.specs.Prelude.{Ok, Err}
 use Rattle.wire.proofs.WalkLaws.{Leads, leads-start, leads-next, leads-never, leads-end, values-found, values-passed}
 use Rattle.messages.proofs.FindLaws.{as_number, as_piece}
 use Rattle.schema.specs.told.HeadTold.{is_body, any_of, NameKnown, FlagKnown, ArgumentsKnown, Known, HeadTold}
 use Rattle.schema.specs.declared.head.Seen.{Seen}
 use Rattle.schema.specs.declared.head.TypeHead.{TypeHead}
+use Rattle.foundation.specs.declared.Span.{Span}
 
-not_body : (p : Piece) → is_body p ≡ false → p ≡ piece.Nothing
-not_body (piece.Body start end) e = let z : ◌≡◌ {A = ℕ} 0 1 = cc in absurd (omega arith)
-not_body piece.Nothing e = refl
+not_body : (p : rust.Option Span) → is_body p ≡ false → p ≡ None
+not_body (Some p) e = let z : ◌≡◌ {A = ℕ} 0 1 = cc in absurd (omega arith)
+not_body None e = refl
 
 -- What a message says of field k, if its first field has another number, and of a field that is its first.
 module _ (k : ℕ) {n : ℕ} (v : Value) (m : Message) (h : n ≡ k → ⊥) where
@@ -52,7 +54,7 @@ module _ (k base : ℕ) (s : List ℕ) (v : WireValue) (m : Message) where
   varint-first = ap (λ (vs : List Value). if_some (first_of vs) none as_varint) (values-found k (value_of base s v) m refl) ∙ as_number base s v
 
   -- the bodies, by the piece that stands first
-  abbrev with-piece : Piece → List Part
+  abbrev with-piece : rust.Option Span → List Part
   with-piece p = if_some (piece_told base s p) (bodies k m) λ b. b ∷ bodies k m
 
   bodies-first : bodies k (field k (value_of base s v) ∷ m) ≡ with-piece (piece_of v)
@@ -67,46 +69,41 @@ module _ (k base : ℕ) (s : List ℕ) (v : WireValue) (m : Message) where
   bodies-some : is_body (piece_of v) ≡ true → any_of (bodies k (field k (value_of base s v) ∷ m)) ≡ true
   bodies-some e = ap any_of bodies-first ∙ there (piece_of v) e
     where
-      there : (p : Piece) → is_body p ≡ true → any_of (with-piece p) ≡ true
-      there (piece.Body start end) h = refl
-      there piece.Nothing h = let z : ◌≡◌ {A = ℕ} 0 1 = cc in absurd (omega arith)
+      there : (p : rust.Option Span) → is_body p ≡ true → any_of (with-piece p) ≡ true
+      there (Some p) h = refl
+      there None h = let z : ◌≡◌ {A = ℕ} 0 1 = cc in absurd (omega arith)
 
 -- One part of what is known: after a field with another number, after one that no longer counts, of one that was not seen, at the end.
-module _ (x : Indexed) (m : Message) where
-  name-other : {n : ℕ} (v : Value) (rest : Message) (t : Bool) → (n ≡ Type-class_name → ⊥) → NameKnown t x m (field n v ∷ rest) → NameKnown t x m rest
-  name-other v rest true h e = e
-  name-other v rest false h (e, g) = (e ∙ index-passed Type-class_name v rest h, g)
+module _ (m : Message) where
+  name-other : {n : ℕ} (v : Value) (rest : Message) (x : rust.Option (rust.Option ℕ)) → (n ≡ Type-class_name → ⊥) → NameKnown x m (field n v ∷ rest) → NameKnown x m rest
+  name-other v rest (Some x) h e = e
+  name-other v rest None h e = e ∙ index-passed Type-class_name v rest h
 
-  name-kept : (a b : Message) (t : Bool) → t ≡ true → NameKnown t x m a → NameKnown t x m b
-  name-kept a b true h e = e
-  name-kept a b false h e = let z : ◌≡◌ {A = ℕ} 0 1 = cc in absurd (omega arith)
+  name-kept : (a b : Message) {x : rust.Option (rust.Option ℕ)} {y : rust.Option ℕ} → x ≡ Some y → NameKnown x m a → NameKnown x m b
+  name-kept a b {x} h e = subst (λ (z : rust.Option (rust.Option ℕ)). NameKnown z m b) (sym h) (subst (λ (z : rust.Option (rust.Option ℕ)). NameKnown z m a) h e)
 
-  name-left : (a : Message) (t : Bool) → t ≡ false → NameKnown t x m a → index Type-class_name m ≡ index Type-class_name a
-  name-left a true h e = let z : ◌≡◌ {A = ℕ} 0 1 = cc in absurd (omega arith)
-  name-left a false h (e, g) = e
+  name-left : (a : Message) {x : rust.Option (rust.Option ℕ)} → x ≡ None → NameKnown x m a → index Type-class_name m ≡ index Type-class_name a
+  name-left a h e = subst (λ (z : rust.Option (rust.Option ℕ)). NameKnown z m a) h e
 
-  name-end : (t : Bool) → NameKnown t x m [] → index Type-class_name m ≡ index_told x
+  name-end : (x : rust.Option (rust.Option ℕ)) → NameKnown x m [] → index Type-class_name m ≡ index_told (option_flatten x)
   unfolding index varint_of values
-  name-end true e = e
-  name-end false (e, g) = e ∙ ap index_told (sym g)
+  name-end (Some x) e = e
+  name-end None e = e
 
-module _ (x : Bool) (m : Message) where
-  flag-other : {n : ℕ} (v : Value) (rest : Message) (t : Bool) → (n ≡ Type-nullable → ⊥) → FlagKnown t x m (field n v ∷ rest) → FlagKnown t x m rest
-  flag-other v rest true h e = e
-  flag-other v rest false h (e, g) = (e ∙ flag-passed Type-nullable v rest h, g)
+  flag-other : {n : ℕ} (v : Value) (rest : Message) (x : rust.Option Bool) → (n ≡ Type-nullable → ⊥) → FlagKnown x m (field n v ∷ rest) → FlagKnown x m rest
+  flag-other v rest (Some x) h e = e
+  flag-other v rest None h e = e ∙ flag-passed Type-nullable v rest h
 
-  flag-kept : (a b : Message) (t : Bool) → t ≡ true → FlagKnown t x m a → FlagKnown t x m b
-  flag-kept a b true h e = e
-  flag-kept a b false h e = let z : ◌≡◌ {A = ℕ} 0 1 = cc in absurd (omega arith)
+  flag-kept : (a b : Message) {x : rust.Option Bool} {y : Bool} → x ≡ Some y → FlagKnown x m a → FlagKnown x m b
+  flag-kept a b {x} h e = subst (λ (z : rust.Option Bool). FlagKnown z m b) (sym h) (subst (λ (z : rust.Option Bool). FlagKnown z m a) h e)
 
-  flag-left : (a : Message) (t : Bool) → t ≡ false → FlagKnown t x m a → flag Type-nullable m ≡ flag Type-nullable a
-  flag-left a true h e = let z : ◌≡◌ {A = ℕ} 0 1 = cc in absurd (omega arith)
-  flag-left a false h (e, g) = e
+  flag-left : (a : Message) {x : rust.Option Bool} → x ≡ None → FlagKnown x m a → flag Type-nullable m ≡ flag Type-nullable a
+  flag-left a h e = subst (λ (z : rust.Option Bool). FlagKnown z m a) h e
 
-  flag-end : (t : Bool) → FlagKnown t x m [] → flag Type-nullable m ≡ x
+  flag-end : (x : rust.Option Bool) → FlagKnown x m [] → flag Type-nullable m ≡ unwrap_or x false
   unfolding flag varint_of values
-  flag-end true e = e
-  flag-end false (e, g) = e ∙ sym g
+  flag-end (Some x) e = e
+  flag-end None e = e
 
 module _ (m : Message) where
   arguments-other : {n : ℕ} (v : Value) (rest : Message) (t : Bool) → (n ≡ Type-argument → ⊥) → ArgumentsKnown t m (field n v ∷ rest) → ArgumentsKnown t m rest
@@ -138,70 +135,70 @@ module _ (x : Seen) (v : WireValue) (base : ℕ) (s : List ℕ) (m rest : Messag
   pub known-other : {n : ℕ} → (n ≡ Type-argument → ⊥) → (n ≡ Type-nullable → ⊥) → (n ≡ Type-class_name → ⊥)
       → Known x m (field n (value_of base s v) ∷ rest) → Known x m rest
   known-other a b c k = record {
-    name = name-other x.name m (value_of base s v) rest x.named c k.name;
-    nullable = flag-other x.nullable m (value_of base s v) rest x.flagged b k.nullable;
+    name = name-other m (value_of base s v) rest x.name c k.name;
+    nullable = flag-other m (value_of base s v) rest x.nullable b k.nullable;
     arguments = arguments-other m (value_of base s v) rest x.arguments a k.arguments;
   }
 
   module _ (k : Known x m (field Type-class_name (value_of base s v) ∷ rest)) where
-    named-nullable : FlagKnown x.flagged x.nullable m rest
-    named-nullable = flag-other x.nullable m (value_of base s v) rest x.flagged (λ e. omega arith) k.nullable
+    named-nullable : FlagKnown x.nullable m rest
+    named-nullable = flag-other m (value_of base s v) rest x.nullable (λ e. omega arith) k.nullable
 
     named-arguments : ArgumentsKnown x.arguments m rest
     named-arguments = arguments-other m (value_of base s v) rest x.arguments (λ e. omega arith) k.arguments
 
-    pub known-named : x.named ≡ true → Known x m rest
+    pub known-named : {y : rust.Option ℕ} → x.name ≡ Some y → Known x m rest
     known-named h = record {
-      name = name-kept x.name m (field Type-class_name (value_of base s v) ∷ rest) rest x.named h k.name;
+      name = name-kept m (field Type-class_name (value_of base s v) ∷ rest) rest h k.name;
       nullable = named-nullable;
       arguments = named-arguments;
     }
 
-    pub known-name : x.named ≡ false → (y : Indexed)
+    pub known-name : x.name ≡ None → (y : rust.Option ℕ)
         → ((k : ℕ) (m : Message) → varint_of k m ≡ number_told (value_number v) → index k m ≡ index_told y)
-        → Known (record { named = true; name = y; flagged = x.flagged; nullable = x.nullable; arguments = x.arguments }) m rest
+        → Known (record { name = Some y; nullable = x.nullable; arguments = x.arguments }) m rest
     known-name h y t =
         let here = field Type-class_name (value_of base s v) ∷ rest in
         record {
-          name = name-left x.name m here x.named h k.name ∙ t Type-class_name here (varint-first Type-class_name base s v rest);
+          name = name-left m here h k.name ∙ t Type-class_name here (varint-first Type-class_name base s v rest);
           nullable = named-nullable;
           arguments = named-arguments;
         }
 
   module _ (k : Known x m (field Type-nullable (value_of base s v) ∷ rest)) where
-    flagged-name : NameKnown x.named x.name m rest
-    flagged-name = name-other x.name m (value_of base s v) rest x.named (λ e. omega arith) k.name
+    flagged-name : NameKnown x.name m rest
+    flagged-name = name-other m (value_of base s v) rest x.name (λ e. omega arith) k.name
 
     flagged-arguments : ArgumentsKnown x.arguments m rest
     flagged-arguments = arguments-other m (value_of base s v) rest x.arguments (λ e. omega arith) k.arguments
 
-    pub known-flagged : x.flagged ≡ true → Known x m rest
+    pub known-flagged : {y : Bool} → x.nullable ≡ Some y → Known x m rest
     known-flagged h = record {
       name = flagged-name;
-      nullable = flag-kept x.nullable m (field Type-nullable (value_of base s v) ∷ rest) rest x.flagged h k.nullable;
+      nullable = flag-kept m (field Type-nullable (value_of base s v) ∷ rest) rest h k.nullable;
       arguments = flagged-arguments;
     }
 
-    pub known-flag : x.flagged ≡ false → (y : Bool)
+    pub known-flag : x.nullable ≡ None → (y : Bool)
         → ((k : ℕ) (m : Message) → varint_of k m ≡ number_told (value_number v) → flag k m ≡ y)
-        → Known (record { named = x.named; name = x.name; flagged = true; nullable = y; arguments = x.arguments }) m rest
+        → Known (record { name = x.name; nullable = Some y; arguments = x.arguments }) m rest
     known-flag h y t =
         let here = field Type-nullable (value_of base s v) ∷ rest in
         record {
           name = flagged-name;
-          nullable = flag-left x.nullable m here x.flagged h k.nullable ∙ t Type-nullable here (varint-first Type-nullable base s v rest);
+          nullable = flag-left m here h k.nullable ∙ t Type-nullable here (varint-first Type-nullable base s v rest);
           arguments = flagged-arguments;
         }
 
   module _ (k : Known x m (field Type-argument (value_of base s v) ∷ rest)) where
-    argument-name : NameKnown x.named x.name m rest
-    argument-name = name-other x.name m (value_of base s v) rest x.named (λ e. omega arith) k.name
+    argument-name : NameKnown x.name m rest
+    argument-name = name-other m (value_of base s v) rest x.name (λ e. omega arith) k.name
 
-    argument-nullable : FlagKnown x.flagged x.nullable m rest
-    argument-nullable = flag-other x.nullable m (value_of base s v) rest x.flagged (λ e. omega arith) k.nullable
+    argument-nullable : FlagKnown x.nullable m rest
+    argument-nullable = flag-other m (value_of base s v) rest x.nullable (λ e. omega arith) k.nullable
 
     pub known-argument : is_body (piece_of v) ≡ true
-        → Known (record { named = x.named; name = x.name; flagged = x.flagged; nullable = x.nullable; arguments = true }) m rest
+        → Known (record { name = x.name; nullable = x.nullable; arguments = true }) m rest
     known-argument h = record {
       name = argument-name;
       nullable = argument-nullable;
@@ -220,29 +217,31 @@ abbrev pub Seeing : ℕ → List ℕ → ℕ → Seen → Type 0
 Seeing base s at x = Leads (Known x) (◌from◌ base s) (rest_of base s at)
 
 abbrev pub none_seen : Seen
-none_seen = record { named = false; name = indexed.Nothing; flagged = false; nullable = false; arguments = false }
+none_seen = record { name = None; nullable = None; arguments = false }
 
 module _ (base : ℕ) (s : List ℕ) where
   pub seeing-start : Seeing base s 0 none_seen
-  seeing-start = leads-start (Known none_seen) base s λ m. record { name = (refl, refl); nullable = (refl, refl); arguments = refl }
+  seeing-start = leads-start (Known none_seen) base s λ m. record { name = refl; nullable = refl; arguments = refl }
 
   module _ (at : ℕ) (x : Seen) (l : Seeing base s at x) where
     pub seeing-end : length s ≤ at → (m : Message) → cut (◌from◌ base s) ≡ ok m → Known x m []
     seeing-end h = leads-end (Known x) (◌from◌ base s) base s at l h
 
-    module _ {r : FieldStep} (e : FieldTold base s (read_field (rest_of base s at)) r) (h : at < length s) where
-      pub seeing-never : {error : WireError} → r ≡ step.Refused error → (m : Message) → cut (◌from◌ base s) ≡ ok m → Known x m []
-      seeing-never g m w = leads-never (◌from◌ base s) base s at e h (Known x) l g m w
+    module _ (h : at < length s) where
+      pub seeing-never : (error : WireError) → FieldTold base s (read_field (rest_of base s at)) (Err error)
+          → (m : Message) → cut (◌from◌ base s) ≡ ok m → Known x m []
+      seeing-never error e m w = leads-never (◌from◌ base s) base s at error e h (Known x) l m w
 
-      pub seeing-next : {n : ℕ} {v : WireValue} (next : ℕ) → r ≡ step.Field n v next → (y : Seen)
-          → ((base : ℕ) (s : List ℕ) (m rest : Message) → Known x m (field n (value_of base s v) ∷ rest) → Known y m rest) → Seeing base s next y
-      seeing-next next g y t = leads-next (◌from◌ base s) base s at e h (Known x) (Known y) l next g (t base s)
+      pub seeing-next : (r : Read code.Field) → FieldTold base s (read_field (rest_of base s at)) (Ok r) → (y : Seen)
+          → ((base : ℕ) (s : List ℕ) (m rest : Message) → Known x m (field r.value.number (value_of base s r.value.value) ∷ rest) → Known y m rest)
+          → Seeing base s r.next y
+      seeing-next r e y t = leads-next (◌from◌ base s) base s at r e h (Known x) (Known y) l (t base s)
 
   pub head-told : (x : Seen) → ((m : Message) → cut (◌from◌ base s) ≡ ok m → Known x m [])
-      → HeadTold base s (record { name = x.name; nullable = x.nullable; arguments = x.arguments })
+      → HeadTold base s (record { name = option_flatten x.name; nullable = unwrap_or x.nullable false; arguments = x.arguments })
   head-told x k = record {
-    name = λ m w. name-end x.name m x.named (k m w).name;
-    nullable = λ m w. flag-end x.nullable m x.flagged (k m w).nullable;
+    name = λ m w. name-end m x.name (k m w).name;
+    nullable = λ m w. flag-end m x.nullable (k m w).nullable;
     arguments = λ m w. arguments-end m x.arguments (k m w).arguments;
   }
 

@@ -18,5 +18,4 @@ pub mod FoundLaws
 pub mod GivenLaws
 pub mod EachLaws
 pub mod HeadLaws
-pub mod FlagLaws
 pub mod ReceiverLaws

@@ -7,6 +7,8 @@ use Prim.Native.Nat.{ℕ, ◌+◌, ◌-◌, ◌*◌, ◌≤◌, ◌<◌}
 use native.Mathlib.Nat.{add-zero, zero-add, mul-le-mul_left}
 use native.Mathlib.Omega.{arith}
 use lib.ListN.{length, take, drop, length-take}
+use Rattle.std.specs.declared.option.Option.TheVariants.{Some, None}
+use Rattle.std.specs.declared.result.Result.TheVariants.{Ok, Err}
 use Rattle.foundation.specs.Choices.{concat}
 use Rattle.foundation.specs.Results as Results
 use Rattle.foundation.specs.Results.{Res, ok, refused, Part, ◌from◌}
@@ -15,10 +17,6 @@ use Rattle.wire.specs.Messages.{cut_all, messages}
 use Rattle.wire.specs.told.WireTold.{rest_of, part_between}
 use Rattle.messages.specs.told.Asked.{CheckedTold, bodies, NextIs, NextBodyTold, PieceInside, PieceBegins}
 use Rattle.wire.specs.declared.WireError.{WireError}
-use Rattle.messages.specs.declared.Checked.{Checked}
-use Rattle.messages.specs.declared.Checked.TheVariants as checked
-use Rattle.wire.specs.declared.Piece.{Piece}
-use Rattle.wire.specs.declared.Piece.TheVariants as piece
 use Rattle.wire.proofs.WalkLaws.{whole, ok_same}
 use Rattle.sheet.specs.Rows.{Row, sheet_from, texts}
 use Rattle.sheet.specs.told.Put.{PutRows}
@@ -26,16 +24,16 @@ use Rattle.sheet.specs.declared.State.{State}
 use Rattle.sheet.proofs.PutLaws.{put_none, put-types, rows_then}
 use Rattle.schema.specs.Reading.{Read, keep, kept, Scope}
 use Rattle.schema.specs.Members.{list_in}
-use Rattle.schema.specs.told.SchemaTold.{Lent, Scoped, PickedTold, stop_refused}
-use Rattle.schema.specs.told.MembersTold.{Affords, Within, ListedTold, MemberTold, ListTold}
+use Rattle.schema.specs.told.SchemaTold.{Lent, Scoped, Picked, PickedTold, stop_refused}
+use Rattle.schema.specs.told.MembersTold.{ListWalked, section, Affords, Within, ListedTold, MemberTold, ListTold}
 use Rattle.schema.specs.told.ListsTold.{ListAtTold}
 use Rattle.schema.specs.declared.Stop.{Stop}
 use Rattle.schema.specs.declared.Stop.TheVariants as stop
-use Rattle.schema.specs.declared.Listed.{Listed}
-use Rattle.schema.specs.declared.Listed.TheVariants as listed
-use Rattle.schema.specs.declared.Picked.{Picked}
-use Rattle.schema.specs.declared.Picked.TheVariants as picked
 use Rattle.schema.proofs.CountLaws.{within_none, within_both, within_less, affords-after, picked_within}
+use Rattle.std.specs.declared.option.Option as rust
+use Rattle.std.specs.declared.result.Result.{Result}
+use Rattle.foundation.specs.declared.Span.{Span}
+use Rattle.messages.specs.told.Asked.{span}
 
 -- A list of parts that can be cut: its first, and the others.
 pub record First (p : Part) (ps : List Part) (ms : List Message) : Type 0 where
@@ -79,13 +77,13 @@ pub record Going {A : Type 0} (f : Message → Read (Option A)) (rows : A → Li
   pub stopped : (stop : Stop) → kept f left s.types ≡ stop_refused stop → kept f all s₀.types ≡ stop_refused stop
   pub done : (xs : List A) (b : ℕ) (s' : State) (S' T' : List ℕ) → kept f left s.types ≡ ok (xs, b)
       → PutRows (concat (map rows xs)) b s s' S S' T T'
-      → ListedTold (kept f all s₀.types) rows s₀ (listed.Done s' (count + length xs)) S₀ S' T₀ T'
+      → ListedTold (kept f all s₀.types) rows s₀ (Ok (section s' (count + length xs))) S₀ S' T₀ T'
 
 module _ {A : Type 0} (f : Message → Read (Option A)) (rows : A → List Row) (number : ℕ) (all : List Message) (s₀ : State) (S₀ T₀ : List ℕ) (base : ℕ)
     (msg : List ℕ) where
-  counted : (s' : State) (S' T' : List ℕ) {j k : ℕ} → j ≡ k → ListedTold (kept f all s₀.types) rows s₀ (listed.Done s' j) S₀ S' T₀ T'
-      → ListedTold (kept f all s₀.types) rows s₀ (listed.Done s' k) S₀ S' T₀ T'
-  counted s' S' T' e h = subst (λ (n : ℕ). ListedTold (kept f all s₀.types) rows s₀ (listed.Done s' n) S₀ S' T₀ T') e h
+  counted : (s' : State) (S' T' : List ℕ) {j k : ℕ} → j ≡ k → ListedTold (kept f all s₀.types) rows s₀ (Ok (section s' j)) S₀ S' T₀ T'
+      → ListedTold (kept f all s₀.types) rows s₀ (Ok (section s' k)) S₀ S' T₀ T'
+  counted s' S' T' e h = subst (λ (n : ℕ). ListedTold (kept f all s₀.types) rows s₀ (Ok (section s' n)) S₀ S' T₀ T') e h
 
   pub going_start : (m : Message) → cut (◌from◌ base msg) ≡ ok m → messages number m ≡ ok all → Going f rows number all s₀ S₀ T₀ base msg 0 0 s₀ S₀ T₀
   unfolding messages
@@ -98,18 +96,18 @@ module _ {A : Type 0} (f : Message → Read (Option A)) (rows : A → List Row) 
     done = λ xs b s' S' T' e p. (xs, b, e, zero-add (length xs), p);
   }
 
-  module _ (at count : ℕ) (s : State) (S T : List ℕ) (g : Going f rows number all s₀ S₀ T₀ base msg at count s S T) {x : Piece} (t : NextBodyTold base msg number at x) where
-    next-is : {y : Piece} → x ≡ y → NextIs base msg number g.rest y
+  module _ (at count : ℕ) (s : State) (S T : List ℕ) (g : Going f rows number all s₀ S₀ T₀ base msg at count s S T) {x : rust.Option Span} (t : NextBodyTold base msg number at x) where
+    next-is : {y : rust.Option Span} → x ≡ y → NextIs base msg number g.rest y
     next-is e = subst (NextIs base msg number g.rest) e (t.is g.rest g.cuts)
 
-    pub going_end : x ≡ piece.Nothing → ListedTold (kept f all s₀.types) rows s₀ (listed.Done s count) S₀ S T₀ T
+    pub going_end : x ≡ None → ListedTold (kept f all s₀.types) rows s₀ (Ok (section s count)) S₀ S T₀ T
     unfolding cut_all kept sheet_from texts
     going_end e =
         let none_left : g.left ≡ [] = ok_same (sym g.many ∙ ap cut_all (next-is e)) in
         counted s S T (add-zero count)
         (g.done [] s.types s S T (ap (λ (l : List Message). kept f l s.types) none_left) (put_none s S T))
 
-    module _ {a b : ℕ} (e : x ≡ piece.Body a b) where
+    module _ {a b : ℕ} (e : x ≡ Some (span a b)) where
       the_rest : Message
       the_rest = (next-is e).0
 
@@ -194,15 +192,15 @@ module _ {A : Type 0} {read : Scope → Message → Read (Option A)} {rows : A �
     going = λ c o m k ms h. going_start (read c) rows number ms s₀ S₀ T₀ base msg m k h;
   }
 
-  module _ {at count : ℕ} {s : State} {S T : List ℕ} (g : Looping read rows unit e msg base number s₀ S₀ T₀ at count s S T) {x : Piece}
+  module _ {at count : ℕ} {s : State} {S T : List ℕ} (g : Looping read rows unit e msg base number s₀ S₀ T₀ at count s S T) {x : rust.Option Span}
       (t : NextBodyTold base msg number at x) where
-    pub loop-end : x ≡ piece.Nothing → ListAtTold read rows (unit * length msg) e msg base number s₀ (listed.Done s count) S₀ S T₀ T
+    pub loop-end : x ≡ None → ListAtTold read rows (unit * length msg) e msg base number s₀ (Ok (section s count)) S₀ S T₀ T
     loop-end q = record {
       spends = within_less (unit * length msg) (mul-le-mul_left unit g.inside) g.spends;
       is = λ c o m k ms h. going_end (read c) rows number ms s₀ S₀ T₀ base msg at count s S T (g.going c o m k ms h) t q;
     }
 
-    module _ {a b : ℕ} (q : x ≡ piece.Body a b) where
+    module _ {a b : ℕ} (q : x ≡ Some (span a b)) where
       pub member-in : (at < a) × (a ≤ b) × (b ≤ length msg)
       member-in =
           let i = subst (PieceInside msg) q t.inside in
@@ -220,7 +218,7 @@ module _ {A : Type 0} {read : Scope → Message → Read (Option A)} {rows : A �
               → PickedTold (read c m s.types) rows s y S S' T T'
           member_is c o m k {y} w = subst (λ (z : Picked). PickedTold (read c m s.types) rows s z S S' T T') w (u.is c o m k)
 
-          pub loop-refused : {stop : Stop} → r ≡ picked.Refused stop → ListAtTold read rows (unit * length msg) e msg base number s₀ (listed.Refused stop) S₀ S' T₀ T'
+          pub loop-refused : {stop : Stop} → r ≡ Err stop → ListAtTold read rows (unit * length msg) e msg base number s₀ (Err stop) S₀ S' T₀ T'
           loop-refused {stop} w = record {
             spends = tt;
             is = λ c o m k ms h.
@@ -229,7 +227,7 @@ module _ {A : Type 0} {read : Scope → Message → Read (Option A)} {rows : A �
                 going-refused (read c) rows number ms s₀ S₀ T₀ base msg at count s S T go t q stop (member_is c o _ cuts w);
           }
 
-          pub loop-dropped : r ≡ picked.Dropped → Looping read rows unit e msg base number s₀ S₀ T₀ b count s S' T'
+          pub loop-dropped : r ≡ Ok None → Looping read rows unit e msg base number s₀ S₀ T₀ b count s S' T'
           loop-dropped w = record {
             few = omega (arith, g.few, member-in);
             inside = member-in.2;
@@ -243,7 +241,7 @@ module _ {A : Type 0} {read : Scope → Message → Read (Option A)} {rows : A �
                 (subst (λ (y : List ℕ). Going (read c) rows number ms s₀ S₀ T₀ base msg b count s S y) (sym told.2) same);
           }
 
-          pub loop-kept : {s₁ : State} → r ≡ picked.Kept s₁ → Looping read rows unit e msg base number s₀ S₀ T₀ b (count + 1) s₁ S' T'
+          pub loop-kept : {s₁ : State} → r ≡ Ok (Some s₁) → Looping read rows unit e msg base number s₀ S₀ T₀ b (count + 1) s₁ S' T'
           loop-kept {s₁} w = record {
             few = omega (arith, g.few, member-in);
             inside = member-in.2;
@@ -264,18 +262,18 @@ unfolding list_in
 list_is f number m l e = rw e
 
 module _ {A : Type 0} {read : Scope → Message → Read (Option A)} {rows : A → List Row} {cost : ℕ} {e : Lent} {msg : List ℕ} {base number : ℕ} {s : State}
-    (x : Checked) (t : (m : Message) → cut (◌from◌ base msg) ≡ ok m → CheckedTold (messages number m) x) where
-  pub list-uncut : {error err : WireError} → x ≡ checked.Refused error → err ≡ error → {S S' T T' : List ℕ}
-      → ListTold read rows cost e msg base number s (listed.Refused (stop.Wire err)) S S' T T'
+    (x : Result Unit WireError) (t : (m : Message) → cut (◌from◌ base msg) ≡ ok m → CheckedTold (messages number m) x) where
+  pub list-uncut : {error : WireError} → x ≡ Err error → {S S' T T' : List ℕ}
+      → ListTold read rows cost e msg base number s (Err (stop.Wire error)) S S' T T'
   unfolding list_in
-  list-uncut {error} {err} g q = record {
+  list-uncut {error} g = record {
     spends = tt;
     is = λ c o m k.
         let cuts : messages number m ≡ stop_refused (stop.Wire error) = subst (CheckedTold (messages number m)) g (t m k) in
-        rw (q, cuts);
+        rw cuts;
   }
 
-  pub list-cut : x ≡ checked.Whole → {r : Listed} {S S' T T' : List ℕ} → ListAtTold read rows cost e msg base number s r S S' T T'
+  pub list-cut : x ≡ Ok tt → {r : ListWalked} {S S' T T' : List ℕ} → ListAtTold read rows cost e msg base number s r S S' T T'
       → ListTold read rows cost e msg base number s r S S' T T'
   list-cut g {r} {S} {S'} {T} {T'} u = record {
     spends = u.spends;

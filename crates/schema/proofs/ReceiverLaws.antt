@@ -12,18 +12,18 @@ use Rattle.foundation.specs.Results.{Res, ok, refused, Part}
 use Rattle.foundation.proofs.ResultLaws.{Gives, gives_bind, gives-ok}
 use Rattle.wire.specs.Wire.{Message, cut, Value}
 use Rattle.wire.specs.Messages.{value, varint_of, index, bytes_of, cut_option, message}
-use Rattle.messages.specs.told.Asked.{found_told, FoundTold, piece_told, BytesTold}
+use Rattle.messages.specs.told.Asked.{FoundTold, piece_told, BytesTold}
 use Rattle.wire.specs.declared.WireValue.{WireValue}
-use Rattle.messages.specs.declared.Found.{Found}
-use Rattle.messages.specs.declared.Found.TheVariants as found
-use Rattle.wire.specs.declared.Piece.{Piece}
-use Rattle.wire.specs.declared.Piece.TheVariants as piece
 use Rattle.wire.proofs.Later.{gives_any}
 use Rattle.wire.proofs.WalkLaws.{ok_same}
 use Rattle.declaration_rows.specs.Declarations.{Ty}
 use Rattle.schema.specs.Reading.{Read, pure, ◌>>=◌, Scope, lift}
 use Rattle.schema.specs.Types.{Walk, resolve_at, type_in, declared_type}
 use Rattle.schema.specs.told.ReceiversTold.{ReceiverTold}
+use Rattle.std.specs.Option as found
+use Rattle.std.specs.declared.option.Option as rust
+use Rattle.std.specs.declared.option.Option.TheVariants.{Some, None}
+use Rattle.foundation.specs.declared.Span.{Span}
 
 or_true : (b : Bool) → (b || true) ≡ true
 or_true true = refl
@@ -55,24 +55,27 @@ module _ (walk : Walk) (s : Scope) (d inline indexed : ℕ) (m : Message) (l : �
   unfolding type_in message index varint_of
   type-nowhere e f = rw (e, f)
 
--- What the code finds of the two fields.
-module _ (msg : List ℕ) (base inline indexed : ℕ) {x : Piece} (t : BytesTold base msg inline x) where
-  pub receiver-inline : {a b : ℕ} → x ≡ piece.Body a b → ReceiverTold msg base inline indexed true
+-- What the code finds of the two fields, by whether it is there.
+absent_is : {A : Type 0} (o : rust.Option A) → found.is_some o ≡ false → o ≡ None
+absent_is (Some x) e = let z : ◌≡◌ {A = ℕ} 0 1 = cc in absurd (omega arith)
+absent_is None e = refl
+
+module _ (msg : List ℕ) (base inline indexed : ℕ) {x : rust.Option Span} (t : BytesTold base msg inline x) where
+  inline-is : (y : rust.Option Span) → x ≡ y → found.is_some y ≡ true → ReceiverTold msg base inline indexed true
   unfolding declared_type
-  receiver-inline e c m l o b k h =
-      let there = gives-ok (λ q. is_some q.0 ≡ true) h (inline-there _ c 0 inline indexed m l (t.is m k ∙ ap (piece_told base msg) e)) in
+  inline-is None e h c m l o b k f = let z : ◌≡◌ {A = ℕ} 0 1 = cc in absurd (omega arith)
+  inline-is (Some p) e h c m l o b k f =
+      let there = gives-ok (λ q. is_some q.0 ≡ true) f (inline-there _ c 0 inline indexed m l (t.is m k ∙ ap (piece_told base msg) e)) in
       ap (λ (y : Bool). y || is_some (value indexed m)) there
 
-  module _ {y : Found} (u : FoundTold base msg indexed y) where
-    pub receiver-indexed : {v : WireValue} → y ≡ found.Value v → ReceiverTold msg base inline indexed true
-    receiver-indexed e c m l o b k h =
-        let there = u.is m k ∙ ap (found_told base msg) e in
-        ap (λ (v : Option Value). is_some o || is_some v) there ∙ or_true (is_some o)
+  pub receiver-inline : {r : Bool} → r ≡ found.is_some x → r ≡ true → ReceiverTold msg base inline indexed r
+  receiver-inline e f = rw f (inline-is x refl (sym e ∙ f))
 
-    pub receiver-nowhere : x ≡ piece.Nothing → y ≡ found.Nothing → ReceiverTold msg base inline indexed false
+  module _ (h : found.is_some x ≡ false) where
+    pub receiver-indexed : (y : rust.Option WireValue) → FoundTold base msg indexed y → {r : Bool} → r ≡ found.is_some y → ReceiverTold msg base inline indexed r
     unfolding declared_type
-    receiver-nowhere e f c m l o b k h =
-        let absent = u.is m k ∙ ap (found_told base msg) f in
-        let it = type-nowhere _ c 0 inline indexed m l (t.is m k ∙ ap (piece_told base msg) e) absent in
-        let same : o ≡ none = ap (λ (q : Option Ty × ℕ). q.0) (ok_same (sym h ∙ it)) in
-        rw (same, absent)
+    receiver-indexed (Some v) u e c m l o b k f = ap (λ (v : Option Value). is_some o || is_some v) (u.is m k) ∙ or_true (is_some o) ∙ sym e
+    receiver-indexed None u e c m l o b k f =
+        let it = type-nowhere _ c 0 inline indexed m l (t.is m k ∙ ap (piece_told base msg) (absent_is x h)) (u.is m k) in
+        let same : o ≡ none = ap (λ (q : Option Ty × ℕ). q.0) (ok_same (sym f ∙ it)) in
+        rw (same, u.is m k, e)

@@ -3,28 +3,21 @@
 use mathlib.Core.Path.{◌≡◌, refl, ap, sym, ◌∙◌, subst}
 use mathlib.Core.Logic.{◌⊎◌, inl, inr}
 use mathlib.Core.List.{List, [], ◌∷◌, ◌++◌, append-nil}
-use mathlib.Core.Option.{Option, some}
+use mathlib.Core.Option.{some}
 use Prim.Native.Nat.{ℕ, suc, ◌+◌, ◌-◌, ◌^◌, ◌≤◌, ◌<◌}
 use native.Mathlib.Nat.{zero-add}
 use native.Mathlib.Omega.{arith}
-use borrow.Author.Tests.{lt-ltb}
 use lib.ListN.{length, take, drop, set, get_or, get_elem?, length-append, length-set, length-take, length-drop}
 use lib.Seq.{get_or-set_same, get_or-set_other, take_all}
+use Rattle.std.specs.declared.result.Result.{Result}
+use Rattle.std.specs.declared.result.Result.TheVariants.{Ok, Err}
 use Rattle.foundation.specs.Results.{ok, Part, ◌from◌}
 use Rattle.fields.specs.Fields.{TypeTable-type, TypeTable-first_nullable}
 use Rattle.wire.specs.Wire.{Message, cut}
-use Rattle.wire.specs.Messages.{index, as32, cut_all, messages}
+use Rattle.wire.specs.Messages.{index, cut_all, messages}
 use Rattle.wire.specs.told.WireTold.{wire_refused, rest_of, part_between}
 use Rattle.messages.specs.told.Asked.{CheckedTold, index_told, bodies, NextBodyTold, EmbeddedIs, EmbeddedInside, EmbeddedTold}
 use Rattle.wire.specs.declared.WireError.{WireError}
-use Rattle.messages.specs.declared.Checked.{Checked}
-use Rattle.messages.specs.declared.Checked.TheVariants as checked
-use Rattle.messages.specs.declared.Indexed.{Indexed}
-use Rattle.messages.specs.declared.Indexed.TheVariants as indexed
-use Rattle.wire.specs.declared.Piece.{Piece}
-use Rattle.wire.specs.declared.Piece.TheVariants as piece
-use Rattle.messages.specs.declared.Embedded.{Embedded}
-use Rattle.messages.specs.declared.Embedded.TheVariants as embedded
 use Rattle.messages.proofs.BodyLaws.{checked_at, part-is}
 use Rattle.characters.specs.told.Places.{part_from}
 use Rattle.characters.proofs.PartLaws.{part-part}
@@ -34,10 +27,16 @@ use Rattle.lookup.proofs.LookupLaws.{part_longer}
 use Rattle.schema.specs.Types.{no_table, type_table_in}
 use Rattle.schema.specs.told.SchemaTold.{EntryAt, EntriesOf}
 use Rattle.schema.specs.told.TableTold.{EntriesTold, TableTold, TypeIndexTold}
-use Rattle.schema.specs.declared.table.Entries.{Entries}
-use Rattle.schema.specs.declared.table.Entries.TheVariants as entries
+use Rattle.names.specs.declared.records.IndexError.{IndexError}
+use Rattle.names.specs.declared.records.IndexError.TheVariants.{NoRoom, Wire}
 use Rattle.schema.specs.declared.table.TypeIndex.{TypeIndex}
-use Rattle.schema.specs.declared.table.TypeIndex.TheVariants as types
+use Rattle.std.specs.declared.option.Option as rust
+use Rattle.std.specs.declared.option.Option.TheVariants.{Some, None}
+use Rattle.foundation.specs.declared.Span.{Span}
+use Rattle.messages.specs.told.Asked.{span}
+
+abbrev pub type_index : ℕ → rust.Option ℕ → TypeIndex
+type_index count first = record { count = count; first = first }
 
 -- The places of no entry, of one more, and among more bytes.
 pub entries_none : (bytes notes : List ℕ) → EntriesOf bytes notes 0 []
@@ -103,25 +102,25 @@ noting_start bytes at notes m w = record {
   noted = entries_none bytes notes;
 }
 
-module _ (bytes : List ℕ) (start : ℕ) (notes : List ℕ) (count at : ℕ) (i : Noting bytes start notes count at) {r : Piece}
+module _ (bytes : List ℕ) (start : ℕ) (notes : List ℕ) (count at : ℕ) (i : Noting bytes start notes count at) {r : rust.Option Span}
     (t : NextBodyTold 0 bytes TypeTable-type at r) where
-  pub noting-none : r ≡ piece.Nothing → (m : Message) → cut (rest_of 0 bytes start) ≡ ok m → EntriesTold bytes m notes (entries.Noted count)
+  pub noting-none : r ≡ None → (m : Message) → cut (rest_of 0 bytes start) ≡ ok m → EntriesTold bytes m notes (Ok count)
   unfolding cut_all
   noting-none g m w =
       let n = i m w in
       let e : bodies TypeTable-type n.rest ≡ [] = (subst (NextBodyTold 0 bytes TypeTable-type at) g t).is n.rest n.cuts in
       (n.before, n.whole ∙ rw e (ap ok (append-nil n.before)), n.noted)
 
-  module _ {a b : ℕ} (g : r ≡ piece.Body a b) where
-    next : NextBodyTold 0 bytes TypeTable-type at (piece.Body a b)
+  module _ {a b : ℕ} (g : r ≡ Some (span a b)) where
+    next : NextBodyTold 0 bytes TypeTable-type at (Some (span a b))
     next = subst (NextBodyTold 0 bytes TypeTable-type at) g t
 
     pub body-in : (a ≤ b) × (b ≤ length bytes) × (at < b)
     body-in = (next.inside.0, next.inside.1, next.later)
 
-    pub noting-refused : (c : Checked) → CheckedTold (cut (◌from◌ a (part_from a b bytes))) c → {error err : WireError} → c ≡ checked.Refused error
-        → err ≡ error → (m : Message) → cut (rest_of 0 bytes start) ≡ ok m → EntriesTold bytes m notes (entries.Refused err)
-    noting-refused c k {error} {err} q p m w =
+    pub noting-refused : (c : Result Unit WireError) → CheckedTold (cut (◌from◌ a (part_from a b bytes))) c → {error : WireError} → c ≡ Err error
+        → (m : Message) → cut (rest_of 0 bytes start) ≡ ok m → EntriesTold bytes m notes (Err (Wire error))
+    noting-refused c k {error} q m w =
         let n = i m w in
         let v = next.is n.rest n.cuts in
         let f : cut (part_between 0 bytes a b) ≡ wire_refused error =
@@ -129,7 +128,6 @@ module _ (bytes : List ℕ) (start : ℕ) (notes : List ℕ) (count at : ℕ) (i
         n.whole
         ∙ ap (λ (ps : List Part). after n.before (cut_all ps)) v.2
         ∙ after-refused n.before (part_between 0 bytes a b) (bodies TypeTable-type v.0) error f
-        ∙ ap (wire_refused {A = List Message}) (sym p)
 
     -- there is one entry more than were noted
     one_more_lem : (m : Message) (w : cut (rest_of 0 bytes start) ≡ ok m) → count < length (bodies TypeTable-type m)
@@ -139,10 +137,10 @@ module _ (bytes : List ℕ) (start : ℕ) (notes : List ℕ) (count at : ℕ) (i
         let q : length (bodies TypeTable-type n.rest) ≡ suc (length (bodies TypeTable-type v.0)) = ap length v.2 in
         omega (arith, n.many)
 
-    pub no_place : length notes ≤ count → (m : Message) → cut (rest_of 0 bytes start) ≡ ok m → EntriesTold bytes m notes entries.NoRoom
+    pub no_place : length notes ≤ count → (m : Message) → cut (rest_of 0 bytes start) ≡ ok m → EntriesTold bytes m notes (Err NoRoom)
     no_place h m w room = omega (arith, one_more_lem m w, room.long)
 
-    module _ (c : Checked) (k : CheckedTold (cut (◌from◌ a (part_from a b bytes))) c) (q : c ≡ checked.Whole) where
+    module _ (c : Result Unit WireError) (k : CheckedTold (cut (◌from◌ a (part_from a b bytes))) c) (q : c ≡ Ok tt) where
       inner : (x : Message) × (cut (part_between 0 bytes a b) ≡ ok x)
       inner = subst (CheckedTold (cut (part_between 0 bytes a b))) q (checked_at bytes a b c k)
 
@@ -169,72 +167,63 @@ module _ (bytes : List ℕ) (start : ℕ) (notes : List ℕ) (count at : ℕ) (i
             noted = rw ps (entries-more bytes notes count n.before n.noted hs y short here);
           }
 
--- from which entry on all are nullable
-module _ (o : Option ℕ) {y : Indexed} (e : o ≡ index_told y) where
-  pub first_none : y ≡ indexed.Nothing → o ≡ as32 4294967296
-  first_none g = rw (e, g)
-
-  pub first_some : {i : ℕ} → y ≡ indexed.At i → i < 2 ^ 32 → o ≡ as32 i
-  first_some {i} g h = rw (e, g, lt-ltb i (2 ^ 32) h)
-
 -- the table from a place to another
 module _ (payload : List ℕ) (start end : ℕ) (h : start ≤ end) (m : Message) (w : cut (◌from◌ start (part_from start end payload)) ≡ ok m) (notes : List ℕ)
-    (r : Entries) (t : (m : Message) → cut (rest_of 0 (take end payload) start) ≡ ok m → EntriesTold (take end payload) m notes r) where
+    (r : Result ℕ IndexError) (t : (m : Message) → cut (rest_of 0 (take end payload) start) ≡ ok m → EntriesTold (take end payload) m notes r) where
   from_start : cut (rest_of 0 (take end payload) start) ≡ ok m
   from_start = ap cut (part-is 0 payload start end h) ∙ ap (λ (n : ℕ). cut (◌from◌ n (part_from start end payload))) (zero-add start) ∙ w
 
-  told : {s : Entries} → r ≡ s → EntriesTold (take end payload) m notes s
+  told : {s : Result ℕ IndexError} → r ≡ s → EntriesTold (take end payload) m notes s
   told g = subst (EntriesTold (take end payload) m notes) g (t m from_start)
 
-  pub table-noted : {count : ℕ} (first : ℕ) → r ≡ entries.Noted count → index TypeTable-first_nullable m ≡ as32 first
-      → TableTold payload m notes (types.Types count first)
+  pub table-noted : {count : ℕ} (first : rust.Option ℕ) → r ≡ Ok count → index TypeTable-first_nullable m ≡ index_told first
+      → TableTold payload m notes (Ok (type_index count first))
   table-noted {count} first g f = let n = told g in (n.0, n.1, entries_longer payload end notes count n.0 n.2, f)
 
-  pub table-full : r ≡ entries.NoRoom → TableTold payload m notes types.NoRoom
-  table-full g = told g
-
-  pub table-refused : {error : WireError} → r ≡ entries.Refused error → TableTold payload m notes (types.Refused error)
-  table-refused g = told g
+  -- what is refused of the entries is refused of the table
+  pub table-unnoted : {why : IndexError} → r ≡ Err why → TableTold payload m notes (Err why)
+  table-unnoted {why = NoRoom} g = told g
+  table-unnoted {why = Wire error} g = told g
 
 -- the table in a field
-pub table-place : (payload : List ℕ) (at n : ℕ) {x : Embedded} → EmbeddedTold at (take (length payload - at) (drop at payload)) n x
-    → {a b : ℕ} → x ≡ embedded.Inline a b → (a ≤ b) × (b ≤ length payload - at)
+pub table-place : (payload : List ℕ) (at n : ℕ) {x : Result (rust.Option Span) WireError} → EmbeddedTold at (take (length payload - at) (drop at payload)) n x
+    → {a b : ℕ} → x ≡ Ok (Some (span a b)) → (a ≤ b) × (b ≤ length payload - at)
 table-place payload at n t g =
     let i = subst (EmbeddedInside (take (length payload - at) (drop at payload))) g t.inside in
     (i.0, omega (arith, length-take (length payload - at) (drop at payload)))
 
 module _ (payload : List ℕ) (at n : ℕ) (notes : List ℕ) where
-  module _ (m : Message) (w : cut (◌from◌ at (drop at payload)) ≡ ok m) {x : Embedded}
+  module _ (m : Message) (w : cut (◌from◌ at (drop at payload)) ≡ ok m) {x : Result (rust.Option Span) WireError}
       (t : EmbeddedTold at (take (length payload - at) (drop at payload)) n x) where
     body_is : cut (◌from◌ at (take (length payload - at) (drop at payload))) ≡ ok m
     body_is =
         let all : length (drop at payload) ≤ length payload - at = rw length-drop (omega arith) in
         ap (λ (bs : List ℕ). cut (◌from◌ at bs)) (take_all (length payload - at) (drop at payload) all) ∙ w
 
-    found : {y : Embedded} → x ≡ y → EmbeddedIs at (take (length payload - at) (drop at payload)) n m y
+    found : {y : Result (rust.Option Span) WireError} → x ≡ y → EmbeddedIs at (take (length payload - at) (drop at payload)) n m y
     found g = subst (EmbeddedIs at (take (length payload - at) (drop at payload)) n m) g (t.is m body_is)
 
-    pub index_none : x ≡ embedded.Nothing → TypeIndexTold payload at n m notes (types.Types 0 4294967296)
+    pub index_none : x ≡ Ok None → TypeIndexTold payload at n m notes (Ok (type_index 0 None))
     unfolding type_table_in
     index_none g = (no_table, (λ l. rw (found g)), entries_none payload notes, refl)
 
-    pub index-refused : {error : WireError} → x ≡ embedded.Refused error → TypeIndexTold payload at n m notes (types.Refused error)
+    pub index-refused : {error : WireError} → x ≡ Err error → TypeIndexTold payload at n m notes (Err (Wire error))
     unfolding type_table_in
     index-refused g l = rw (found g)
 
-    module _ {a b : ℕ} (g : x ≡ embedded.Inline a b) where
+    module _ {a b : ℕ} (g : x ≡ Ok (Some (span a b))) where
       table-cuts : cut (◌from◌ (at + a) (part_from (at + a) (at + b) payload)) ≡ ok (found g).0
       table-cuts =
           let i = subst (EmbeddedInside (take (length payload - at) (drop at payload))) g t.inside in
           ap (λ (bs : List ℕ). cut (◌from◌ (at + a) bs)) (sym (part-part payload at (length payload) a b i.0 i.1)) ∙ (found g).1
 
-      index-told : (r : TypeIndex) → TableTold payload (found g).0 notes r → TypeIndexTold payload at n m notes r
+      index-told : (r : Result TypeIndex IndexError) → TableTold payload (found g).0 notes r → TypeIndexTold payload at n m notes r
       unfolding type_table_in
-      index-told (types.Types count first) (ms, e, o, f) =
+      index-told (Ok x) (ms, e, o, f) =
           (record { types = ms; first_nullable = index TypeTable-first_nullable (found g).0 }, (λ l. rw ((found g).2, e)), o, f)
-      index-told types.NoRoom h = λ room. h (room.entries (found g).0 (found g).2)
-      index-told (types.Refused error) h = λ l. rw ((found g).2, h)
+      index-told (Err NoRoom) h = λ room. h (room.entries (found g).0 (found g).2)
+      index-told (Err (Wire error)) h = λ l. rw ((found g).2, h)
 
-      pub index-inline : (r : TypeIndex) → ((m : Message) → cut (◌from◌ (at + a) (part_from (at + a) (at + b) payload)) ≡ ok m → TableTold payload m notes r)
+      pub index-inline : (r : Result TypeIndex IndexError) → ((m : Message) → cut (◌from◌ (at + a) (part_from (at + a) (at + b) payload)) ≡ ok m → TableTold payload m notes r)
           → TypeIndexTold payload at n m notes r
       index-inline r h = index-told r (h (found g).0 table-cuts)

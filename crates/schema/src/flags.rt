@@ -6,15 +6,10 @@ ghost use Rattle.wire.specs.Wire.{cut, Message};
 ghost use Rattle.wire.specs.Messages.{varint_of};
 
 use messages::varint;
-use wire::Number;
 
 // The flags in a field, or what they are if it is omitted.
 pub fn flags_in(msg: &[u8], base: u32, number: u32, omitted: u64) -> u64
     ensures { (m : Message) → cut (◌from◌ base msg.now) ≡ ok m → if_some (varint_of number m) omitted (λ flags. flags) ≡ result }
 {
-    let found = varint(msg, base, number);
-    match found {
-        Number::Value { value } => value,
-        Number::Nothing => omitted,
-    }
+    varint(msg, base, number).unwrap_or(omitted)
 }

@@ -4,106 +4,79 @@ ghost use Rattle.foundation.specs.Results.{ok, ◌from◌};
 ghost use Rattle.fields.specs.Fields.{Type-argument, Type-nullable, Type-class_name};
 ghost use Rattle.wire.specs.Wire.{field, Message, cut};
 ghost use Rattle.wire.specs.Messages.{varint_of, index, flag};
-ghost use Rattle.wire.specs.told.WireTold.{value_of, value_number, piece_of};
+ghost use Rattle.wire.specs.told.WireTold.{value_of, value_number};
 ghost use Rattle.messages.specs.told.Asked.{number_told, index_told};
-ghost use Rattle.schema.specs.told.HeadTold.{is_body, Known, HeadTold};
+ghost use Rattle.schema.specs.told.HeadTold.{Known, HeadTold};
 
 use fields::{TYPE_ARGUMENT, TYPE_CLASS_NAME, TYPE_NULLABLE};
-use messages::{Found, Indexed};
-use wire::{FieldStep, Number, Piece, WireValue, field_at};
+use messages::index_in;
+use wire::{WireValue, field_at};
 
 // The index of its class name, whether it says that it is nullable, and whether it has an argument.
 #[derive(Clone, Copy)]
 pub struct TypeHead {
-    pub name: Indexed,
+    pub name: Option<u32>,
     pub nullable: bool,
     pub arguments: bool,
 }
 
-// The same of the fields before a place: of the class name and of nullable the first counts, once it was seen.
+// The same of the fields before a place: what its class name and its flag say once they were seen. Of each the first counts.
 #[derive(Clone, Copy)]
 struct Seen {
-    named: bool,
-    name: Indexed,
-    flagged: bool,
-    nullable: bool,
+    name: Option<Option<u32>>,
+    nullable: Option<bool>,
     arguments: bool,
 }
 
-fn index_of(value: WireValue) -> Indexed
+fn index_of(value: WireValue) -> Option<u32>
     ensures { (k : ℕ) (m : Message) → varint_of k m ≡ number_told (value_number value) → index k m ≡ index_told result }
 {
-    let found = Found::Value { value };
-    found.index()
+    index_in(Some(value))
 }
 
 fn is_set(value: WireValue) -> bool
     ensures { (k : ℕ) (m : Message) → varint_of k m ≡ number_told (value_number value) → flag k m ≡ result }
 {
-    let found = value.varint();
-    let Number::Value { value: n } = found else {
-        return false;
-    };
-    n != 0
-}
-
-fn is_body(value: WireValue) -> bool
-    ensures { result ≡ is_body (piece_of value) }
-{
-    let found = value.bytes();
-    let Piece::Nothing = found else {
-        return true;
-    };
-    false
+    match value.varint() {
+        Some(n) => n != 0,
+        None => false,
+    }
 }
 
 impl Seen {
     fn with_name(self, value: WireValue) -> Seen
         ensures { (base : ℕ) (s : List ℕ) (m rest : Message) → Known self m (field Type-class_name (value_of base s value) ∷ rest) → Known result m rest }
     {
-        let seen = self.named;
-        if seen {
+        if let Some(_) = self.name {
             return self;
         }
         Seen {
-            named: true,
-            name: index_of(value),
-            flagged: self.flagged,
-            nullable: self.nullable,
-            arguments: self.arguments,
+            name: Some(index_of(value)),
+            ..self
         }
     }
 
     fn with_flag(self, value: WireValue) -> Seen
         ensures { (base : ℕ) (s : List ℕ) (m rest : Message) → Known self m (field Type-nullable (value_of base s value) ∷ rest) → Known result m rest }
     {
-        let seen = self.flagged;
-        if seen {
+        if let Some(_) = self.nullable {
             return self;
         }
-        let name = self.name;
         Seen {
-            named: self.named,
-            name,
-            flagged: true,
-            nullable: is_set(value),
-            arguments: self.arguments,
+            nullable: Some(is_set(value)),
+            ..self
         }
     }
 
     fn with_argument(self, value: WireValue) -> Seen
         ensures { (base : ℕ) (s : List ℕ) (m rest : Message) → Known self m (field Type-argument (value_of base s value) ∷ rest) → Known result m rest }
     {
-        if !is_body(value) {
+        let Some(_) = value.bytes() else {
             return self;
-        }
-        let name = self.name;
+        };
         Seen {
-            named: self.named,
-            name,
-            flagged: self.flagged,
-            nullable: self.nullable,
             arguments: true,
+            ..self
         }
     }
 
@@ -123,25 +96,17 @@ fn seen_in(msg: &[u8], base: u32) -> Seen
     ensures { (m : Message) → cut (◌from◌ base msg.now) ≡ ok m → Known result m [] }
 {
     let mut seen = Seen {
-        named: false,
-        name: Indexed::Nothing,
-        flagged: false,
-        nullable: false,
+        name: None,
+        nullable: None,
         arguments: false,
     };
     let mut at = 0;
     while at < msg.len() {
-        let step = field_at(&*msg, base, at);
-        let FieldStep::Field {
-            number,
-            value,
-            next,
-        } = step
-        else {
+        let Ok(read) = field_at(msg, base, at) else {
             return seen;
         };
-        seen = seen.with_field(number, value);
-        at = next;
+        seen = seen.with_field(read.value.number, read.value.value);
+        at = read.next;
     }
     seen
 }
@@ -150,11 +115,10 @@ fn seen_in(msg: &[u8], base: u32) -> Seen
 pub fn type_head(msg: &[u8], base: u32) -> TypeHead
     ensures { HeadTold base msg.now result }
 {
-    let seen = seen_in(&*msg, base);
-    let name = seen.name;
+    let seen = seen_in(msg, base);
     TypeHead {
-        name,
-        nullable: seen.nullable,
+        name: seen.name.flatten(),
+        nullable: seen.nullable.unwrap_or(false),
         arguments: seen.arguments,
     }
 }

@@ -3,6 +3,8 @@
 #![tactic(auto)]
 
 ghost use Rattle.std.specs.Prelude.{◌≡◌};
+ghost use Rattle.schema.specs.declared.Stop.TheVariants.{Wire};
+ghost use Rattle.schema.specs.told.SchemaTold.{entry_nullable};
 
 use sheet::State;
 use wire::WireError;
@@ -23,12 +25,24 @@ pub const MAX_DEPTH: usize = 64;
 pub const ALLOWANCE: usize = 2048;
 
 // The sizes of what is lent beside the slices: how many records the name table has, how many entries the type table, and from which of
-// these on all are nullable; 2^32 or more: none.
+// these on all are nullable, if any is.
 #[derive(Clone, Copy)]
 pub struct Tables {
     pub records: usize,
     pub types: usize,
-    pub first_nullable: u64,
+    pub first_nullable: Option<u32>,
+}
+
+impl Tables {
+    // Is an entry of the type table nullable by its place?
+    pub fn is_nullable(self, index: u32) -> bool
+        ensures { result ≡ entry_nullable self.first_nullable index }
+    {
+        match self.first_nullable {
+            Some(first) => first <= index,
+            None => false,
+        }
+    }
 }
 
 // The two fields of a message in which a type may stand, inline or by its index in the type table, and the type's role on the sheet.
@@ -42,65 +56,31 @@ pub struct TypeSlot {
 // Why a reading stops.
 #[derive(Clone, Copy)]
 pub enum Stop {
-    Wire { error: WireError },
+    Wire(WireError),
     TooManyTypes,
 }
 
-// What was read is written, up to a state.
-#[derive(Clone, Copy)]
-pub enum Walked {
-    Done { state: State },
-    Refused { stop: Stop },
-}
+impl From<WireError> for Stop {
+    ghost from_gives = { λ error stop. stop ≡ Wire error };
 
-impl Walked {
-    // The refusal of a refused answer.
-    pub fn stop(self) -> Stop
-        ensures { (s : Stop) → self ≡ Walked.Refused s → result ≡ s }
-    {
-        match self {
-            Walked::Done { state: _ } => Stop::TooManyTypes,
-            Walked::Refused { stop } => stop,
-        }
+    fn from(error: WireError) -> Stop {
+        Stop::Wire(error)
     }
 }
 
-// The answer of a reader of something that may be skipped: written, skipped or refused.
+// After a list: how far both areas are written, and how many of it are kept.
 #[derive(Clone, Copy)]
-pub enum Picked {
-    Kept { state: State },
-    Dropped,
-    Refused { stop: Stop },
-}
-
-// A list, and how many of it are kept.
-#[derive(Clone, Copy)]
-pub enum Listed {
-    Done { state: State, count: usize },
-    Refused { stop: Stop },
-}
-
-impl Listed {
-    // The refusal of a refused answer.
-    pub fn stop(self) -> Stop
-        ensures { (s : Stop) → self ≡ Listed.Refused s → result ≡ s }
-    {
-        match self {
-            Listed::Done { state: _, count: _ } => Stop::TooManyTypes,
-            Listed::Refused { stop } => stop,
-        }
-    }
+pub struct Section {
+    pub state: State,
+    pub count: usize,
 }
 
 // Where the message of a type stands among the decoded bytes, whether it is nullable by its place in the type table, and what is left of
 // the depth there.
 #[derive(Clone, Copy)]
-pub enum FoundType {
-    Type {
-        start: usize,
-        end: usize,
-        nullable: bool,
-        left: usize,
-    },
-    Nothing,
+pub struct FoundType {
+    pub start: usize,
+    pub end: usize,
+    pub nullable: bool,
+    pub left: usize,
 }

@@ -10,7 +10,7 @@ ghost use Rattle.schema.specs.told.SchemaTold.{NamesOf};
 
 use lookup::qualified::qualified_name;
 use lookup::string;
-use messages::{Indexed, index};
+use messages::index;
 use names::name::{Name, absent};
 
 // The string at the index in a field.
@@ -25,16 +25,15 @@ pub fn name_in(
 ) -> Name
     ensures { (units : List ℕ) (s : Scope) → NamesOf payload.now units ends.now notes.now records s.names → (m : Message) → cut (◌from◌ base msg.now) ≡ ok m → (l : ℕ) → name_in s number m l ≡ ok (name_text payload.now units result, l) }
 {
-    let found = index(&*msg, base, number);
-    let Indexed::At { index } = found else {
+    let Some(index) = index(msg, base, number) else {
         return absent();
     };
-    string(&*payload, &*notes, records, &*ends, index)
+    string(payload, notes, records, ends, index)
 }
 
 // The class name at an index that was found in a field.
 pub fn class_name_at(
-    found: Indexed,
+    found: Option<u32>,
     payload: &[u8],
     d2: &[u16],
     ends: &[u32],
@@ -43,10 +42,10 @@ pub fn class_name_at(
 ) -> Name
     ensures { (s : Scope) → NamesOf payload.now d2.now ends.now notes.now records s.names → (k : ℕ) (m : Message) → index k m ≡ index_told found → (l : ℕ) → class_name_in s k m l ≡ ok (name_text payload.now d2.now result, l) }
 {
-    let Indexed::At { index } = found else {
+    let Some(index) = found else {
         return absent();
     };
-    qualified_name(&*payload, &*notes, records, &*d2, &*ends, index)
+    qualified_name(payload, notes, records, d2, ends, index)
 }
 
 // The class name at the index in a field.
@@ -62,6 +61,5 @@ pub fn class_name_in(
 ) -> Name
     ensures { (s : Scope) → NamesOf payload.now d2.now ends.now notes.now records s.names → (m : Message) → cut (◌from◌ base msg.now) ≡ ok m → (l : ℕ) → class_name_in s number m l ≡ ok (name_text payload.now d2.now result, l) }
 {
-    let found = index(&*msg, base, number);
-    class_name_at(found, &*payload, &*d2, &*ends, &*notes, records)
+    class_name_at(index(msg, base, number), payload, d2, ends, notes, records)
 }

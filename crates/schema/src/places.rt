@@ -8,39 +8,40 @@ use crate::argument::{ArgumentHead, argument_head};
 use crate::types::entry_at;
 use crate::{FoundType, MAX_DEPTH, Tables, TypeSlot};
 use fields::TYPE_ARGUMENT;
-use messages::{Indexed, bytes, index, next_body};
-use wire::Piece;
+use foundation::Span;
+use messages::{bytes, index, next_body};
 
 // The type at an index of the type table.
-fn entry_place(index: u32, left: usize, payload: &[u8], notes: &[u64], tables: Tables) -> FoundType
+fn entry_place(
+    index: u32,
+    left: usize,
+    payload: &[u8],
+    notes: &[u64],
+    tables: Tables,
+) -> Option<FoundType>
     requires { length payload.now ≤ 32768 }
     ensures { EntryFound payload.now notes.now tables index left result }
 {
     if left == 0 {
-        return FoundType::Nothing;
+        return None;
     }
-    let entry = entry_at(&*payload, &*notes, tables, index);
-    let Piece::Body { start, end } = entry else {
-        return FoundType::Nothing;
-    };
-    FoundType::Type {
-        start,
-        end,
-        nullable: tables.first_nullable <= index as u64,
+    let entry = entry_at(payload, notes, tables, index)?;
+    Some(FoundType {
+        start: entry.start,
+        end: entry.end,
+        nullable: tables.is_nullable(index),
         left: left - 1,
-    }
+    })
 }
 
-// The type from a place to another of a message, which stands at `base`.
-fn inline_place(base: u32, start: usize, end: usize, left: usize) -> FoundType
-    requires { (start ≤ end) × (base + end ≤ 32768) }
-    ensures { result ≡ FoundType.Type (base + start) (base + end) false left }
+// The type in a part of a message, which stands at `base`.
+fn inline_place(base: u32, body: Span, left: usize) -> FoundType
+    requires { (body.start ≤ body.end) × (base + body.end ≤ 32768) }
+    ensures { result ≡ record { start = base + body.start; end = base + body.end; nullable = false; left = left } }
 {
-    let first = base as usize + start;
-    let last = base as usize + end;
-    FoundType::Type {
-        start: first,
-        end: last,
+    FoundType {
+        start: base as usize + body.start,
+        end: base as usize + body.end,
         nullable: false,
         left,
     }
@@ -55,21 +56,15 @@ fn type_place(
     payload: &[u8],
     notes: &[u64],
     tables: Tables,
-) -> FoundType
+) -> Option<FoundType>
     requires { Stands payload.now msg.now base × (length payload.now ≤ 32768) }
     ensures { PlaceFound payload.now notes.now tables base (base + length msg.now) slot.inline slot.indexed left result }
 {
-    let inner = bytes(msg, base, slot.inline);
-    match inner {
-        Piece::Body { start, end } => inline_place(base, start, end, left),
-        Piece::Nothing => {
-            let found = index(msg, base, slot.indexed);
-            let Indexed::At { index: i } = found else {
-                return FoundType::Nothing;
-            };
-            entry_place(i, left, payload, notes, tables)
-        }
+    if let Some(body) = bytes(msg, base, slot.inline) {
+        return Some(inline_place(base, body, left));
     }
+    let at = index(msg, base, slot.indexed)?;
+    entry_place(at, left, payload, notes, tables)
 }
 
 // A declaration's own type, in the message that holds it.
@@ -81,7 +76,7 @@ pub fn declared_place(
     payload: &[u8],
     notes: &[u64],
     tables: Tables,
-) -> FoundType
+) -> Option<FoundType>
     requires { Stands payload.now msg.now base × (length payload.now ≤ 32768) }
     ensures { DeclaredFound payload.now notes.now tables base (base + length msg.now) slot.inline slot.indexed result }
 {
@@ -97,38 +92,30 @@ pub fn first_argument(
     payload: &[u8],
     notes: &[u64],
     tables: Tables,
-) -> FoundType
+) -> Option<FoundType>
     requires { Stands payload.now msg.now base × (length payload.now ≤ 32768) }
     ensures { ArgumentFound payload.now notes.now tables base (base + length msg.now) left result }
 {
     let mut at = 0;
     loop {
-        let piece = next_body(msg, base, TYPE_ARGUMENT, at);
-        let Piece::Body { start, end } = piece else {
-            return FoundType::Nothing;
-        };
-        let first = base + start as u32;
-        let head = argument_head(&msg[start..end], first);
-        match head {
-            ArgumentHead::Star => return FoundType::Nothing,
+        let argument = next_body(msg, base, TYPE_ARGUMENT, at)?;
+        let first = base + argument.start as u32;
+        match argument_head(&msg[argument.start..argument.end], first) {
+            ArgumentHead::Star => return None,
             ArgumentHead::Inline {
                 projection: _,
-                start: from,
-                end: to,
-            } => {
-                return inline_place(first, from, to, left);
-            }
+                body,
+            } => return Some(inline_place(first, body, left)),
             ArgumentHead::ByIndex {
                 projection: _,
                 index: i,
             } => {
-                let found = entry_place(i, left, payload, notes, tables);
-                let FoundType::Nothing = found else {
-                    return found;
-                };
+                if let Some(found) = entry_place(i, left, payload, notes, tables) {
+                    return Some(found);
+                }
             }
             ArgumentHead::Nothing => {}
         }
-        at = end;
+        at = argument.end;
     }
 }

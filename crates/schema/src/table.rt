@@ -11,25 +11,14 @@ ghost use Rattle.names.specs.told.Index.{packed_places};
 ghost use Rattle.schema.specs.told.TableTold.{EntriesTold, TableTold, TypeIndexTold};
 
 use fields::{TYPE_TABLE_FIRST_NULLABLE, TYPE_TABLE_TYPE};
-use messages::{Checked, Embedded, Indexed, check, index, message, next_body};
-use names::records::packed;
-use wire::{Piece, WireError};
+use messages::{check, index, message, next_body};
+use names::records::{IndexError, packed};
 
-// No entry is nullable by its place.
-const NONE: u64 = 4294967296;
-
+// How many entries the type table has, and from which of them on all are nullable, if any is.
 #[derive(Clone, Copy)]
-pub enum TypeIndex {
-    Types { count: usize, first: u64 },
-    NoRoom,
-    Refused { error: WireError },
-}
-
-#[derive(Clone, Copy)]
-enum Entries {
-    Noted { count: usize },
-    NoRoom,
-    Refused { error: WireError },
+pub struct TypeIndex {
+    pub count: usize,
+    pub first: Option<u32>,
 }
 
 fn put_entry(notes: &mut [u64], count: usize, start: u32, end: u32)
@@ -40,76 +29,65 @@ fn put_entry(notes: &mut [u64], count: usize, start: u32, end: u32)
 }
 
 // Cuts the entries of the type table in `bytes` from `at` on, and notes for each where it stands.
-fn note_entries(bytes: &[u8], at: usize, notes: &mut [u64]) -> Entries
+fn note_entries(bytes: &[u8], at: usize, notes: &mut [u64]) -> Result<usize, IndexError>
     requires { length bytes.now < 2 ^ 32 }
     ensures { (m : Message) → cut (rest_of 0 bytes.now at) ≡ ok m → EntriesTold bytes.now m notes.new result }
 {
     let mut count: usize = 0;
     let mut i = at;
     loop {
-        let piece = next_body(&*bytes, 0, TYPE_TABLE_TYPE, i);
-        let Piece::Body { start, end } = piece else {
-            return Entries::Noted { count };
+        let Some(entry) = next_body(bytes, 0, TYPE_TABLE_TYPE, i) else {
+            return Ok(count);
         };
-        let checked = check(&bytes[start..end], start as u32);
-        let Checked::Whole = checked else {
-            return Entries::Refused {
-                error: checked.error(),
-            };
-        };
+        check(&bytes[entry.start..entry.end], entry.start as u32)?;
         if notes.len() <= count {
-            return Entries::NoRoom;
+            return Err(IndexError::NoRoom);
         }
-        put_entry(notes, count, start as u32, end as u32);
+        put_entry(notes, count, entry.start as u32, entry.end as u32);
         count += 1;
-        i = end;
+        i = entry.end;
     }
-}
-
-// From which entry on all are nullable; 2^32: none.
-fn first_nullable(table: &[u8], base: u32) -> u64
-    ensures { (m : Message) → cut (◌from◌ base table.now) ≡ ok m → index TypeTable-first_nullable m ≡ as32 result }
-{
-    let found = index(&*table, base, TYPE_TABLE_FIRST_NULLABLE);
-    let Indexed::At { index: first } = found else {
-        return NONE;
-    };
-    first as u64
 }
 
 // The type table from a place to another of the decoded bytes.
-fn note_table(payload: &[u8], start: usize, end: usize, notes: &mut [u64]) -> TypeIndex
+fn note_table(
+    payload: &[u8],
+    start: usize,
+    end: usize,
+    notes: &mut [u64],
+) -> Result<TypeIndex, IndexError>
     requires { (start ≤ end) × (end ≤ length payload.now) × (length payload.now < 2 ^ 32) }
     ensures { (m : Message) → cut (◌from◌ start (part_from start end payload.now)) ≡ ok m → TableTold payload.now m notes.new result }
 {
-    let entries = note_entries(&payload[..end], start, notes);
-    match entries {
-        Entries::Noted { count } => {
-            let first = first_nullable(&payload[start..end], start as u32);
-            TypeIndex::Types { count, first }
-        }
-        Entries::NoRoom => TypeIndex::NoRoom,
-        Entries::Refused { error } => TypeIndex::Refused { error },
-    }
+    let count = note_entries(&payload[..end], start, notes)?;
+    let first = index(
+        &payload[start..end],
+        start as u32,
+        TYPE_TABLE_FIRST_NULLABLE,
+    );
+    Ok(TypeIndex { count, first })
 }
 
 // The type table in a field of the message that is the decoded bytes from `at` on.
-pub fn index_types(payload: &[u8], at: usize, number: u32, notes: &mut [u64]) -> TypeIndex
+pub fn index_types(
+    payload: &[u8],
+    at: usize,
+    number: u32,
+    notes: &mut [u64],
+) -> Result<TypeIndex, IndexError>
     ensures { (m : Message) → cut (◌from◌ at (drop at payload.now)) ≡ ok m → TypeIndexTold payload.now at number m notes.new result }
 {
     if payload.len() < at {
-        return TypeIndex::NoRoom;
+        return Err(IndexError::NoRoom);
     }
     if 4294967295 < payload.len() {
-        return TypeIndex::NoRoom;
+        return Err(IndexError::NoRoom);
     }
-    let table = message(&payload[at..], at as u32, number);
-    match table {
-        Embedded::Inline { start, end } => note_table(&*payload, at + start, at + end, notes),
-        Embedded::Refused { error } => TypeIndex::Refused { error },
-        Embedded::Nothing => TypeIndex::Types {
+    let Some(table) = message(&payload[at..], at as u32, number)? else {
+        return Ok(TypeIndex {
             count: 0,
-            first: NONE,
-        },
-    }
+            first: None,
+        });
+    };
+    note_table(payload, at + table.start, at + table.end, notes)
 }

@@ -1,66 +1,35 @@
 // Small readers of types: an entry of the type table. Types are walked and written above, in `type_references`. What they tell:
 // specs/told/TypesTold.antt.
-ghost use Rattle.std.specs.Prelude.{◌≡◌, ◌||◌, ◌-◌};
 ghost use Rattle.schema.specs.told.SchemaTold.{entries_in};
-ghost use Rattle.schema.specs.told.TypesTold.{picked_of, EntryTold};
+ghost use Rattle.schema.specs.told.TypesTold.{EntryTold};
 
-use crate::{Picked, Tables, Walked};
-use foundation::wide;
+use crate::Tables;
+use foundation::{Span, wide};
 use names::records::RECORD_WORDS;
-use wire::Piece;
-
-pub fn less(n: usize) -> usize
-    ensures { result ≡ n - 1 }
-{
-    if n == 0 {
-        return 0;
-    }
-    n - 1
-}
-
-pub fn either(a: bool, b: bool) -> bool
-    ensures { result ≡ (a || b) }
-{
-    if a {
-        return true;
-    }
-    b
-}
-
-pub fn picked(walked: Walked) -> Picked
-    ensures { result ≡ picked_of walked }
-{
-    let Walked::Done { state } = walked else {
-        return Picked::Refused {
-            stop: walked.stop(),
-        };
-    };
-    Picked::Kept { state }
-}
 
 // Where an entry of the type table stands, if there is one at the index.
-pub fn entry_at(payload: &[u8], notes: &[u64], tables: Tables, index: u32) -> Piece
+pub fn entry_at(payload: &[u8], notes: &[u64], tables: Tables, index: u32) -> Option<Span>
     ensures { EntryTold payload.now (entries_in tables notes.now) tables.types index result }
 {
     let i = wide(index);
     if tables.types <= i {
-        return Piece::Nothing;
+        return None;
     }
     let records = tables.records;
     if notes.len() / RECORD_WORDS < records {
-        return Piece::Nothing;
+        return None;
     }
     if notes.len() - RECORD_WORDS * records <= i {
-        return Piece::Nothing;
+        return None;
     }
     let place = notes[RECORD_WORDS * records + i];
     let start = (place % 4294967296) as usize;
     let end = (place / 4294967296) as usize;
     if payload.len() < end {
-        return Piece::Nothing;
+        return None;
     }
     if end < start {
-        return Piece::Nothing;
+        return None;
     }
-    Piece::Body { start, end }
+    Some(Span { start, end })
 }

@@ -1,43 +1,50 @@
--- What the loops that write into an area keep: what is left to write from here on gives the whole.
+-- What is written into an area: of a number, what is left to write from here on gives the whole; of bytes, as much as there is room for.
 -- Assumes nothing.
-use mathlib.Core.Path.{◌≡◌, sym, ap, ◌∙◌}
-use mathlib.Core.List.{List, ◌++◌}
-use Prim.Native.Nat.{ℕ, zero, suc, ◌+◌, ◌-◌, ◌*◌, ◌/◌, ◌%◌, ◌≤◌, ◌<◌}
-use native.Mathlib.Nat.{add-zero, add-suc}
-use native.Mathlib.Numerals.{add-one, sub-one}
+use mathlib.Core.Path.{◌≡◌, refl, sym, ap, ◌∙◌}
+use mathlib.Core.List.{List, ◌++◌, append_assoc}
+use Prim.Native.Nat.{ℕ, zero, suc, ◌+◌, ◌*◌, ◌/◌, ◌%◌, ◌≤◌, ◌<◌}
+use native.Mathlib.Numerals.{add-one}
 use native.Mathlib.Omega.{arith}
-use lib.ListN.{length, get_or, take, drop, set, drop_of_length-le, take-append-drop}
-use lib.Seq.{sets, drop-cons, length-take-le}
+use lib.ListN.{length, take, drop, set, take-append-drop}
+use lib.Dec.{leb}
+use lib.Seq.{sets, sets-eq, take_all, drop-drop, length-take-le}
+use borrow.Rule.Slice.PartMut.{put_mid}
+use borrow.Author.Tests.{leb-true, leb-false}
+use mathlib.Core.Bool.{Bool, true, false}
 use Rattle.foundation.specs.Digits.{little}
 use Rattle.foundation.proofs.DigitLaws.{digits_append, digits_mod}
-use Rattle.foundation.proofs.OverlayLaws.{sets_clipped}
-
-module _ (src : List ℕ) where
-  pub copy_start : (area : List ℕ) (at : ℕ) → sets area at src ≡ sets area (at + 0) src
-  copy_start area at = rw add-zero
-
-  pub copy_step : (whole area : List ℕ) (at i : ℕ) → i < length src → whole ≡ sets area (at + i) (drop i src)
-      → whole ≡ sets (set area (at + i) (get_or src i 0)) (at + (i + 1)) (drop (i + 1) src)
-  copy_step whole area at i h e = e ∙ rw (drop-cons src i 0 h, add-one, add-suc)
-
-  pub copy_end : (whole area : List ℕ) (at i : ℕ) → length src ≤ i → whole ≡ sets area (at + i) (drop i src) → area ≡ whole
-  copy_end whole area at i h e = sym (e ∙ rw (drop_of_length-le src h))
+use Rattle.foundation.proofs.OverlayLaws.{sets_out, sets_clipped}
 
 -- the byte and what is left of the number
-pub number_step : (whole area : List ℕ) (i left rest : ℕ) → 0 < left → whole ≡ sets area i (little left rest)
-    → whole ≡ sets (set area i (rest % 256)) (i + 1) (little (left - 1) (rest / 256))
-number_step whole area i zero rest h e = elim h [ ]
-number_step whole area i (suc left) rest h e = e ∙ rw (add-one, sub-one)
+pub number_step : (whole area : List ℕ) (i left less rest : ℕ) → left ≡ suc less → whole ≡ sets area i (little left rest)
+    → whole ≡ sets (set area i (rest % 256)) (i + 1) (little less (rest / 256))
+number_step whole area i left less rest h e = e ∙ rw (h, add-one)
 
-pub number-end : (whole area : List ℕ) (i left rest : ℕ) → left ≤ 0 → whole ≡ sets area i (little left rest) → area ≡ whole
-number-end whole area i zero rest h e = sym e
-number-end whole area i (suc _) rest h e = elim h [ ]
+-- nothing is left, or no room
+pub number_end : (whole area : List ℕ) (i left rest : ℕ) → (0 < left → length area ≤ i) → whole ≡ sets area i (little left rest) → area ≡ whole
+number_end whole area i zero rest h e = sym e
+number_end whole area i (suc left) rest h e = sym (e ∙ sets_out (little (suc left) rest) area i (h (omega arith)))
 
 -- what there is no room for may be left out
 pub put-part : (src area : List ℕ) (at room : ℕ) → length area ≤ at + room → room ≤ length src → sets area at (take room src) ≡ sets area at src
 put-part src area at room h k =
     sym (sets_clipped (take room src) (drop room src) area at (rw (length-take-le room src k) h))
     ∙ ap (λ (vs : List ℕ). sets area at vs) (take-append-drop room src)
+
+-- A part of the area, from `at` on, became as much of `src` as there is room for.
+pub put-in : (src area part : List ℕ) (at size n : ℕ) → at + size ≤ length area → size ≤ length src → n ≡ size → part ≡ take size src
+    → (size < length src → length area ≤ at + size) → put_mid at n area part ≡ sets area at src
+put-in src area part at size n h k e f g =
+    let z : length part ≡ size = ap length f ∙ length-take-le size src k in
+    rw e (ap (λ (l : List ℕ). take at area ++ (part ++ l)) (drop-drop size at area ∙ ap (λ (m : ℕ). drop (at + m) area) (sym z)))
+    ∙ sym (append_assoc (take at area) part _)
+    ∙ sym (sets-eq part area at (rw z h))
+    ∙ ap (sets area at) f
+    ∙ all-or-room (leb (length src) size) refl
+  where
+    all-or-room : (t : Bool) → leb (length src) size ≡ t → sets area at (take size src) ≡ sets area at src
+    all-or-room true t = ap (sets area at) (take_all size src (leb-true (length src) size t))
+    all-or-room false t = put-part src area at size (g (leb-false (length src) size t)) k
 
 -- offset and length, written as one number
 pub ref-number : (offset size : ℕ) → little 4 (offset % 65536 + 65536 * (size % 65536)) ≡ little 2 offset ++ little 2 size

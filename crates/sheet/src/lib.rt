@@ -28,29 +28,14 @@ pub fn put(area: &mut [u8], at: usize, b: u8)
 pub fn put_number(area: &mut [u8], at: usize, width: usize, n: u64)
     ensures { area.new ≡ sets area.old at (little width n) }
 {
-    let mut i = at;
-    let mut left = width;
+    if area.len() <= at {
+        return;
+    }
+    let end = at + width.min(area.len() - at);
     let mut rest = n;
-    while 0 < left {
-        if area.len() <= i {
-            return;
-        }
+    for i in at..end {
         area[i] = (rest % 256) as u8;
         rest /= 256;
-        i += 1;
-        left -= 1;
-    }
-}
-
-// All of `src`, where there is room for it.
-fn copy_in(area: &mut [u8], at: usize, src: &[u8])
-    requires { at + length src.now ≤ length area.old }
-    ensures { area.new ≡ sets area.old at src.now }
-{
-    let mut i = 0;
-    while i < src.len() {
-        area[at + i] = src[i];
-        i += 1;
     }
 }
 
@@ -61,23 +46,15 @@ pub fn put_all(area: &mut [u8], at: usize, src: &[u8])
     if area.len() <= at {
         return;
     }
-    let room = area.len() - at;
-    if src.len() <= room {
-        copy_in(area, at, &*src);
-    } else {
-        copy_in(area, at, &src[..room]);
-    }
+    let size = src.len().min(area.len() - at);
+    area[at..at + size].copy_from_slice(&src[..size]);
 }
 
 // A cell that is 0 or 1.
 pub fn put_bit(area: &mut [u8], at: usize, on: bool)
     ensures { area.new ≡ sets area.old at (little 1 (one_if on)) }
 {
-    if on {
-        put(area, at, 1);
-    } else {
-        put(area, at, 0);
-    }
+    put(area, at, u8::from(on));
 }
 
 // A ref to a text: its offset and its length in the text area, two bytes each.

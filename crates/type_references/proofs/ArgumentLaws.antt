@@ -4,28 +4,19 @@ use mathlib.Core.Path.{◌≡◌, refl, ap, sym, subst, ◌∙◌}
 use mathlib.Core.Bool.{Bool, true, false}
 use mathlib.Core.List.{List}
 use mathlib.Core.Option.{Option, none, some}
-use Prim.Native.Nat.{ℕ, zero, suc, ◌+◌, ◌-◌, ◌^◌, ◌≤◌, ◌<◌}
+use Prim.Native.Nat.{ℕ, zero, suc, ◌+◌, ◌-◌, ◌≤◌, ◌<◌}
 use native.Mathlib.Nat.{zero-add, add_assoc}
 use native.Mathlib.Omega.{arith}
-use lib.Dec.{leb}
 use lib.ListN.{length, take, drop, get_elem?}
 use Rattle.foundation.specs.Choices.{is_some, map_option}
 use Rattle.foundation.specs.Results as Results
 use Rattle.foundation.specs.Results.{Res, ok, refused, Part, ◌from◌}
 use Rattle.fields.specs.Fields.{Type-argument, Type-Argument-type, Type-Argument-type_id}
 use Rattle.wire.specs.Wire.{Message, cut}
-use Rattle.wire.specs.Messages.{as32, index, bytes_of, cut_option, message, messages}
+use Rattle.wire.specs.Messages.{index, bytes_of, cut_option, message, messages}
 use Rattle.wire.specs.told.WireTold.{part_between}
 use Rattle.messages.specs.told.Asked.{BytesTold, CheckedTold, EmbeddedIs, EmbeddedInside, EmbeddedTold, index_told, NextBodyTold, PieceInside, PieceAfter}
 use Rattle.wire.specs.declared.WireError.{WireError}
-use Rattle.wire.specs.declared.Piece.{Piece}
-use Rattle.wire.specs.declared.Piece.TheVariants as piece
-use Rattle.messages.specs.declared.Indexed.{Indexed}
-use Rattle.messages.specs.declared.Indexed.TheVariants as indexed
-use Rattle.messages.specs.declared.Checked.{Checked}
-use Rattle.messages.specs.declared.Checked.TheVariants as checked
-use Rattle.messages.specs.declared.Embedded.{Embedded}
-use Rattle.messages.specs.declared.Embedded.TheVariants as embedded
 use Rattle.wire.proofs.WalkLaws.{whole}
 use Rattle.messages.proofs.BodyLaws.{message-cut, message-refused}
 use Rattle.characters.specs.told.Places.{part_from}
@@ -34,10 +25,11 @@ use Rattle.declaration_rows.specs.Declarations as declaration
 use Rattle.declaration_rows.specs.Declarations.{star, Ty, projected, blank}
 use Rattle.schema.specs.Reading.{Read, pure, enter, keep, kept, Scope, allowance}
 use Rattle.schema.specs.Types.{max_depth, type_in, projection_in, argument_in, type_at}
-use Rattle.schema.specs.told.SchemaTold.{entries_in}
+use Rattle.schema.specs.told.SchemaTold.{entries_in, entry_nullable}
 use Rattle.schema.specs.told.TypesTold.{or_nullable, EntryIs, EntryTold}
 use Rattle.schema.specs.told.PlacesTold.{TableOf}
-use Rattle.schema.specs.told.ArgumentTold.{NoStar, ArgumentHeadTold}
+use Rattle.schema.specs.told.ArgumentTold.{projection_number, NoStar, ArgumentHeadTold}
+use Rattle.schema.specs.declared.argument.Projection.{Projection}
 use Rattle.schema.specs.declared.argument.ArgumentHead.{ArgumentHead}
 use Rattle.schema.specs.declared.argument.ArgumentHead.TheVariants as head
 use Rattle.schema.specs.declared.Tables.{Tables}
@@ -47,49 +39,55 @@ use Rattle.schema.proofs.FoundLaws.{never_given, bind_given, first-same, Passed,
 use Rattle.type_references.specs.told.ParseTold.{TypeIs, TypeFieldInside, TypeFieldTold, ArgumentTold, KeptTold, CountTold}
 use Rattle.type_references.specs.declared.arguments.TypeField.{TypeField}
 use Rattle.type_references.specs.declared.arguments.TypeField.TheVariants as field
-use Rattle.type_references.specs.declared.arguments.Argument.TheVariants as argument
 use Rattle.type_references.proofs.PendingLaws.{argument_type, type-nowhere, type-indexed, argument-reads}
+use Rattle.std.specs.Option as found
+use Rattle.std.specs.declared.option.Option as rust
+use Rattle.std.specs.declared.option.Option.TheVariants.{Some, None}
+use Rattle.std.specs.declared.result.Result.{Result}
+use Rattle.std.specs.declared.result.Result.TheVariants.{Ok, Err}
+use Rattle.foundation.specs.declared.Span.{Span}
+use Rattle.messages.specs.told.Asked.{span}
 
 -- The type in a message, from its two fields, and back.
 module _ {base : ℕ} {msg : List ℕ} {f g : ℕ} where
-  module _ {x : Embedded} (t : EmbeddedTold base msg f x) where
-    pub field-inline : {a b : ℕ} → x ≡ embedded.Inline a b → TypeFieldTold base msg f g (field.Inline a b)
+  module _ {x : Result (rust.Option Span) WireError} (t : EmbeddedTold base msg f x) where
+    pub field-inline : {a b : ℕ} → x ≡ Ok (Some (span a b)) → TypeFieldTold base msg f g (Ok (Some (field.Inline (span a b))))
     field-inline q =
         let i = subst (EmbeddedInside msg) q t.inside in
         record { is = λ m k. subst (EmbeddedIs base msg f m) q (t.is m k); inside = (i.2, i.0, i.1) }
 
-    pub field-refused : {error : WireError} → x ≡ embedded.Refused error → TypeFieldTold base msg f g (field.Refused error)
+    pub field-refused : {error : WireError} → x ≡ Err error → TypeFieldTold base msg f g (Err error)
     field-refused q = record { is = λ m k. subst (EmbeddedIs base msg f m) q (t.is m k); inside = tt }
 
-    module _ (q : x ≡ embedded.Nothing) {y : Indexed} (i : (m : Message) → cut (◌from◌ base msg) ≡ ok m → index g m ≡ index_told y) where
-      pub field-absent : y ≡ indexed.Nothing → TypeFieldTold base msg f g field.Nothing
+    module _ (q : x ≡ Ok None) {y : rust.Option ℕ} (i : (m : Message) → cut (◌from◌ base msg) ≡ ok m → index g m ≡ index_told y) where
+      pub field-absent : y ≡ None → TypeFieldTold base msg f g (Ok None)
       field-absent h = record { is = λ m k. (subst (EmbeddedIs base msg f m) q (t.is m k), i m k ∙ ap index_told h); inside = tt }
 
-      pub field-by-index : {n : ℕ} → y ≡ indexed.At n → TypeFieldTold base msg f g (field.ByIndex n)
+      pub field-by-index : {n : ℕ} → y ≡ Some n → TypeFieldTold base msg f g (Ok (Some (field.ByIndex n)))
       field-by-index h = record { is = λ m k. (subst (EmbeddedIs base msg f m) q (t.is m k), i m k ∙ ap index_told h); inside = tt }
 
-  module _ {r : TypeField} (t : TypeFieldTold base msg f g r) where
-    type-is : {y : TypeField} → r ≡ y → (m : Message) → cut (◌from◌ base msg) ≡ ok m → TypeIs base msg f g m y
+  module _ {r : Result (rust.Option TypeField) WireError} (t : TypeFieldTold base msg f g r) where
+    type-is : {y : Result (rust.Option TypeField) WireError} → r ≡ y → (m : Message) → cut (◌from◌ base msg) ≡ ok m → TypeIs base msg f g m y
     type-is q m k = subst (TypeIs base msg f g m) q (t.is m k)
 
-    pub inline-field : {a b : ℕ} → r ≡ field.Inline a b → EmbeddedTold base msg f (embedded.Inline a b)
+    pub inline-field : {a b : ℕ} → r ≡ Ok (Some (field.Inline (span a b))) → EmbeddedTold base msg f (Ok (Some (span a b)))
     inline-field q =
         let i = subst (TypeFieldInside (length msg)) q t.inside in
         record { is = λ m k. type-is q m k; inside = (i.1, i.2, i.0) }
 
-    pub refused-field : {error : WireError} → r ≡ field.Refused error → EmbeddedTold base msg f (embedded.Refused error)
+    pub refused-field : {error : WireError} → r ≡ Err error → EmbeddedTold base msg f (Err error)
     refused-field q = record { is = λ m k. type-is q m k; inside = tt }
 
-    pub absent-field : r ≡ field.Nothing → EmbeddedTold base msg f embedded.Nothing
+    pub absent-field : r ≡ Ok None → EmbeddedTold base msg f (Ok None)
     absent-field q = record { is = λ m k. (type-is q m k).0; inside = tt }
 
-    pub absent-index : r ≡ field.Nothing → (m : Message) → cut (◌from◌ base msg) ≡ ok m → index g m ≡ index_told indexed.Nothing
+    pub absent-index : r ≡ Ok None → (m : Message) → cut (◌from◌ base msg) ≡ ok m → index g m ≡ index_told None
     absent-index q m k = (type-is q m k).1
 
-    pub by-index-field : {n : ℕ} → r ≡ field.ByIndex n → EmbeddedTold base msg f embedded.Nothing
+    pub by-index-field : {n : ℕ} → r ≡ Ok (Some (field.ByIndex n)) → EmbeddedTold base msg f (Ok None)
     by-index-field q = record { is = λ m k. (type-is q m k).0; inside = tt }
 
-    pub by-index-index : {n : ℕ} → r ≡ field.ByIndex n → (m : Message) → cut (◌from◌ base msg) ≡ ok m → index g m ≡ index_told (indexed.At n)
+    pub by-index-index : {n : ℕ} → r ≡ Ok (Some (field.ByIndex n)) → (m : Message) → cut (◌from◌ base msg) ≡ ok m → index g m ≡ index_told (Some n)
     by-index-index q m k = (type-is q m k).1
 
 -- What a message says of a field that has no bytes, and of one that has.
@@ -107,17 +105,17 @@ own_projection n = record { is = refl; no-star = λ e. n.no-star (sym n.is ∙ e
 -- Where an argument's type stands.
 module _ (base : ℕ) (msg : List ℕ) (start end : ℕ) (ordered : start ≤ end) {x : ArgumentHead}
     (t : ArgumentHeadTold (base + start) (part_from start end msg) x) where
-  pub argument-starred : x ≡ head.Star → ArgumentTold base msg start end argument.Star
+  pub argument-starred : x ≡ head.Star → ArgumentTold base msg start end (Ok head.Star)
   argument-starred g = record { is = star-is (base + start) (part_from start end msg) t g; inside = tt }
 
-  module _ {p a b : ℕ} (g : x ≡ head.Inline p a b) where
-    bytes-here : BytesTold (base + start) (part_from start end msg) Type-Argument-type (piece.Body a b)
+  module _ {p : Projection} {a b : ℕ} (g : x ≡ head.Inline p (span a b)) where
+    bytes-here : BytesTold (base + start) (part_from start end msg) Type-Argument-type (Some (span a b))
     bytes-here = inline-bytes (base + start) (part_from start end msg) t g
 
     pub inline_in : (0 < a) × (a ≤ b) × (start + b ≤ end)
     inline_in = let i = bytes-here.inside in (i.2, i.0, omega (arith, i.1, part-short msg start end))
 
-    typed-here : (m : Message) → cut (◌from◌ (base + start) (part_from start end msg)) ≡ ok m → NoStar p m
+    typed-here : (m : Message) → cut (◌from◌ (base + start) (part_from start end msg)) ≡ ok m → NoStar (projection_number p) m
     typed-here = inline-typed (base + start) (part_from start end msg) t g
 
     -- the same bytes, as a part of the whole message
@@ -127,11 +125,11 @@ module _ (base : ℕ) (msg : List ℕ) (start end : ℕ) (ordered : start ≤ en
         ap (λ (n : ℕ). cut (◌from◌ n (part_from (start + a) (start + b) msg))) (sym (add_assoc base start a))
         ∙ ap (λ (l : List ℕ). cut (◌from◌ (base + start + a) l)) (sym (part-part msg start end a b i.0 i.1))
 
-    module _ (w : Checked) (k : CheckedTold (cut (◌from◌ (base + (start + a)) (part_from (start + a) (start + b) msg))) w) where
+    module _ (w : Result Unit WireError) (k : CheckedTold (cut (◌from◌ (base + (start + a)) (part_from (start + a) (start + b) msg))) w) where
       checked-here : CheckedTold (cut (part_between (base + start) (part_from start end msg) a b)) w
       checked-here = subst (λ (r : Res Message). CheckedTold r w) same-part k
 
-      pub argument-inline : w ≡ checked.Whole → ArgumentTold base msg start end (argument.Inline p (start + a) (start + b))
+      pub argument-inline : w ≡ Ok tt → ArgumentTold base msg start end (Ok (head.Inline p (span (start + a) (start + b))))
       argument-inline h =
           let part = part_from start end msg in
           let whole_is = message-cut Type-Argument-type (base + start) part bytes-here refl checked-here h in
@@ -140,12 +138,12 @@ module _ (base : ℕ) (msg : List ℕ) (start end : ℕ) (ordered : start ≤ en
             inside = (omega (arith, inline_in), omega (arith, inline_in), omega (arith, inline_in));
           }
 
-      pub argument-refused : {error err : WireError} → w ≡ checked.Refused error → err ≡ error → ArgumentTold base msg start end (argument.Refused err)
-      argument-refused h q =
-          let uncut = message-refused Type-Argument-type (base + start) (part_from start end msg) bytes-here refl checked-here h q in
+      pub argument-refused : {error : WireError} → w ≡ Err error → ArgumentTold base msg start end (Err error)
+      argument-refused h =
+          let uncut = message-refused Type-Argument-type (base + start) (part_from start end msg) bytes-here refl checked-here h in
           record { is = λ m c. (uncut.is m c, own_projection (typed-here m c)); inside = tt }
 
-  pub argument-by-index : {p n : ℕ} → x ≡ head.ByIndex p n → ArgumentTold base msg start end (argument.ByIndex p n)
+  pub argument-by-index : {p : Projection} {n : ℕ} → x ≡ head.ByIndex p n → ArgumentTold base msg start end (Ok (head.ByIndex p n))
   argument-by-index g =
       let part = part_from start end msg in
       record {
@@ -157,7 +155,7 @@ module _ (base : ℕ) (msg : List ℕ) (start end : ℕ) (ordered : start ≤ en
         inside = tt;
       }
 
-  pub argument-absent : x ≡ head.Nothing → ArgumentTold base msg start end argument.Nothing
+  pub argument-absent : x ≡ head.Nothing → ArgumentTold base msg start end (Ok head.Nothing)
   argument-absent g =
       let part = part_from start end msg in
       record {
@@ -168,6 +166,13 @@ module _ (base : ℕ) (msg : List ℕ) (start end : ℕ) (ordered : start ≤ en
         );
         inside = tt;
       }
+
+  -- one whose type is not inline
+  pub argument-other : (y : ArgumentHead) → x ≡ y → ((p : Projection) (b : Span) → y ≡ head.Inline p b → ⊥) → ArgumentTold base msg start end (Ok y)
+  argument-other head.Star g h = argument-starred g
+  argument-other (head.Inline p b) g h = absurd (h p b refl)
+  argument-other (head.ByIndex p i) g h = argument-by-index g
+  argument-other head.Nothing g h = argument-absent g
 
 -- Is an argument's type there, where it was read? If it is inline, or if its index finds an entry.
 module _ (c : Scope) (d : ℕ) (m : Message) (l : ℕ) (o : Option Ty) (b : ℕ) (e : argument_type c d m l ≡ ok (o, b)) where
@@ -198,12 +203,12 @@ module _ (c : Scope) (d : ℕ) (m : Message) (l : ℕ) (o : Option Ty) (b : ℕ)
     nowhere-dropped : get_elem? c.table.types n ≡ none → false ≡ is_some o
     nowhere-dropped g = ap is_some (first-same (sym (type-indexed c d m l h i ∙ resolve_nothing c d n l g) ∙ e))
 
-    entry_kept : (first : ℕ) → c.table.first_nullable ≡ as32 first → d < max_depth → n < 2 ^ 32 → {entry : Message}
+    entry_kept : (first : rust.Option ℕ) → c.table.first_nullable ≡ index_told first → d < max_depth → {entry : Message}
         → get_elem? c.table.types n ≡ some entry → true ≡ is_some o
-    entry_kept first f deep small {entry} g =
-        let nullable = leb first n in
+    entry_kept first f deep {entry} g =
+        let nullable = entry_nullable first n in
         let it = bind_given (type_at allowance c (d + 1) entry l) (λ q. pure (some (or_nullable nullable q.0)) q.1)
-        (sym (type-indexed c d m l h i ∙ resolve_entry c first f d n l entry deep small g) ∙ e) in
+        (sym (type-indexed c d m l h i ∙ resolve_entry c first f d n l entry deep g) ∙ e) in
         ap is_some (first-same it.2)
 
 -- An argument that is no star is kept if its type is there.
@@ -230,7 +235,7 @@ module _ (payload notes : List ℕ) (tables : Tables) (msg : List ℕ) (base lef
   pub kept-star : x ≡ head.Star → KeptTold payload notes tables msg base left true
   kept-star g = record { is = λ c s m k d deep o l n e. star-kept c d m l o n e (star-is base msg t g m k) }
 
-  pub kept-inline : {p a b : ℕ} → x ≡ head.Inline p a b → KeptTold payload notes tables msg base left true
+  pub kept-inline : {p : Projection} {a b : ℕ} → x ≡ head.Inline p (span a b) → KeptTold payload notes tables msg base left true
   kept-inline {p} {a} {b} g = record {
     is = λ c s m k d deep o l n e.
         typed_kept c d m l o n e (inline-typed base msg t g m k) λ u i h.
@@ -244,7 +249,7 @@ module _ (payload notes : List ℕ) (tables : Tables) (msg : List ℕ) (base lef
         none_dropped c d m l u i h (message_none Type-Argument-type m ((nothing-bytes base msg t g).is m k)) (nothing-index base msg t g m k);
   }
 
-  module _ {p j : ℕ} (g : x ≡ head.ByIndex p j) where
+  module _ {p : Projection} {j : ℕ} (g : x ≡ head.ByIndex p j) where
     not-inline : (m : Message) → cut (◌from◌ base msg) ≡ ok m → message Type-Argument-type m ≡ ok none
     not-inline m k = message_none Type-Argument-type m ((indexed-bytes base msg t g).is m k)
 
@@ -255,24 +260,31 @@ module _ (payload notes : List ℕ) (tables : Tables) (msg : List ℕ) (base lef
           deep-dropped c d m l u i f (not-inline m k) (indexed-index base msg t g m k) (omega arith);
     }
 
-    module _ {z : Piece} (u : EntryTold payload (entries_in tables notes) tables.types j z) where
-      entry-is : {w : Piece} → z ≡ w → (c : Scope) → TableOf payload notes tables c → EntryIs payload (get_elem? c.table.types j) w
+    module _ {z : rust.Option Span} (u : EntryTold payload (entries_in tables notes) tables.types j z) where
+      entry-is : {w : rust.Option Span} → z ≡ w → (c : Scope) → TableOf payload notes tables c → EntryIs payload (get_elem? c.table.types j) w
       entry-is q c s = subst (EntryIs payload (get_elem? c.table.types j)) q (u.is c.table.types s.entries)
 
-      pub kept-past : z ≡ piece.Nothing → KeptTold payload notes tables msg base left false
+      pub kept-past : z ≡ None → KeptTold payload notes tables msg base left false
       kept-past q = record {
         is = λ c s m k d deep o l n e.
             typed_kept c d m l o n e (indexed-typed base msg t g m k) λ v i f.
             nowhere-dropped c d m l v i f (not-inline m k) (indexed-index base msg t g m k) (entry-is q c s);
       }
 
-      pub kept_entry : (left ≡ 0 → ⊥) → j < 2 ^ 32 → {a b : ℕ} → z ≡ piece.Body a b → KeptTold payload notes tables msg base left true
-      kept_entry some_left small q = record {
+      pub kept_entry : (left ≡ 0 → ⊥) → {a b : ℕ} → z ≡ Some (span a b) → KeptTold payload notes tables msg base left true
+      kept_entry some_left q = record {
         is = λ c s m k d deep o l n e.
             typed_kept c d m l o n e (indexed-typed base msg t g m k) λ v i f.
-            entry_kept c d m l v i f (not-inline m k) (indexed-index base msg t g m k) tables.first_nullable s.nullable (omega arith) small
+            entry_kept c d m l v i f (not-inline m k) (indexed-index base msg t g m k) tables.first_nullable s.nullable (omega arith)
             (entry-is q c s).1;
       }
+
+      pub kept-looked : (left ≡ 0 → ⊥) → {r : Bool} → r ≡ found.is_some z → KeptTold payload notes tables msg base left r
+      kept-looked some_left e = rw e (go z refl)
+        where
+          go : (w : rust.Option Span) → z ≡ w → KeptTold payload notes tables msg base left (found.is_some z)
+          go (Some p) q = rw q (kept_entry some_left q)
+          go None q = rw q (kept-past q)
 
 -- How many are kept.
 keep-true : (o : Option declaration.Argument) (ts : List declaration.Argument) → true ≡ is_some o → length (keep o ts) ≡ 1 + length ts
@@ -289,12 +301,12 @@ record Counted (f : Message → Read (Option declaration.Argument)) (base : ℕ)
   passed : Passed f base msg at later
   all : length ts ≡ count + length later
 
-module _ (f : Message → Read (Option declaration.Argument)) (base : ℕ) (msg : List ℕ) (at count : ℕ) (ts : List declaration.Argument) (g : Counted f base msg at count ts) {x : Piece}
+module _ (f : Message → Read (Option declaration.Argument)) (base : ℕ) (msg : List ℕ) (at count : ℕ) (ts : List declaration.Argument) (g : Counted f base msg at count ts) {x : rust.Option Span}
     (t : NextBodyTold base msg Type-argument at x) where
-  counted-all : x ≡ piece.Nothing → count ≡ length ts
+  counted-all : x ≡ None → count ≡ length ts
   counted-all e = omega (arith, g.all, ap length (passed-all f base msg at g.later g.passed t e))
 
-  module _ {a b : ℕ} (e : x ≡ piece.Body a b) where
+  module _ {a b : ℕ} (e : x ≡ Some (span a b)) where
     others : List declaration.Argument
     others = (next-given f base msg at g.later g.passed t e).others
 
@@ -338,14 +350,14 @@ module _ (payload notes : List ℕ) (tables : Tables) (msg : List ℕ) (base lef
     };
   }
 
-  module _ (at count : ℕ) (g : Counting payload notes tables msg base left at count) {x : Piece} (t : NextBodyTold base msg Type-argument at x) where
-    pub counting-end : x ≡ piece.Nothing → CountTold payload notes tables msg base left count
+  module _ (at count : ℕ) (g : Counting payload notes tables msg base left at count) {x : rust.Option Span} (t : NextBodyTold base msg Type-argument at x) where
+    pub counting-end : x ≡ None → CountTold payload notes tables msg base left count
     counting-end q = record {
       is = λ c s m k ms h d deep ts l b e.
           counted-all (argument_in (type_at allowance c) c d) base msg at count ts (g.counted c s m k ms h d deep ts l b e) t q;
     }
 
-    module _ {a b : ℕ} (q : x ≡ piece.Body a b) where
+    module _ {a b : ℕ} (q : x ≡ Some (span a b)) where
       pub counting-in : (0 < a) × (a ≤ b) × (b ≤ length msg) × (at < b)
       counting-in = let i = subst (PieceInside msg) q t.inside in (i.2, i.0, i.1, subst (PieceAfter at) q t.later)
 

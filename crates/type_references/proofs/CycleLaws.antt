@@ -12,8 +12,6 @@ use Rattle.fields.specs.Fields.{Type-argument}
 use Rattle.wire.specs.Wire.{Message, cut}
 use Rattle.wire.proofs.WalkLaws.{whole, ok_same}
 use Rattle.messages.specs.told.Asked.{bodies, NextIs, NextBodyTold}
-use Rattle.wire.specs.declared.Piece.{Piece}
-use Rattle.wire.specs.declared.Piece.TheVariants as piece
 use Rattle.sheet.specs.declared.State.{State}
 use Rattle.schema.specs.Reading.{Scope, kept, allowance}
 use Rattle.schema.specs.Types.{argument_in, type_at}
@@ -21,8 +19,6 @@ use Rattle.schema.specs.told.SchemaTold.{Lent, Scoped, entries_in, Ready, Spends
 use Rattle.schema.specs.told.TypesTold.{or_nullable, rows_in, EntryIs, EntryTold, ParseTold}
 use Rattle.schema.specs.declared.Tables.{Tables}
 use Rattle.schema.specs.declared.Stop.{Stop}
-use Rattle.schema.specs.declared.Walked.{Walked}
-use Rattle.schema.specs.declared.Walked.TheVariants as walked
 use Rattle.schema.proofs.TypeLaws.{spends_none, spends_then, ready-after}
 use Rattle.schema.proofs.EntryLaws.{entry_in, entry_below}
 use Rattle.schema.proofs.ParseLaws.{entry_inside}
@@ -49,6 +45,12 @@ use Rattle.type_references.specs.told.ParseTold.{
 }
 use Rattle.type_references.proofs.PendingLaws.{walked_then}
 use Rattle.type_references.proofs.WalkLaws.{loop-start, loop-end}
+use Rattle.std.specs.declared.option.Option.{Option}
+use Rattle.std.specs.declared.option.Option.TheVariants.{Some, None}
+use Rattle.std.specs.declared.result.Result.TheVariants.{Ok, Err}
+use Rattle.foundation.specs.declared.Span.{Span}
+use Rattle.messages.specs.told.Asked.{span}
+use Rattle.schema.specs.told.SchemaTold.{Walked}
 
 -- What falls: one number of the depth left and of the bytes left. A look-up starts with no bytes and takes one of the depth for those of an
 -- entry, which are fewer than the number that a depth counts for.
@@ -77,12 +79,12 @@ pub fits-bytes : {e : Lent} {base : ℕ} {msg : List ℕ} {types room : ℕ} →
 fits-bytes z h = lent_area (as_bytes z (omega arith)) (λ k. absurd (omega arith))
 
 -- A type is alone if no argument is found in its message, and so is an entry if none is found in its.
-pub alone : {e : Lent} {base : ℕ} {msg : List ℕ} {x : Piece} → NextBodyTold base msg Type-argument 0 x → x ≡ piece.Nothing → Alone e base msg
+pub alone : {e : Lent} {base : ℕ} {msg : List ℕ} {x : Option Span} → NextBodyTold base msg Type-argument 0 x → x ≡ None → Alone e base msg
 alone {base = base} {msg} t g = λ c o m k. subst (NextIs base msg Type-argument m) g (t.is m (ap cut (whole base msg) ∙ k))
 
-module _ (e : Lent) {index : ℕ} {x : Piece} (t : EntryTold e.payload (entries_in e.tables e.notes) e.tables.types index x) {a b : ℕ}
-    (g : x ≡ piece.Body a b) where
-  entry-is : (c : Scope) → Scoped e c → EntryIs e.payload (get_elem? c.table.types index) (piece.Body a b)
+module _ (e : Lent) {index : ℕ} {x : Option Span} (t : EntryTold e.payload (entries_in e.tables e.notes) e.tables.types index x) {a b : ℕ}
+    (g : x ≡ Some (span a b)) where
+  entry-is : (c : Scope) → Scoped e c → EntryIs e.payload (get_elem? c.table.types index) (Some (span a b))
   entry-is c o = subst (EntryIs e.payload (get_elem? c.table.types index)) g (t.is c.table.types o.entries)
 
   pub alone-entry : Alone e a (take (b - a) (drop a e.payload)) → AloneEntry e index
@@ -110,21 +112,19 @@ module _ (e : Lent) {index : ℕ} {x : Piece} (t : EntryTold e.payload (entries_
       record { ready = h; inside = entry_inside e.payload a b i.0 i.1; deep = omega arith; room = entry-fits f }
 
 walked_spends : {s s₁ : State} (w : Walked) → Spends s s₁ → WalkedSpends s₁ w → WalkedSpends s w
-walked_spends (walked.Done s') h k = spends_then h k
-walked_spends (walked.Refused stop) h k = tt
+walked_spends (Ok s') h k = spends_then h k
+walked_spends (Err stop) h k = tt
 
 -- A type is entered, or refused; then its arguments.
 module _ {e : Lent} {msg : List ℕ} {base left role projection : ℕ} {nullable : Bool} {s : State} {w : Walked} {S S₁ T T₁ : List ℕ}
     (n : EnterTold e msg base left role projection nullable s w S S₁ T T₁) where
-  pub parse-unentered : {stop : Stop} → w ≡ walked.Refused stop → ParseTold e msg base left role projection nullable s w S S₁ T T₁
-  parse-unentered {stop} q =
-      let told : ParseTold e msg base left role projection nullable s (walked.Refused stop) S S₁ T T₁ = record {
-        spends = tt;
-        is = λ c o m k d l. subst (λ (x : Walked). EnteredIs c d m role projection nullable s x S S₁ T T₁) q (n.is c o m k d l);
-      } in
-      subst (λ (x : Walked). ParseTold e msg base left role projection nullable s x S S₁ T T₁) (sym q) told
+  pub parse-unentered : {stop : Stop} → w ≡ Err stop → ParseTold e msg base left role projection nullable s (Err stop) S S₁ T T₁
+  parse-unentered q = record {
+    spends = tt;
+    is = λ c o m k d l. subst (λ (x : Walked). EnteredIs c d m role projection nullable s x S S₁ T T₁) q (n.is c o m k d l);
+  }
 
-  module _ {s₁ : State} (q : w ≡ walked.Done s₁) {less : ℕ} (f : less ≡ left - 1) where
+  module _ {s₁ : State} (q : w ≡ Ok s₁) {less : ℕ} (f : less ≡ left - 1) where
     entered-fits : {tables : Tables} {bytes room : ℕ} → WaitingRoom tables s.types bytes room → WaitingRoom tables s₁.types bytes room
     entered-fits (as_types h) = let one = subst (WalkedSpends s) q n.spends in as_types (omega (arith, one.types))
     entered-fits (as_bytes z h) = as_bytes z h
@@ -156,20 +156,20 @@ module _ {e : Lent} {msg : List ℕ} {base left role projection : ℕ} {nullable
     }
 
     -- a type with no argument
-    parse-alone : Alone e base msg → ParseTold e msg base left role projection nullable s (walked.Done s₁) S S₁ T T₁
+    parse-alone : Alone e base msg → ParseTold e msg base left role projection nullable s (Ok s₁) S S₁ T T₁
     parse-alone h = parse-entered (record { spends = spends_none s₁; is = λ c o. (none c o).is c o })
       where
-        next : (c : Scope) → Scoped e c → NextBodyTold base (take (length msg) msg) Type-argument 0 piece.Nothing
-        next c o = subst (λ (l : List ℕ). NextBodyTold base l Type-argument 0 piece.Nothing) (sym (take-length msg))
+        next : (c : Scope) → Scoped e c → NextBodyTold base (take (length msg) msg) Type-argument 0 None
+        next c o = subst (λ (l : List ℕ). NextBodyTold base l Type-argument 0 None) (sym (take-length msg))
             (record { is = λ m k. h c o m (ap cut (sym (whole base msg)) ∙ k); inside = tt; later = tt; begins = tt })
 
-        none : (c : Scope) → Scoped e c → ArgumentsTold e msg base less s₁ (walked.Done s₁) S₁ S₁ T₁ T₁
+        none : (c : Scope) → Scoped e c → ArgumentsTold e msg base less s₁ (Ok s₁) S₁ S₁ T₁ T₁
         none c o = loop-end (loop-start {nest = []}) (next c o) refl refl
 
-    stops : {room : ℕ} → FitsType e base msg s.types room → room ≡ 0 → ParseTold e msg base left role projection nullable s (walked.Done s₁) S S₁ T T₁
+    stops : {room : ℕ} → FitsType e base msg s.types room → room ≡ 0 → ParseTold e msg base left role projection nullable s (Ok s₁) S S₁ T T₁
     stops (lent_area h z) k = let one = subst (EnteredOne s) q n.one in absurd (omega (arith, z k, one))
     stops (no_area z h) k = parse-alone h
 
     pub parse-stops : {nest : List ℕ} → ParseRoom e msg nest base left s → length nest ≡ 0
-        → ParseTold e msg base left role projection nullable s (walked.Done s₁) S S₁ T T₁
+        → ParseTold e msg base left role projection nullable s (Ok s₁) S S₁ T T₁
     parse-stops h k = stops h.room k

@@ -17,8 +17,6 @@ use Rattle.wire.specs.Wire.{Message, cut}
 use Rattle.wire.specs.Messages.{index, flag, messages}
 use Rattle.messages.specs.told.Asked.{CheckedTold, index_told, bodies}
 use Rattle.wire.specs.declared.WireError.{WireError}
-use Rattle.messages.specs.declared.Checked.{Checked}
-use Rattle.messages.specs.declared.Checked.TheVariants as checked
 use Rattle.wire.proofs.WalkLaws.{ok_same}
 use Rattle.names.specs.told.Name.{name_text, source_text, absent_name}
 use Rattle.names.specs.declared.name.Name.{Name}
@@ -37,15 +35,14 @@ use Rattle.schema.specs.told.PlacesTold.{TableOf}
 use Rattle.schema.specs.told.HeadTold.{HeadTold}
 use Rattle.schema.specs.declared.Tables.{Tables}
 use Rattle.schema.specs.declared.Stop.TheVariants as stop
-use Rattle.schema.specs.declared.Walked.TheVariants as walked
 use Rattle.schema.specs.declared.head.TypeHead.{TypeHead}
 use Rattle.schema.proofs.HeadLaws.{no-messages}
 use Rattle.schema.proofs.NamedLaws.{cell-length, head-put}
 use Rattle.schema.proofs.ParseLaws.{type_none, of_fields, type_entered, type-uncut, type-done, type_rows_lem}
 use Rattle.type_references.specs.told.Pending.{rows_read, prefixed, argument_rows}
 use Rattle.type_references.specs.told.ParseTold.{CountTold, ArgumentsCut, ArgumentsKept, CountedTold, StarTold, EnterTold}
-use Rattle.type_references.specs.declared.enter.Counted.{Counted}
-use Rattle.type_references.specs.declared.enter.Counted.TheVariants as counted
+use Rattle.std.specs.declared.result.Result.{Result}
+use Rattle.std.specs.declared.result.Result.TheVariants.{Ok, Err}
 
 -- a type's own row
 abbrev pub type_row : ℕ → Bool → Option Text → ℕ → ℕ → List Row
@@ -94,7 +91,7 @@ row-spends {payload} {d2} {s} ready some_left role projection nullable name coun
     }
 
 -- A star is entered, if a type may be.
-pub star_none : (s : State) → s.types ≡ 0 → {S S' T T' : List ℕ} → StarTold s (walked.Refused stop.TooManyTypes) S S' T T'
+pub star_none : (s : State) → s.types ≡ 0 → {S S' T T' : List ℕ} → StarTold s (Err stop.TooManyTypes) S S' T T'
 star_none s h = record { spends = tt; is = ap (enter (pure (projected star blank))) h }
 
 star_entered : (n : ℕ) → 1 ≤ n → enter (pure (projected star blank)) n ≡ ok (projected star blank, n - 1)
@@ -102,7 +99,7 @@ star_entered zero h = absurd (omega arith)
 star_entered (suc n) h = let less : n ≡ suc n - 1 = omega arith in ap (λ (k : ℕ). ok (projected star blank, k)) less
 
 pub star_done : (payload d2 : List ℕ) (s : State) → Ready payload d2 s → (s.types ≡ 0 → ⊥) → {name : Name} → name ≡ absent_name → {s' : State} {S S' T T' : List ℕ}
-    → PutRows (type_row argument_role false (name_text payload d2 name) 0 star) (s.types - 1) s s' S S' T T' → StarTold s (walked.Done s') S S' T T'
+    → PutRows (type_row argument_role false (name_text payload d2 name) 0 star) (s.types - 1) s s' S S' T T' → StarTold s (Ok s') S S' T T'
 unfolding types_rows name_text source_text
 star_done payload d2 s ready h {name} e {s'} {S} {S'} {T} {T'} p =
     let some_left : 1 ≤ s.types = omega arith in
@@ -136,7 +133,7 @@ module _ (c : Scope) (d : ℕ) (m : Message) (n : ℕ) (h : 1 ≤ n) (l : n ≤ 
 -- The arguments of a type are counted: it has none, one isn't cut, or all are.
 module _ (payload notes : List ℕ) (tables : Tables) (msg : List ℕ) (base left : ℕ) where
   pub counted_none : ((m : Message) → cut (◌from◌ base msg) ≡ ok m → bodies Type-argument m ≡ [])
-      → CountedTold payload notes tables msg base left (counted.Count 0)
+      → CountedTold payload notes tables msg base left (Ok 0)
   unfolding kept
   counted_none h = record {
     cuts = λ m k. ([], no-messages Type-argument m (h m k));
@@ -148,50 +145,44 @@ module _ (payload notes : List ℕ) (tables : Tables) (msg : List ℕ) (base lef
     };
   }
 
-  module _ {x : Checked} (t : (m : Message) → cut (◌from◌ base msg) ≡ ok m → CheckedTold (messages Type-argument m) x) where
-    pub counted-uncut : {error err : WireError} → x ≡ checked.Refused error → err ≡ error
-        → CountedTold payload notes tables msg base left (counted.Refused err)
-    counted-uncut g q = record {
-      cuts = λ m k. rw q (subst (CheckedTold (messages Type-argument m)) g (t m k));
-      kept = tt;
-    }
+  module _ {x : Result Unit WireError} (t : (m : Message) → cut (◌from◌ base msg) ≡ ok m → CheckedTold (messages Type-argument m) x) where
+    pub counted-uncut : {error : WireError} → x ≡ Err error → CountedTold payload notes tables msg base left (Err error)
+    counted-uncut g = record { cuts = λ m k. subst (CheckedTold (messages Type-argument m)) g (t m k); kept = tt }
 
-    pub counted-all : {count : ℕ} → x ≡ checked.Whole → CountTold payload notes tables msg base left count
-        → CountedTold payload notes tables msg base left (counted.Count count)
+    pub counted-all : {count : ℕ} → x ≡ Ok tt → CountTold payload notes tables msg base left count
+        → CountedTold payload notes tables msg base left (Ok count)
     counted-all g n = record { cuts = λ m k. subst (CheckedTold (messages Type-argument m)) g (t m k); kept = n }
 
 module _ (e : Lent) (msg : List ℕ) (base left role projection : ℕ) (nullable : Bool) (s : State) where
-  pub enter-none : s.types ≡ 0 → {S S' T T' : List ℕ} → EnterTold e msg base left role projection nullable s (walked.Refused stop.TooManyTypes) S S' T T'
+  pub enter-none : s.types ≡ 0 → {S S' T T' : List ℕ} → EnterTold e msg base left role projection nullable s (Err stop.TooManyTypes) S S' T T'
   enter-none h = record { spends = tt; one = tt; is = λ c o m k d l. type_none c d m s.types h }
 
-  module _ (ready : Ready e.payload e.d2 s) (h : s.types ≡ 0 → ⊥) {deeper : ℕ} (less : deeper ≡ left - 1) (x : Counted)
+  module _ (ready : Ready e.payload e.d2 s) (h : s.types ≡ 0 → ⊥) {deeper : ℕ} (less : deeper ≡ left - 1) (x : Result ℕ WireError)
       (t : CountedTold e.payload e.notes e.tables msg base deeper x) where
     some_left : 1 ≤ s.types
     some_left = omega arith
 
-    pub enter-uncut : {error err : WireError} → x ≡ counted.Refused error → err ≡ error → {S S' T T' : List ℕ}
-        → EnterTold e msg base left role projection nullable s (walked.Refused (stop.Wire err)) S S' T T'
-    enter-uncut {error} {err} g q = record {
+    pub enter-uncut : {error : WireError} → x ≡ Err error → {S S' T T' : List ℕ}
+        → EnterTold e msg base left role projection nullable s (Err (stop.Wire error)) S S' T T'
+    enter-uncut {error} g = record {
       spends = tt;
       one = tt;
       is = λ c o m k d l.
           let cuts : messages Type-argument m ≡ stop_refused (stop.Wire error) = subst (ArgumentsCut (messages Type-argument m)) g (t.cuts m k) in
-          let same : messages Type-argument m ≡ stop_refused (stop.Wire err) =
-          subst (λ (y : WireError). messages Type-argument m ≡ stop_refused (stop.Wire y)) (sym q) cuts in
-          type-uncut c d m s.types some_left ready.room.types err same;
+          type-uncut c d m s.types some_left ready.room.types error cuts;
     }
 
-    module _ {count : ℕ} (g : x ≡ counted.Count count) {own : TypeHead} (f : HeadTold base msg own) {either : Bool} (q : either ≡ (nullable || own.nullable)) (name : Name)
+    module _ {count : ℕ} (g : x ≡ Ok count) {own : TypeHead} (f : HeadTold base msg own) {either : Bool} (q : either ≡ (nullable || own.nullable)) (name : Name)
         (i : (c : Scope) → NamesOf e.payload e.d2 e.ends e.notes e.tables.records c.names
         → (k : ℕ) (m : Message) → index k m ≡ index_told own.name → (l : ℕ) → class_name_in c k m l ≡ ok (name_text e.payload e.d2 name, l))
         {s' : State} {S S' T T' : List ℕ}
         (p : PutRows (type_row role either (name_text e.payload e.d2 name) count projection) (s.types - 1) s s' S S' T T') where
-      pub enter-done : EnterTold e msg base left role projection nullable s (walked.Done s') S S' T T'
+      pub enter-done : EnterTold e msg base left role projection nullable s (Ok s') S S' T T'
       enter-done = record {
         spends = row-spends ready some_left role projection either name count p;
         one = omega (arith, put-types p, some_left);
         is = λ c o m k d l.
-            let whole : ArgumentsCut (messages Type-argument m) (counted.Count count) = subst (ArgumentsCut (messages Type-argument m)) g (t.cuts m k) in
+            let whole : ArgumentsCut (messages Type-argument m) (Ok count) = subst (ArgumentsCut (messages Type-argument m)) g (t.cuts m k) in
             let few : CountTold e.payload e.notes e.tables msg base deeper count =
             subst (ArgumentsKept e.payload e.notes e.tables msg base deeper) g t.kept in
             let table : TableOf e.payload e.notes e.tables c = record { entries = o.entries; nullable = o.nullable } in

@@ -18,11 +18,12 @@ use Rattle.schema.specs.told.SchemaTold.{Lent, Scoped, PickedSpends, PickedTold}
 use Rattle.schema.specs.told.TypesTold.{rows_in, picked_of, ResolveTold, DeclaredTold}
 use Rattle.type_references.specs.told.OptionalTold.{optional_of, LookedTold, OptionalTold}
 use Rattle.schema.specs.declared.Stop.{Stop}
-use Rattle.schema.specs.declared.Walked.{Walked}
-use Rattle.schema.specs.declared.Walked.TheVariants as walked
-use Rattle.schema.specs.declared.Picked.{Picked}
-use Rattle.schema.specs.declared.Picked.TheVariants as picked
 use Rattle.schema.proofs.TypeLaws.{spends_none}
+use Rattle.std.specs.declared.option.Option as rust
+use Rattle.std.specs.Prelude.{unwrap_or}
+use Rattle.std.specs.declared.option.Option.TheVariants.{Some, None}
+use Rattle.std.specs.declared.result.Result.TheVariants.{Ok, Err}
+use Rattle.schema.specs.told.SchemaTold.{Walked, Picked}
 
 none_put : (role : ℕ) (s : State) (S T : List ℕ) → PutRows (type_rows role none) s.types s s S S T T
 unfolding sheet_from texts
@@ -34,13 +35,13 @@ module _ {e : Lent} {msg : List ℕ} {base inline by_index role : ℕ} {s : Stat
       → PickedTold (declared_type c inline by_index m s.types) (rows_in role invariant) s y S S' T T'
   here g c o m k = subst (λ (y : Picked). PickedTold (declared_type c inline by_index m s.types) (rows_in role invariant) s y S S' T T') g (t.is c o m k)
 
-  optional-kept : {s' : State} → r ≡ picked.Kept s' → OptionalTold e msg base inline by_index role s (walked.Done s') S S' T T'
+  optional-kept : {s' : State} → r ≡ Ok (Some s') → OptionalTold e msg base inline by_index role s (Ok s') S S' T T'
   optional-kept g = record {
     spends = subst (PickedSpends s) g t.spends;
     is = λ c o m k. let h = here g c o m k in (some h.0, h.1, h.2, h.3);
   }
 
-  optional-dropped : r ≡ picked.Dropped → OptionalTold e msg base inline by_index role s (walked.Done s) S S' T T'
+  optional-dropped : r ≡ Ok None → OptionalTold e msg base inline by_index role s (Ok s) S S' T T'
   optional-dropped g = record {
     spends = spends_none s;
     is = λ c o m k.
@@ -51,7 +52,7 @@ module _ {e : Lent} {msg : List ℕ} {base inline by_index role : ℕ} {s : Stat
         (none, s.types, h.0, put);
   }
 
-  optional-refused : {stop : Stop} → r ≡ picked.Refused stop → OptionalTold e msg base inline by_index role s (walked.Refused stop) S S' T T'
+  optional-refused : {stop : Stop} → r ≡ Err stop → OptionalTold e msg base inline by_index role s (Err stop) S S' T T'
   optional-refused g = record { spends = tt; is = λ c o m k. here g c o m k }
 
 pub optional : {e : Lent} {msg : List ℕ} {base inline by_index role : ℕ} {s : State} (r : Picked) {w : Walked} {S S' T T' : List ℕ}
@@ -62,14 +63,22 @@ optional {e} {msg} {base} {inline} {by_index} {role} {s} r {w} {S} {S'} {T} {T'}
   where
     go : (r : Picked) → DeclaredTold e msg base inline by_index role s r S S' T T'
         → OptionalTold e msg base inline by_index role s (optional_of s r) S S' T T'
-    go (picked.Kept s') t = optional-kept t refl
-    go picked.Dropped t = optional-dropped t refl
-    go (picked.Refused stop) t = optional-refused t refl
+    go (Ok (Some s')) t = optional-kept t refl
+    go (Ok None) t = optional-dropped t refl
+    go (Err stop) t = optional-refused t refl
 
 -- what was walked is there, or refused
 pub walked_optional : (s : State) (w : Walked) → w ≡ optional_of s (picked_of w)
-walked_optional s (walked.Done s') = refl
-walked_optional s (walked.Refused stop) = refl
+walked_optional s (Ok s') = refl
+walked_optional s (Err stop) = refl
+
+-- what is there or not, once it is known that nothing was refused
+pub optional_ok : (s : State) {p : Picked} {o : rust.Option State} → p ≡ Ok o → {s' : State} → s' ≡ unwrap_or o s → Ok s' ≡ optional_of s p
+optional_ok s {o = o} h e = rw (h, e) (go o)
+  where
+    go : (o : rust.Option State) → Ok (unwrap_or o s) ≡ optional_of s (Ok o)
+    go (Some s') = refl
+    go None = refl
 
 pub looked : {e : Lent} {index role : ℕ} {s : State} (p : Picked) {w : Walked} {S S' T T' : List ℕ}
     → ResolveTold e index 64 role invariant s p S S' T T' → w ≡ optional_of s p

@@ -24,12 +24,11 @@ use Rattle.declaration_rows.specs.Rows.{argument_role, types_rows}
 use Rattle.schema.specs.told.ArgumentTold.{NoStar}
 use Rattle.schema.specs.told.SchemaTold.{WalkedTold, PickedTold}
 use Rattle.schema.specs.told.TypesTold.{or_nullable, rows_in}
-use Rattle.schema.specs.declared.Walked.{Walked}
-use Rattle.schema.specs.declared.Walked.TheVariants as walked
-use Rattle.schema.specs.declared.Picked.{Picked}
-use Rattle.schema.specs.declared.Picked.TheVariants as picked
 use Rattle.schema.proofs.ArgumentLaws.{types_cons, argument-star, argument-typed}
 use Rattle.type_references.specs.told.Pending.{rows_read, prefixed, shown_rows, kept_rows, argument_rows, Wait, waits, pending}
+use Rattle.std.specs.declared.option.Option.TheVariants.{Some, None}
+use Rattle.std.specs.declared.result.Result.TheVariants.{Ok, Err}
+use Rattle.schema.specs.told.SchemaTold.{Walked, Picked}
 
 -- Some rows, then those that are read.
 pub prefixed_none : (r : Res (List Row × ℕ)) → prefixed [] r ≡ r
@@ -54,7 +53,7 @@ module _ {A : Type 0} (rows : A → List Row) where
 
   -- rows that are written
   pub walked-done : (r : Res (A × ℕ)) {R : List Row} {b : ℕ} → rows_read rows r ≡ ok (R, b) → {s s' : State} {S S' T T' : List ℕ}
-      → PutRows R b s s' S S' T T' → WalkedTold r rows s (walked.Done s') S S' T T'
+      → PutRows R b s s' S S' T T' → WalkedTold r rows s (Ok s') S S' T T'
   walked-done r {R} {b} e {s} {s'} {S} {S'} {T} {T'} p =
       let f = rows_ok r e in
       (f.0, b, f.1, subst (λ (rs : List Row). PutRows rs b s s' S S' T T') (sym f.2) p)
@@ -63,8 +62,8 @@ module _ {A : Type 0} (rows : A → List Row) where
   pub walked_then : {B : Type 0} (rows' : B → List Row) (r : Res (A × ℕ)) (r' : Res (B × ℕ)) (own : List Row) → rows_read rows r ≡ prefixed own (rows_read rows' r')
       → {s s₁ : State} {S S₁ T T₁ : List ℕ} → PutRows own s₁.types s s₁ S S₁ T T₁ → (w : Walked) (S₂ T₂ : List ℕ) → WalkedTold r' rows' s₁ w S₁ S₂ T₁ T₂
       → WalkedTold r rows s w S S₂ T T₂
-  walked_then rows' r r' own e p (walked.Done s') S₂ T₂ (a, b, f, q) = walked-done r (e ∙ rw f) (rows_then own (rows' a) p q)
-  walked_then rows' r r' own e p (walked.Refused stop) S₂ T₂ f = rows-refused r (e ∙ rw f)
+  walked_then rows' r r' own e p (Ok s') S₂ T₂ (a, b, f, q) = walked-done r (e ∙ rw f) (rows_then own (rows' a) p q)
+  walked_then rows' r r' own e p (Err stop) S₂ T₂ f = rows-refused r (e ∙ rw f)
 
 -- some rows, then those of what is read after them
 abbrev followed : Res (List Row × ℕ) → Read (List Row) → Res (List Row × ℕ)
@@ -224,9 +223,9 @@ module _ (c : Scope) (d : ℕ) (m : Message) (l : ℕ) where
 -- What may not be there, as an argument of that projection.
 pub picked_projected : (p : ℕ) (r : Res (Option Ty × ℕ)) (s : State) (z : Picked) (S S' T T' : List ℕ) → PickedTold r (rows_in argument_role p) s z S S' T T'
     → PickedTold (with_projection p r) shown_rows s z S S' T T'
-picked_projected p r s (picked.Kept s') S S' T T' (t, b, e, put) = (projected p t, b, ap (with_projection p) e, put)
-picked_projected p r s picked.Dropped S S' T T' (e, f, g) = (ap (with_projection p) e, f, g)
-picked_projected p r s (picked.Refused stop) S S' T T' e = ap (with_projection p) e
+picked_projected p r s (Ok (Some s')) S S' T T' (t, b, e, put) = (projected p t, b, ap (with_projection p) e, put)
+picked_projected p r s (Ok None) S S' T T' (e, f, g) = (ap (with_projection p) e, f, g)
+picked_projected p r s (Err stop) S S' T T' e = ap (with_projection p) e
 
 -- A walk of arguments that wait: the rows written so far, then those of what waits, are the whole's.
 pub record Continues (whole : Res (List Row × ℕ)) (c : Scope) (ws : List Wait) (s₀ s : State) (S₀ S T₀ T : List ℕ) : Type 0 where

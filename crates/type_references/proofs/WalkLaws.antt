@@ -17,8 +17,6 @@ use Rattle.wire.specs.Messages.{message, cut_all, messages}
 use Rattle.wire.specs.told.WireTold.{part_between}
 use Rattle.messages.specs.told.Asked.{bodies, NextIs, NextBodyTold, PieceInside, PieceBegins}
 use Rattle.wire.specs.declared.WireError.{WireError}
-use Rattle.wire.specs.declared.Piece.{Piece}
-use Rattle.wire.specs.declared.Piece.TheVariants as piece
 use Rattle.wire.proofs.WalkLaws.{whole, ok_same}
 use Rattle.messages.proofs.BodyLaws.{part-is}
 use Rattle.lookup.proofs.LookupLaws.{part_longer}
@@ -33,15 +31,11 @@ use Rattle.schema.specs.Reading.{pure, enter, kept, Scope, allowance}
 use Rattle.schema.specs.Types.{max_depth, resolve_at, argument_in, type_at}
 use Rattle.declaration_rows.specs.Rows.{argument_role}
 use Rattle.schema.specs.told.SchemaTold.{Lent, Scoped, Ready, Spends, WalkedSpends, PickedSpends, WalkedTold, PickedTold, stop_refused}
-use Rattle.schema.specs.told.ArgumentTold.{NoStar}
+use Rattle.schema.specs.told.ArgumentTold.{projection_number, NoStar}
 use Rattle.schema.specs.told.TypesTold.{or_nullable, rows_in, ResolveTold}
 use Rattle.schema.specs.declared.Tables.{Tables}
 use Rattle.schema.specs.declared.Stop.{Stop}
 use Rattle.schema.specs.declared.Stop.TheVariants as stop
-use Rattle.schema.specs.declared.Walked.{Walked}
-use Rattle.schema.specs.declared.Walked.TheVariants as walked
-use Rattle.schema.specs.declared.Picked.{Picked}
-use Rattle.schema.specs.declared.Picked.TheVariants as picked
 use Rattle.schema.proofs.TypeLaws.{spends_none, spends_then, ready-after}
 use Rattle.schema.proofs.ListLaws.{cut-first}
 use Rattle.type_references.specs.told.Pending.{
@@ -77,8 +71,9 @@ use Rattle.type_references.specs.told.ParseTold.{
   roomy,
   nowhere,
 }
-use Rattle.type_references.specs.declared.arguments.Argument.{Argument}
-use Rattle.type_references.specs.declared.arguments.Argument.TheVariants as argument
+use Rattle.schema.specs.declared.argument.Projection.{Projection}
+use Rattle.schema.specs.declared.argument.ArgumentHead.{ArgumentHead}
+use Rattle.schema.specs.declared.argument.ArgumentHead.TheVariants as head
 use Rattle.type_references.specs.declared.waiting.Waiting.{Waiting}
 use Rattle.type_references.proofs.PendingLaws.{
   rows-refused,
@@ -101,6 +96,14 @@ use Rattle.type_references.proofs.PendingLaws.{
   continues-refused,
   continues-done,
 }
+use Rattle.std.specs.Prelude.{unwrap_or}
+use Rattle.std.specs.declared.option.Option as rust
+use Rattle.std.specs.declared.result.Result.{Result}
+use Rattle.std.specs.declared.option.Option.TheVariants.{Some, None}
+use Rattle.std.specs.declared.result.Result.TheVariants.{Ok, Err}
+use Rattle.foundation.specs.declared.Span.{Span}
+use Rattle.messages.specs.told.Asked.{span}
+use Rattle.schema.specs.told.SchemaTold.{Walked, Picked}
 use Rattle.type_references.proofs.StackLaws.{
   weight-same,
   weight-more,
@@ -123,16 +126,16 @@ pub record Met (base : ℕ) (msg : List ℕ) (end left a b : ℕ) (w : Wait) : T
   pub cuts : cut (part_between base msg a b) ≡ ok first
   pub rest : Pends base msg b end left (waits w.depth others)
 
-module _ {base : ℕ} {msg : List ℕ} {at end left : ℕ} {w : Wait} (p : Pends base msg at end left w) (ordered : at ≤ end) {x : Piece}
+module _ {base : ℕ} {msg : List ℕ} {at end left : ℕ} {w : Wait} (p : Pends base msg at end left w) (ordered : at ≤ end) {x : rust.Option Span}
     (t : NextBodyTold base (take end msg) Type-argument at x) where
-  next-is : {y : Piece} → x ≡ y → NextIs base (take end msg) Type-argument p.rest y
+  next-is : {y : rust.Option Span} → x ≡ y → NextIs base (take end msg) Type-argument p.rest y
   next-is g = subst (NextIs base (take end msg) Type-argument p.rest) g (t.is p.rest (ap cut (part-is base msg at end ordered) ∙ p.cuts))
 
-  pub met-none : x ≡ piece.Nothing → w.arguments ≡ []
+  pub met-none : x ≡ None → w.arguments ≡ []
   unfolding messages cut_all
   met-none g = ok_same (sym p.many ∙ ap cut_all (next-is g))
 
-  pub met : {a b : ℕ} → x ≡ piece.Body a b → Met base msg end left a b w
+  pub met : {a b : ℕ} → x ≡ Some (span a b) → Met base msg end left a b w
   unfolding messages
   met {a} {b} g =
       let i = subst (PieceInside (take end msg)) g t.inside in
@@ -302,9 +305,9 @@ module _ {e : Lent} {msg : List ℕ} {base left : ℕ} {s₀ : State} {S₀ T₀
       last-inside : PendingInside msg left (get_or nest (height - 1) 0)
       last-inside = g.inside (height - 1) (omega (arith, pop-some))
 
-    module _ {x : Piece} (t : NextBodyTold base (take end msg) Type-argument at x) where
+    module _ {x : rust.Option Span} (t : NextBodyTold base (take end msg) Type-argument at x) where
       -- no argument is left here
-      module _ (q : x ≡ piece.Nothing) where
+      module _ (q : x ≡ None) where
         passed-all : {told : Res (List Row × ℕ)} {c : Scope} (o : Goes told c base msg nest height at end deep s₀ s S₀ S T₀ T)
             → Continues told c o.later s₀ s S₀ S T₀ T
         passed-all {told} {c} o =
@@ -312,7 +315,7 @@ module _ {e : Lent} {msg : List ℕ} {base left : ℕ} {s₀ : State} {S₀ T₀
             (ap (λ (ms : List Message). pending c (waits o.wait.depth ms ∷ o.later) s.types) (met-none o.here g.ordered t q)
             ∙ pending-end c o.wait.depth o.later s.types)
 
-        pub loop-end : height ≡ 0 → ArgumentsTold e msg base left s₀ (walked.Done s) S₀ S T₀ T
+        pub loop-end : height ≡ 0 → ArgumentsTold e msg base left s₀ (Ok s) S₀ S T₀ T
         loop-end f = record {
           spends = g.spends;
           is = λ c o m k ms h d l.
@@ -349,7 +352,7 @@ module _ {e : Lent} {msg : List ℕ} {base left : ℕ} {s₀ : State} {S₀ T₀
               (omega (arith, weight_pop nest height (pop-some n)))
 
       -- an argument from a to b
-      module _ {a b : ℕ} (q : x ≡ piece.Body a b) where
+      module _ {a b : ℕ} (q : x ≡ Some (span a b)) where
         pub body-in : (at < a) × (a ≤ b) × (b ≤ end) × (b ≤ length msg)
         body-in =
             let i = subst (PieceInside (take end msg)) q t.inside in
@@ -358,12 +361,12 @@ module _ {e : Lent} {msg : List ℕ} {base left : ℕ} {s₀ : State} {S₀ T₀
         pub passed-falls : (nest' : List ℕ) → take height nest' ≡ take height nest → turns nest' height b end < turns nest height at end
         passed-falls nest' f = omega (arith, weight-same nest nest' height f, body-in)
 
-        module _ {r : Argument} (u : ArgumentTold base msg a b r) where
+        module _ {r : Result ArgumentHead WireError} (u : ArgumentTold base msg a b r) where
           next-argument : {told : Res (List Row × ℕ)} {c : Scope} (o : Goes told c base msg nest height at end deep s₀ s S₀ S T₀ T)
               → Met base msg end deep a b o.wait
           next-argument o = met o.here g.ordered t q
 
-          argument_is : {y : Argument} → r ≡ y → (m : Message) → cut (part_between base msg a b) ≡ ok m → ArgumentIs base msg m y
+          argument_is : {y : Result ArgumentHead WireError} → r ≡ y → (m : Message) → cut (part_between base msg a b) ≡ ok m → ArgumentIs base msg m y
           argument_is v m k = subst (ArgumentIs base msg m) v (u.is m k)
 
           -- the loop from b on, once it is known what it tells
@@ -382,7 +385,7 @@ module _ {e : Lent} {msg : List ℕ} {base left : ℕ} {s₀ : State} {S₀ T₀
             going = λ c o m k ms h d l. go c o _ (g.going c o m k ms h d l);
           }
 
-          pub loop-passed : r ≡ argument.Nothing → Looping e msg base left s₀ S₀ T₀ b end deep height s S T nest
+          pub loop-passed : r ≡ Ok head.Nothing → Looping e msg base left s₀ S₀ T₀ b end deep height s S T nest
           loop-passed v = loop-on s S T nest refl (spends_none s) λ c o told go.
               let n = next-argument go in
               let i = argument_is v n.first n.cuts in
@@ -391,7 +394,7 @@ module _ {e : Lent} {msg : List ℕ} {base left : ℕ} {s₀ : State} {S₀ T₀
           -- what refuses an argument refuses them all
           refused_all : (stop : Stop) → ((c : Scope) → Scoped e c → (m : Message) → cut (part_between base msg a b) ≡ ok m → (d : ℕ) → deep ≡ max_depth - d
               → argument_in (type_at allowance c) c d m s.types ≡ stop_refused stop) → {S' T' : List ℕ}
-              → ArgumentsTold e msg base left s₀ (walked.Refused stop) S₀ S' T₀ T'
+              → ArgumentsTold e msg base left s₀ (Err stop) S₀ S' T₀ T'
           refused_all stop f = record {
             spends = tt;
             is = λ c o m k ms h d l.
@@ -401,51 +404,45 @@ module _ {e : Lent} {msg : List ℕ} {base left : ℕ} {s₀ : State} {S₀ T₀
                 (goes-refused go n (f c o n.first n.cuts go.wait.depth go.here.deep));
           }
 
-          pub loop-uncut : {error : WireError} → r ≡ argument.Refused error → {S' T' : List ℕ}
-              → ArgumentsTold e msg base left s₀ (walked.Refused (stop.Wire error)) S₀ S' T₀ T'
+          pub loop-uncut : {error : WireError} → r ≡ Err error → {S' T' : List ℕ}
+              → ArgumentsTold e msg base left s₀ (Err (stop.Wire error)) S₀ S' T₀ T'
           loop-uncut {error} v = refused_all (stop.Wire error) λ c o m k d l.
               let i = argument_is v m k in
               argument-uncut c d m s.types i.1 i.0
 
           -- a star
-          module _ (v : r ≡ argument.Star) {w : Walked} {S' T' : List ℕ} (n : StarTold s w S S' T T') where
+          module _ (v : r ≡ Ok head.Star) {w : Walked} {S' T' : List ℕ} (n : StarTold s w S S' T T') where
             star-is : {z : Walked} → w ≡ z → WalkedTold (enter (pure (projected star blank)) s.types) shown_rows s z S S' T T'
             star-is h = subst (λ (z : Walked). WalkedTold (enter (pure (projected star blank)) s.types) shown_rows s z S S' T T') h n.is
 
-            pub loop-unstarred : {stop : Stop} → w ≡ walked.Refused stop → ArgumentsTold e msg base left s₀ w S₀ S' T₀ T'
-            loop-unstarred {stop} h =
-                let told : ArgumentsTold e msg base left s₀ (walked.Refused stop) S₀ S' T₀ T' =
-                refused_all stop λ c o m k d l. star-read c d m s.types (argument_is v m k) (star-is h) in
-                subst (λ (z : Walked). ArgumentsTold e msg base left s₀ z S₀ S' T₀ T') (sym h) told
+            pub loop-unstarred : {stop : Stop} → w ≡ Err stop → ArgumentsTold e msg base left s₀ (Err stop) S₀ S' T₀ T'
+            loop-unstarred {stop} h = refused_all stop λ c o m k d l. star-read c d m s.types (argument_is v m k) (star-is h)
 
-            pub loop-starred : {s' : State} → w ≡ walked.Done s' → Looping e msg base left s₀ S₀ T₀ b end deep height s' S' T' nest
+            pub loop-starred : {s' : State} → w ≡ Ok s' → Looping e msg base left s₀ S₀ T₀ b end deep height s' S' T' nest
             loop-starred {s'} h = loop-on s' S' T' nest refl (subst (WalkedSpends s) h n.spends) λ c o told go.
                 let next = next-argument go in
                 let it = star-is h in
                 goes_kept go next nest refl s' S' T' (star-read c go.wait.depth next.first s.types (argument_is v next.first next.cuts) it.2) it.3
 
           -- its type inline, from `first` to `last`
-          module _ {projection first last : ℕ} (v : r ≡ argument.Inline projection first last) where
+          module _ {projection : Projection} {first last : ℕ} (v : r ≡ Ok (head.Inline projection (span first last))) where
             pub inline_in : (a < first) × (first ≤ last) × (last ≤ b) × (last ≤ length msg)
             inline_in =
                 let i = subst (ArgumentInside a b) v u.inside in
                 (i.0, i.1, i.2, omega (arith, i.2, body-in))
 
-            module _ {w : Walked} {S' T' : List ℕ} (n : EnterTold e (take (last - first) (drop first msg)) (base + first) deep argument_role projection false s w S S' T T') where
+            module _ {w : Walked} {S' T' : List ℕ} (n : EnterTold e (take (last - first) (drop first msg)) (base + first) deep argument_role (projection_number projection) false s w S S' T T') where
               entered-is : {z : Walked} → w ≡ z → (c : Scope) → Scoped e c → (m : Message) (k : cut (part_between base msg a b) ≡ ok m) (d : ℕ) → deep ≡ max_depth - d
-                  → EnteredIs c d (argument_is v m k).0 argument_role projection false s z S S' T T'
+                  → EnteredIs c d (argument_is v m k).0 argument_role (projection_number projection) false s z S S' T T'
               entered-is {z} h c o m k d l =
                   let i = argument_is v m k in
-                  subst (λ (z : Walked). EnteredIs c d i.0 argument_role projection false s z S S' T T') h (n.is c o i.0 i.1 d l)
+                  subst (λ (z : Walked). EnteredIs c d i.0 argument_role (projection_number projection) false s z S S' T T') h (n.is c o i.0 i.1 d l)
 
-              pub loop-unentered : {stop : Stop} → w ≡ walked.Refused stop → ArgumentsTold e msg base left s₀ w S₀ S' T₀ T'
-              loop-unentered {stop} h =
-                  let told : ArgumentsTold e msg base left s₀ (walked.Refused stop) S₀ S' T₀ T' =
-                  refused_all stop λ c o m k d l.
-                  argument-unentered c d m s.types (argument_is v m k).3 (argument_is v m k).2 (entered-is h c o m k d l) in
-                  subst (λ (z : Walked). ArgumentsTold e msg base left s₀ z S₀ S' T₀ T') (sym h) told
+              pub loop-unentered : {stop : Stop} → w ≡ Err stop → ArgumentsTold e msg base left s₀ (Err stop) S₀ S' T₀ T'
+              loop-unentered {stop} h = refused_all stop λ c o m k d l.
+                  argument-unentered c d m s.types (argument_is v m k).3 (argument_is v m k).2 (entered-is h c o m k d l)
 
-              module _ {s' : State} (h : w ≡ walked.Done s') where
+              module _ {s' : State} (h : w ≡ Ok s') where
                 one_less : s.types ≡ 1 + s'.types
                 one_less = subst (EnteredOne s) h n.one
 
@@ -500,31 +497,40 @@ module _ {e : Lent} {msg : List ℕ} {base left : ℕ} {s₀ : State} {S₀ T₀
                       omega (arith, pushed, inline_in, body-in)
 
           -- its type by an index
-          module _ {projection i : ℕ} (v : r ≡ argument.ByIndex projection i) {p : Picked} {S' T' : List ℕ}
-              (n : ResolveTold e i deep argument_role projection s p S S' T T') where
+          module _ {projection : Projection} {i : ℕ} (v : r ≡ Ok (head.ByIndex projection i)) {p : Picked} {S' T' : List ℕ}
+              (n : ResolveTold e i deep argument_role (projection_number projection) s p S S' T T') where
             resolved-is : {z : Picked} → p ≡ z → (c : Scope) → Scoped e c → (m : Message) → cut (part_between base msg a b) ≡ ok m → (d : ℕ) → deep ≡ max_depth - d
                 → PickedTold (argument_in (type_at allowance c) c d m s.types) shown_rows s z S S' T T'
             resolved-is {z} h c o m k d l =
                 let j = argument_is v m k in
                 let same = argument-indexed c d m s.types j.2 j.0 j.1 in
-                let found = subst (λ (z : Picked). PickedTold (resolve_at (type_at allowance c) c d i s.types) (rows_in argument_role projection) s z S S' T T') h (n.is c o d l) in
+                let found = subst (λ (z : Picked). PickedTold (resolve_at (type_at allowance c) c d i s.types) (rows_in argument_role (projection_number projection)) s z S S' T T') h (n.is c o d l) in
                 subst (λ (r : Res (Option declaration.Argument × ℕ)). PickedTold r shown_rows s z S S' T T') (sym same)
-                (picked_projected projection (resolve_at (type_at allowance c) c d i s.types) s z S S' T T' found)
+                (picked_projected (projection_number projection) (resolve_at (type_at allowance c) c d i s.types) s z S S' T T' found)
 
-            pub loop-refused : {stop : Stop} → p ≡ picked.Refused stop → ArgumentsTold e msg base left s₀ (walked.Refused stop) S₀ S' T₀ T'
+            pub loop-refused : {stop : Stop} → p ≡ Err stop → ArgumentsTold e msg base left s₀ (Err stop) S₀ S' T₀ T'
             loop-refused {stop} h = refused_all stop λ c o m k d l. resolved-is h c o m k d l
 
             module _ {nest' : List ℕ} (f : take height nest' ≡ take height nest) where
-              pub loop-kept : {s' : State} → p ≡ picked.Kept s' → Looping e msg base left s₀ S₀ T₀ b end deep height s' S' T' nest'
+              loop-kept : {s' : State} → p ≡ Ok (Some s') → Looping e msg base left s₀ S₀ T₀ b end deep height s' S' T' nest'
               loop-kept {s'} h = loop-on s' S' T' nest' f (subst (PickedSpends s) h n.spends) λ c o told go.
                   let next = next-argument go in
                   let it = resolved-is h c o next.first next.cuts go.wait.depth go.here.deep in
                   goes_kept go next nest' f s' S' T' it.2 it.3
 
-              pub loop-dropped : p ≡ picked.Dropped → Looping e msg base left s₀ S₀ T₀ b end deep height s S' T' nest'
+              loop-dropped : p ≡ Ok None → Looping e msg base left s₀ S₀ T₀ b end deep height s S' T' nest'
               loop-dropped h = loop-on s S' T' nest' f (spends_none s) λ c o told go.
                   let next = next-argument go in
                   let it = resolved-is h c o next.first next.cuts go.wait.depth go.here.deep in
                   let same = goes_dropped go next nest' f it.0 in
                   subst (λ (l : List ℕ). Goes told c base msg nest' height b end deep s₀ s S₀ l T₀ T') (sym it.1)
                   (subst (λ (l : List ℕ). Goes told c base msg nest' height b end deep s₀ s S₀ S T₀ l) (sym it.2) same)
+
+              -- what is there or not
+              pub loop-resolved : {o : rust.Option State} → p ≡ Ok o → {s' : State} → s' ≡ unwrap_or o s
+                  → Looping e msg base left s₀ S₀ T₀ b end deep height s' S' T' nest'
+              loop-resolved {o} h {s'} w = subst (λ (z : State). Looping e msg base left s₀ S₀ T₀ b end deep height z S' T' nest') (sym w) (go o h)
+                where
+                  go : (o : rust.Option State) → p ≡ Ok o → Looping e msg base left s₀ S₀ T₀ b end deep height (unwrap_or o s) S' T' nest'
+                  go (Some s') h = loop-kept h
+                  go None h = loop-dropped h

@@ -8,19 +8,19 @@ ghost use Rattle.names.specs.told.Name.{name_text};
 ghost use Rattle.sheet.specs.Rows.{row};
 ghost use Rattle.sheet.specs.told.Put.{PutRows};
 ghost use Rattle.declaration_rows.specs.Rows.{type_cells};
+ghost use Rattle.schema.specs.told.ArgumentTold.{projection_number};
 ghost use Rattle.schema.specs.told.SchemaTold.{lent, Ready};
 ghost use Rattle.type_references.specs.told.ParseTold.{CountedTold, EnterTold, StarTold};
 
 use crate::arguments::count_kept;
 use declaration_rows::{ARGUMENT_ROLE, put_named};
 use fields::TYPE_ARGUMENT;
-use messages::{Checked, check_messages};
+use messages::check_messages;
 use names::name::{Name, absent};
-use schema::argument::STAR;
+use schema::argument::Projection;
 use schema::head::type_head;
 use schema::name::class_name_at;
-use schema::types::{either, less};
-use schema::{Stop, Tables, Walked};
+use schema::{Stop, Tables};
 use sheet::{State, put, put_bit, put_number};
 use wire::WireError;
 
@@ -28,7 +28,7 @@ use wire::WireError;
 #[derive(Clone, Copy)]
 pub(crate) struct Shown {
     pub role: u8,
-    pub projection: u8,
+    pub projection: Projection,
 }
 
 // Where a type stands: what is left of the depth there, its role and projection, and whether it is nullable by its place in the type table.
@@ -36,7 +36,7 @@ pub(crate) struct Shown {
 pub(crate) struct TypePlace {
     pub left: usize,
     pub role: u8,
-    pub projection: u8,
+    pub projection: Projection,
     pub nullable: bool,
 }
 
@@ -53,7 +53,7 @@ fn put_type(
     text: &mut [u8],
 ) -> State
     requires { Ready payload.now d2.now state × (1 ≤ state.types) }
-    ensures { PutRows (row 6 (type_cells shown.role nullable (name_text payload.now d2.now name) count shown.projection) ∷ []) (state.types - 1) state result sheet.old sheet.new text.old text.new }
+    ensures { PutRows (row 6 (type_cells shown.role nullable (name_text payload.now d2.now name) count (projection_number shown.projection)) ∷ []) (state.types - 1) state result sheet.old sheet.new text.old text.new }
 {
     let at = state.sheet;
     put(sheet, at, 6);
@@ -64,34 +64,16 @@ fn put_type(
         text: state.text,
         types: state.types - 1,
     };
-    let head = put_named(&*payload, &*d2, name, entered, sheet, text);
+    let head = put_named(payload, d2, name, entered, sheet, text);
     let counted = head.sheet;
     put_number(sheet, counted, 2, count as u64);
     let last = counted + 2;
-    put_number(sheet, last, 1, shown.projection as u64);
+    put_number(sheet, last, 1, shown.projection.number() as u64);
     let ended = last + 1;
     State {
         sheet: ended,
         text: head.text,
         types: head.types,
-    }
-}
-
-// How many arguments of a type are kept, or why one isn't cut.
-#[derive(Clone, Copy)]
-enum Counted {
-    Count { count: usize },
-    Refused { error: WireError },
-}
-
-impl Counted {
-    fn error(self) -> WireError
-        ensures { (e : WireError) → self ≡ Counted.Refused e → result ≡ e }
-    {
-        match self {
-            Counted::Count { count: _ } => WireError::VarintCutShort { place: 0 },
-            Counted::Refused { error } => error,
-        }
     }
 }
 
@@ -104,22 +86,15 @@ fn count_arguments(
     payload: &[u8],
     notes: &[u64],
     tables: Tables,
-) -> Counted
+) -> Result<usize, WireError>
     requires { (base + length msg.now ≤ 32768) × (some ≡ false → (m : Message) → cut (◌from◌ base msg.now) ≡ ok m → bodies Type-argument m ≡ []) }
     ensures { CountedTold payload.now notes.now tables msg.now base left result }
 {
     if !some {
-        return Counted::Count { count: 0 };
+        return Ok(0);
     }
-    let checked = check_messages(&*msg, base, TYPE_ARGUMENT);
-    let Checked::Whole = checked else {
-        return Counted::Refused {
-            error: checked.error(),
-        };
-    };
-    Counted::Count {
-        count: count_kept(&*msg, base, left, &*payload, &*notes, tables),
-    }
+    check_messages(msg, base, TYPE_ARGUMENT)?;
+    Ok(count_kept(msg, base, left, payload, notes, tables))
 }
 
 // A star is entered: its record, which is blank.
@@ -129,32 +104,18 @@ pub(crate) fn enter_star(
     state: State,
     sheet: &mut [u8],
     text: &mut [u8],
-) -> Walked
+) -> Result<State, Stop>
     requires { Ready payload.now d2.now state }
     ensures { StarTold state result sheet.old sheet.new text.old text.new }
 {
-    let types = state.types;
-    if types == 0 {
-        return Walked::Refused {
-            stop: Stop::TooManyTypes,
-        };
+    if state.types == 0 {
+        return Err(Stop::TooManyTypes);
     }
     let shown = Shown {
         role: ARGUMENT_ROLE,
-        projection: STAR,
+        projection: Projection::Star,
     };
-    let after = put_type(
-        shown,
-        false,
-        &*payload,
-        &*d2,
-        absent(),
-        0,
-        state,
-        sheet,
-        text,
-    );
-    Walked::Done { state: after }
+    Ok(put_type(shown, false, payload, d2, absent(), 0, state, sheet, text))
 }
 
 // A type whose message is cut is entered; its arguments are to follow.
@@ -170,42 +131,30 @@ pub(crate) fn enter_type(
     state: State,
     sheet: &mut [u8],
     text: &mut [u8],
-) -> Walked
+) -> Result<State, Stop>
     requires { Ready payload.now d2.now state × (base + length msg.now ≤ length payload.now) }
-    ensures { EnterTold (lent payload.now d2.now ends.now notes.now tables) msg.now base place.left place.role place.projection place.nullable state result sheet.old sheet.new text.old text.new }
+    ensures { EnterTold (lent payload.now d2.now ends.now notes.now tables) msg.now base place.left place.role (projection_number place.projection) place.nullable state result sheet.old sheet.new text.old text.new }
 {
-    let types = state.types;
-    if types == 0 {
-        return Walked::Refused {
-            stop: Stop::TooManyTypes,
-        };
+    if state.types == 0 {
+        return Err(Stop::TooManyTypes);
     }
-    let own = type_head(&*msg, base);
-    let arguments = count_arguments(
-        &*msg,
+    let own = type_head(msg, base);
+    let count = count_arguments(
+        msg,
         base,
-        less(place.left),
+        place.left.saturating_sub(1),
         own.arguments,
-        &*payload,
-        &*notes,
+        payload,
+        notes,
         tables,
-    );
-    let Counted::Count { count } = arguments else {
-        return Walked::Refused {
-            stop: Stop::Wire {
-                error: arguments.error(),
-            },
-        };
-    };
-    let nulls = either(place.nullable, own.nullable);
-    let found = own.name;
-    let name = class_name_at(found, &*payload, &*d2, &*ends, &*notes, tables.records);
+    )?;
+    let nullable = place.nullable || own.nullable;
+    let name = class_name_at(own.name, payload, d2, ends, notes, tables.records);
     let shown = Shown {
         role: place.role,
         projection: place.projection,
     };
-    let after = put_type(
-        shown, nulls, &*payload, &*d2, name, count, state, sheet, text,
-    );
-    Walked::Done { state: after }
+    Ok(put_type(
+        shown, nullable, payload, d2, name, count, state, sheet, text,
+    ))
 }

@@ -3,29 +3,31 @@
 // specs/told/Pending.antt.
 #![tactic(auto)]
 
-ghost use Rattle.std.specs.Prelude.{◌≡◌, ◌+◌, ◌≤◌, ◌<◌, length};
+ghost use Rattle.std.specs.Prelude.{◌+◌, ◌≤◌, length};
+ghost use Rattle.schema.specs.Reading.{allowance};
+ghost use Rattle.schema.specs.told.ArgumentTold.{projection_number};
 ghost use Rattle.schema.specs.told.SchemaTold.{lent, Ready};
 ghost use Rattle.schema.specs.told.TypesTold.{ParseTold};
-ghost use Rattle.type_references.specs.told.OptionalTold.{optional_of, LookedTold, OptionalTold};
+ghost use Rattle.type_references.specs.told.ParseTold.{FitsEntry, FitsType};
+ghost use Rattle.type_references.specs.told.OptionalTold.{LookedTold, OptionalTold};
 
 use arguments::{TypeField, type_field};
 use enter::{Shown, TypePlace};
 use fields::TYPE_ARGUMENT;
 use messages::next_body;
 use parse::{parse_at, resolve_at};
-use schema::argument::INVARIANT;
+use schema::argument::Projection;
 use schema::types::entry_at;
-use schema::{ALLOWANCE, MAX_DEPTH, Picked, Stop, Tables, TypeSlot, Walked};
+use schema::{ALLOWANCE, MAX_DEPTH, Stop, Tables, TypeSlot};
 use sheet::State;
-use wire::Piece;
 
 mod waiting; // waiting.rt: what waits in a lent area
 mod arguments; // arguments.rt: the arguments of a type
 mod enter; // enter.rt: a type's own row
 mod parse; // parse.rt: types inside types
 
-// A type in an area of 1 KB, where there is no type to look up: as many wait as a short message has bytes at most.
-fn short_type(
+// A type whose message is cut, in an area for so many that wait.
+fn type_in_area<const N: usize>(
     msg: &[u8],
     base: u32,
     place: TypePlace,
@@ -37,41 +39,19 @@ fn short_type(
     state: State,
     sheet: &mut [u8],
     text: &mut [u8],
-) -> Walked
-    requires { Ready payload.now d2.now state × (base + length msg.now ≤ length payload.now) × (place.left ≤ 64) × (tables.types ≡ 0) × (length msg.now < 128) }
-    ensures { ParseTold (lent payload.now d2.now ends.now notes.now tables) msg.now base place.left place.role place.projection place.nullable state result sheet.old sheet.new text.old text.new }
+) -> Result<State, Stop>
+    requires { Ready payload.now d2.now state × (base + length msg.now ≤ length payload.now) × (place.left ≤ 64) × FitsType (lent payload.now d2.now ends.now notes.now tables) base msg.now state.types N × (N ≤ allowance) }
+    ensures { ParseTold (lent payload.now d2.now ends.now notes.now tables) msg.now base place.left place.role (projection_number place.projection) place.nullable state result sheet.old sheet.new text.old text.new }
 {
-    let mut nest = [0u64; 128];
+    let mut nest = [0u64; N];
     parse_at(
-        &*msg, base, place, &*payload, &*d2, &*ends, &*notes, tables, state, &mut nest, sheet, text,
+        msg, base, place, payload, d2, ends, notes, tables, state, &mut nest, sheet, text,
     )
 }
 
-// The same of any, in an area of 16 KB: as many wait as types may be entered.
-fn long_type(
-    msg: &[u8],
-    base: u32,
-    place: TypePlace,
-    payload: &[u8],
-    d2: &[u16],
-    ends: &[u32],
-    notes: &[u64],
-    tables: Tables,
-    state: State,
-    sheet: &mut [u8],
-    text: &mut [u8],
-) -> Walked
-    requires { Ready payload.now d2.now state × (base + length msg.now ≤ length payload.now) × (place.left ≤ 64) }
-    ensures { ParseTold (lent payload.now d2.now ends.now notes.now tables) msg.now base place.left place.role place.projection place.nullable state result sheet.old sheet.new text.old text.new }
-{
-    let mut nest = [0u64; ALLOWANCE];
-    parse_at(
-        &*msg, base, place, &*payload, &*d2, &*ends, &*notes, tables, state, &mut nest, sheet, text,
-    )
-}
-
-// A type whose message is cut, in the area that is enough for it. Most have no argument, so that nothing waits: they are lent an empty one, which
-// costs nothing to clear.
+// The same in the area that is enough for it. Most have no argument, so that nothing waits: they are lent an empty one, which costs nothing to
+// clear. Where there is no type to look up, as many wait as a message has bytes at most: 1 KB is enough for a short one. Elsewhere as many wait
+// as types may be entered: 16 KB.
 fn own_type(
     msg: &[u8],
     base: u32,
@@ -84,44 +64,27 @@ fn own_type(
     state: State,
     sheet: &mut [u8],
     text: &mut [u8],
-) -> Walked
+) -> Result<State, Stop>
     requires { Ready payload.now d2.now state × (base + length msg.now ≤ length payload.now) × (place.left ≤ 64) }
-    ensures { ParseTold (lent payload.now d2.now ends.now notes.now tables) msg.now base place.left place.role place.projection place.nullable state result sheet.old sheet.new text.old text.new }
+    ensures { ParseTold (lent payload.now d2.now ends.now notes.now tables) msg.now base place.left place.role (projection_number place.projection) place.nullable state result sheet.old sheet.new text.old text.new }
 {
-    let argument = next_body(&*msg, base, TYPE_ARGUMENT, 0);
-    let Piece::Body { start: _, end: _ } = argument else {
-        let mut nest = [0u64; 0];
-        return parse_at(
-            &*msg, base, place, &*payload, &*d2, &*ends, &*notes, tables, state, &mut nest, sheet,
-            text,
+    let Some(_) = next_body(msg, base, TYPE_ARGUMENT, 0) else {
+        return type_in_area::<0>(
+            msg, base, place, payload, d2, ends, notes, tables, state, sheet, text,
         );
     };
-    let types = tables.types;
-    if types == 0 {
-        if msg.len() < 128 {
-            return short_type(
-                &*msg, base, place, &*payload, &*d2, &*ends, &*notes, tables, state, sheet, text,
-            );
-        }
+    if tables.types == 0 && msg.len() < 128 {
+        return type_in_area::<128>(
+            msg, base, place, payload, d2, ends, notes, tables, state, sheet, text,
+        );
     }
-    long_type(
-        &*msg, base, place, &*payload, &*d2, &*ends, &*notes, tables, state, sheet, text,
+    type_in_area::<ALLOWANCE>(
+        msg, base, place, payload, d2, ends, notes, tables, state, sheet, text,
     )
 }
 
-// What may not be there, as what is done: nothing is written of what isn't.
-fn optional_of(found: Picked, state: State) -> Walked
-    ensures { result ≡ optional_of state found }
-{
-    match found {
-        Picked::Kept { state: after } => Walked::Done { state: after },
-        Picked::Dropped => Walked::Done { state },
-        Picked::Refused { stop } => Walked::Refused { stop },
-    }
-}
-
-// The type at an index, in an area of 16 KB.
-fn long_entry(
+// The type at an index of the type table, or nothing, in an area for so many that wait.
+fn entry_in_area<const N: usize>(
     index: u32,
     role: u8,
     payload: &[u8],
@@ -132,23 +95,22 @@ fn long_entry(
     state: State,
     sheet: &mut [u8],
     text: &mut [u8],
-) -> Walked
-    requires { Ready payload.now d2.now state }
+) -> Result<State, Stop>
+    requires { Ready payload.now d2.now state × FitsEntry (lent payload.now d2.now ends.now notes.now tables) index state.types N × (N ≤ allowance) }
     ensures { LookedTold (lent payload.now d2.now ends.now notes.now tables) index role state result sheet.old sheet.new text.old text.new }
 {
-    let mut nest = [0u64; ALLOWANCE];
+    let mut nest = [0u64; N];
     let shown = Shown {
         role,
-        projection: INVARIANT,
+        projection: Projection::Invariant,
     };
     let found = resolve_at(
-        index, MAX_DEPTH, shown, &*payload, &*d2, &*ends, &*notes, tables, state, &mut nest, sheet,
-        text,
-    );
-    optional_of(found, state)
+        index, MAX_DEPTH, shown, payload, d2, ends, notes, tables, state, &mut nest, sheet, text,
+    )?;
+    Ok(found.unwrap_or(state))
 }
 
-// The type at an index of the type table, or nothing, in the area that is enough for it, as above.
+// The same in the area that is enough for it, as above.
 fn looked_up(
     index: u32,
     role: u8,
@@ -160,29 +122,26 @@ fn looked_up(
     state: State,
     sheet: &mut [u8],
     text: &mut [u8],
-) -> Walked
+) -> Result<State, Stop>
     requires { Ready payload.now d2.now state }
     ensures { LookedTold (lent payload.now d2.now ends.now notes.now tables) index role state result sheet.old sheet.new text.old text.new }
 {
-    let entry = entry_at(&*payload, &*notes, tables, index);
-    let Piece::Body { start, end } = entry else {
-        return Walked::Done { state };
+    let Some(entry) = entry_at(payload, notes, tables, index) else {
+        return Ok(state);
     };
-    let argument = next_body(&payload[start..end], start as u32, TYPE_ARGUMENT, 0);
-    let Piece::Body { start: _, end: _ } = argument else {
-        let mut nest = [0u64; 0];
-        let shown = Shown {
-            role,
-            projection: INVARIANT,
-        };
-        let found = resolve_at(
-            index, MAX_DEPTH, shown, &*payload, &*d2, &*ends, &*notes, tables, state, &mut nest,
-            sheet, text,
+    let argument = next_body(
+        &payload[entry.start..entry.end],
+        entry.start as u32,
+        TYPE_ARGUMENT,
+        0,
+    );
+    let Some(_) = argument else {
+        return entry_in_area::<0>(
+            index, role, payload, d2, ends, notes, tables, state, sheet, text,
         );
-        return optional_of(found, state);
     };
-    long_entry(
-        index, role, &*payload, &*d2, &*ends, &*notes, tables, state, sheet, text,
+    entry_in_area::<ALLOWANCE>(
+        index, role, payload, d2, ends, notes, tables, state, sheet, text,
     )
 }
 
@@ -200,39 +159,37 @@ pub fn declared_type(
     state: State,
     sheet: &mut [u8],
     text: &mut [u8],
-) -> Walked
+) -> Result<State, Stop>
     requires { Ready payload.now d2.now state × (base + length msg.now ≤ length payload.now) }
     ensures { OptionalTold (lent payload.now d2.now ends.now notes.now tables) msg.now base slot.inline slot.indexed slot.role state result sheet.old sheet.new text.old text.new }
 {
-    let inner = type_field(&*msg, base, slot.inline, slot.indexed);
-    match inner {
-        TypeField::Inline { start, end } => {
+    let Some(field) = type_field(msg, base, slot.inline, slot.indexed)? else {
+        return Ok(state);
+    };
+    match field {
+        TypeField::Inline(body) => {
             let place = TypePlace {
                 left: MAX_DEPTH,
                 role: slot.role,
-                projection: INVARIANT,
+                projection: Projection::Invariant,
                 nullable: false,
             };
             own_type(
-                &msg[start..end],
-                base + start as u32,
+                &msg[body.start..body.end],
+                base + body.start as u32,
                 place,
-                &*payload,
-                &*d2,
-                &*ends,
-                &*notes,
+                payload,
+                d2,
+                ends,
+                notes,
                 tables,
                 state,
                 sheet,
                 text,
             )
         }
-        TypeField::ByIndex { index } => looked_up(
-            index, slot.role, &*payload, &*d2, &*ends, &*notes, tables, state, sheet, text,
+        TypeField::ByIndex(index) => looked_up(
+            index, slot.role, payload, d2, ends, notes, tables, state, sheet, text,
         ),
-        TypeField::Nothing => Walked::Done { state },
-        TypeField::Refused { error } => Walked::Refused {
-            stop: Stop::Wire { error },
-        },
     }
 }

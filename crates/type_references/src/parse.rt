@@ -2,20 +2,21 @@
 // which a look-up takes one, and the bytes of the message (`remaining`). Types inside types are a loop, since an input can nest 2,048 of them:
 // what falls there is the bytes left. What is told: specs/told/ParseTold.antt and schema's specs/told/TypesTold.antt.
 ghost use Rattle.std.specs.Prelude.{◌≤◌, length};
+ghost use Rattle.schema.specs.told.ArgumentTold.{projection_number};
 ghost use Rattle.schema.specs.told.SchemaTold.{lent, Ready};
 ghost use Rattle.schema.specs.told.TypesTold.{ParseTold, ResolveTold};
 ghost use Rattle.type_references.specs.told.ParseTold.{ArgumentsTold, FitsEntry, NestRoom, ParseRoom};
 
-use crate::arguments::{Argument, argument_at};
+use crate::arguments::argument_at;
 use crate::enter::{Shown, TypePlace, enter_star, enter_type};
 use crate::waiting::{push, waiting_at};
 use declaration_rows::ARGUMENT_ROLE;
 use fields::TYPE_ARGUMENT;
 use messages::next_body;
-use schema::types::{entry_at, less, picked};
-use schema::{Picked, Stop, Tables, Walked};
+use schema::argument::ArgumentHead;
+use schema::types::entry_at;
+use schema::{Stop, Tables};
 use sheet::State;
-use wire::Piece;
 
 // The arguments of the type in a message, one after the other, and theirs. `left` is left at them; what waits stands in `nest`, and a look-up is
 // lent what is free of it.
@@ -33,7 +34,7 @@ fn arguments_at(
     nest: &mut [u64],
     sheet: &mut [u8],
     text: &mut [u8],
-) -> Walked
+) -> Result<State, Stop>
     requires { NestRoom payload.now d2.now msg.now nest.old tables base left state }
     ensures { ArgumentsTold (lent payload.now d2.now ends.now notes.now tables) msg.now base left state result sheet.old sheet.new text.old text.new }
 {
@@ -43,14 +44,9 @@ fn arguments_at(
     let mut height: usize = 0;
     let mut next = state;
     loop {
-        let piece = next_body(&msg[..end], base, TYPE_ARGUMENT, at);
-        let Piece::Body {
-            start: from,
-            end: to,
-        } = piece
-        else {
+        let Some(part) = next_body(&msg[..end], base, TYPE_ARGUMENT, at) else {
             if height == 0 {
-                return Walked::Done { state: next };
+                return Ok(next);
             }
             height -= 1;
             let outer = waiting_at(nest, height);
@@ -59,51 +55,36 @@ fn arguments_at(
             deep = outer.left;
             continue;
         };
-        at = to;
-        let argument = argument_at(&*msg, base, from, to);
-        match argument {
-            Argument::Star => {
-                let entered = enter_star(&*payload, &*d2, next, sheet, text);
-                let Walked::Done { state: starred } = entered else {
-                    return entered;
-                };
-                next = starred;
-            }
-            Argument::Inline {
-                projection,
-                start: first,
-                end: last,
-            } => {
+        at = part.end;
+        match argument_at(msg, base, part)? {
+            ArgumentHead::Star => next = enter_star(payload, d2, next, sheet, text)?,
+            ArgumentHead::Inline { projection, body } => {
                 let place = TypePlace {
                     left: deep,
                     role: ARGUMENT_ROLE,
                     projection,
                     nullable: false,
                 };
-                let entered = enter_type(
-                    &msg[first..last],
-                    base + first as u32,
+                next = enter_type(
+                    &msg[body.start..body.end],
+                    base + body.start as u32,
                     place,
-                    &*payload,
-                    &*d2,
-                    &*ends,
-                    &*notes,
+                    payload,
+                    d2,
+                    ends,
+                    notes,
                     tables,
                     next,
                     sheet,
                     text,
-                );
-                let Walked::Done { state: after } = entered else {
-                    return entered;
-                };
-                next = after;
+                )?;
                 push(nest, height, at, end, deep);
                 height += 1;
-                at = first;
-                end = last;
-                deep = less(deep);
+                at = body.start;
+                end = body.end;
+                deep = deep.saturating_sub(1);
             }
-            Argument::ByIndex { projection, index } => {
+            ArgumentHead::ByIndex { projection, index } => {
                 let shown = Shown {
                     role: ARGUMENT_ROLE,
                     projection,
@@ -112,28 +93,19 @@ fn arguments_at(
                     index,
                     deep,
                     shown,
-                    &*payload,
-                    &*d2,
-                    &*ends,
-                    &*notes,
+                    payload,
+                    d2,
+                    ends,
+                    notes,
                     tables,
                     next,
                     &mut nest[height..],
                     sheet,
                     text,
-                );
-                match found {
-                    Picked::Kept { state: after } => next = after,
-                    Picked::Dropped => {}
-                    Picked::Refused { stop } => return Walked::Refused { stop },
-                }
+                )?;
+                next = found.unwrap_or(next);
             }
-            Argument::Nothing => {}
-            Argument::Refused { error } => {
-                return Walked::Refused {
-                    stop: Stop::Wire { error },
-                };
-            }
+            ArgumentHead::Nothing => {}
         }
     }
 }
@@ -153,27 +125,24 @@ pub(crate) fn parse_at(
     nest: &mut [u64],
     sheet: &mut [u8],
     text: &mut [u8],
-) -> Walked
+) -> Result<State, Stop>
     requires { ParseRoom (lent payload.now d2.now ends.now notes.now tables) msg.now nest.old base place.left state }
-    ensures { ParseTold (lent payload.now d2.now ends.now notes.now tables) msg.now base place.left place.role place.projection place.nullable state result sheet.old sheet.new text.old text.new }
+    ensures { ParseTold (lent payload.now d2.now ends.now notes.now tables) msg.now base place.left place.role (projection_number place.projection) place.nullable state result sheet.old sheet.new text.old text.new }
 {
-    let entered = enter_type(
-        &*msg, base, place, &*payload, &*d2, &*ends, &*notes, tables, state, sheet, text,
-    );
-    let Walked::Done { state: after } = entered else {
-        return entered;
-    };
+    let after = enter_type(
+        msg, base, place, payload, d2, ends, notes, tables, state, sheet, text,
+    )?;
     if nest.len() == 0 {
-        return entered;
+        return Ok(after);
     }
     arguments_at(
-        &*msg,
+        msg,
         base,
-        less(place.left),
-        &*payload,
-        &*d2,
-        &*ends,
-        &*notes,
+        place.left.saturating_sub(1),
+        payload,
+        d2,
+        ends,
+        notes,
         tables,
         after,
         nest,
@@ -197,36 +166,35 @@ pub(crate) fn resolve_at(
     nest: &mut [u64],
     sheet: &mut [u8],
     text: &mut [u8],
-) -> Picked
+) -> Result<Option<State>, Stop>
     requires { Ready payload.now d2.now state × (left ≤ 64) × FitsEntry (lent payload.now d2.now ends.now notes.now tables) index state.types (length nest.old) }
-    ensures { ResolveTold (lent payload.now d2.now ends.now notes.now tables) index left shown.role shown.projection state result sheet.old sheet.new text.old text.new }
+    ensures { ResolveTold (lent payload.now d2.now ends.now notes.now tables) index left shown.role (projection_number shown.projection) state result sheet.old sheet.new text.old text.new }
 {
     if left == 0 {
-        return Picked::Dropped;
+        return Ok(None);
     }
-    let entry = entry_at(&*payload, &*notes, tables, index);
-    let Piece::Body { start, end } = entry else {
-        return Picked::Dropped;
+    let Some(entry) = entry_at(payload, notes, tables, index) else {
+        return Ok(None);
     };
-    let nullable = tables.first_nullable <= index as u64;
     let place = TypePlace {
         left: left - 1,
         role: shown.role,
         projection: shown.projection,
-        nullable,
+        nullable: tables.is_nullable(index),
     };
-    picked(parse_at(
-        &payload[start..end],
-        start as u32,
+    let after = parse_at(
+        &payload[entry.start..entry.end],
+        entry.start as u32,
         place,
-        &*payload,
-        &*d2,
-        &*ends,
-        &*notes,
+        payload,
+        d2,
+        ends,
+        notes,
         tables,
         state,
         nest,
         sheet,
         text,
-    ))
+    )?;
+    Ok(Some(after))
 }

@@ -1,15 +1,17 @@
 -- A varint byte by byte: what its groups are where a byte is missing, is the last, or goes on.
 -- Assumes nothing.
-use mathlib.Core.Path.{◌≡◌, refl, ap, sym, ◌∙◌, subst}
+use mathlib.Core.Path.{◌≡◌, refl, ap, sym, ◌∙◌}
 use mathlib.Core.List.{List, [], ◌∷◌, ◌++◌, append_assoc}
 use Prim.Native.Nat.{ℕ, zero, suc, ◌+◌, ◌-◌, ◌*◌, ◌%◌, ◌^◌, ◌≤◌, ◌<◌}
 use native.Mathlib.Nat.{add_assoc, mul_comm, mul-le-mul_right}
-use native.Mathlib.Numerals.{add-one, sub-one}
+use native.Mathlib.Numerals.{add-one}
 use native.Mathlib.Omega.{arith}
 use borrow.Author.Tests.{lt-ltb, le-ltb}
 use lib.Dec.{ltb}
-use lib.ListN.{length, take, drop, get_or, set, length-take, length-set, drop_of_length-le}
-use lib.Seq.{drop-cons, take-suc, get_or-take, get_or-set_same}
+use lib.ListN.{length, take, drop, get_or, set, length-set, drop_of_length-le}
+use Rattle.std.proofs.lemmas.List.{append-nil}
+use Rattle.std.specs.Prelude.{Ok, Err}
+use lib.Seq.{drop-cons, take-suc, get_or-set_same}
 use Rattle.foundation.specs.Results.{Res, ok, refused, varint_cut_short, oversized_varint, Got, got, map_got, Part}
 use Rattle.foundation.specs.Digits.{number}
 use Rattle.foundation.proofs.ChoiceLaws.{if_ind}
@@ -17,8 +19,6 @@ use Rattle.foundation.proofs.ResultLaws.{Gives, gives-ok, gives_weaken, gives-ma
 use Rattle.wire.specs.Wire.{group, groups_from, read_groups, read_varint}
 use Rattle.wire.specs.told.WireTold.{rest_of, wire_refused, GroupsTold}
 use Rattle.wire.specs.declared.WireError.{WireError}
-use Rattle.wire.specs.declared.Groups.{Groups}
-use Rattle.wire.specs.declared.Groups.TheVariants as groups
 use Rattle.wire.proofs.Readers.{varint-below}
 
 -- the groups of the bytes before, and those of the bytes that follow
@@ -115,62 +115,52 @@ group_tenth k b e = rw e
 pub group-early : (k b : ℕ) → k < 10 → (k ≡ 9 → ⊥) → b % 128 ≡ group (9 - k) b
 group-early k b h d = let e : 9 - k ≡ suc (8 - k) = omega arith in rw e
 
--- digits joined, the highest first
-pub number_down : (b : ℕ) (xs : List ℕ) (left : ℕ) {d : ℕ} → 0 < left → left ≤ length xs → d ≡ get_or xs (left - 1) 0
-    → number b (drop left xs) * b + d ≡ number b (drop (left - 1) xs)
-number_down b xs zero h l e = absurd (omega arith)
-number_down b xs (suc k) {d} h l e =
-    let same : get_or xs k 0 ≡ d = sym (rw sub-one at e) in
-    let n = number b (drop (suc k) xs) in
-    rw (sub-one, drop-cons xs k 0 l, same) (omega (arith, mul_comm n b))
-
 -- the higher digits are a smaller number than all
-number-part : (b : ℕ) (xs : List ℕ) (i : ℕ) → 0 < b → number b (drop i xs) ≤ number b xs
-number-part b xs zero h = omega arith
-number-part b [] (suc i) h = omega arith
-number-part b (x ∷ xs) (suc i) h =
-    let n = number b xs in
-    omega (arith, number-part b xs i h, mul-le-mul_right n h)
+pub number-part : (b : ℕ) (rest done : List ℕ) → 0 < b → number b done ≤ number b (rest ++ done)
+number-part b [] done h = omega arith
+number-part b (x ∷ xs) done h =
+    let n = number b (xs ++ done) in
+    omega (arith, number-part b xs done h, mul-le-mul_right n h)
 
--- The first `count` groups of an area, joined from the last on.
-module _ (area : List ℕ) (count : ℕ) (h : count ≤ length area) where
-  taken : length (take count area) ≡ count
-  taken = rw length-take (omega arith)
+-- The digits that are joined, the highest first, are `done`: the rest stands before them.
+pub record Joined (b value : ℕ) (digits rest : List ℕ) : Type 0 where
+  pub done : List ℕ
+  pub whole : digits ≡ rest ++ done
+  pub is : value ≡ number b done
 
-  pub joined-start : 0 ≡ number 128 (drop count (take count area))
-  joined-start = rw (drop_of_length-le (take count area) {i = count} (omega (arith, taken)))
+pub joined_start : (b : ℕ) {digits rest : List ℕ} → rest ≡ digits → Joined b 0 digits rest
+joined_start b {digits} e = record { done = []; whole = sym (append-nil _ ∙ e); is = refl }
 
-  module _ (left : ℕ) {value d : ℕ} (l : 0 < left) (f : left ≤ count) (e : value ≡ number 128 (drop left (take count area)))
-      (g : d ≡ get_or area (left - 1) 0) where
-    pub joined_step : value * 128 + d ≡ number 128 (drop (left - 1) (take count area))
-    joined_step =
-        let same = get_or-take count area (left - 1) 0 (omega arith) in
-        rw e (number_down 128 (take count area) left l (omega (arith, taken)) (g ∙ sym same))
+module _ {b value : ℕ} {digits rest : List ℕ} (j : Joined b value digits rest) where
+  pub joined-next : {d x : ℕ} (less : List ℕ) → rest ≡ less ++ (x ∷ []) → d ≡ x → Joined b (value * b + d) digits less
+  joined-next {d} {x} less e f = record {
+    done = d ∷ j.done;
+    whole = j.whole ∙ rw (e, f) (append_assoc less (x ∷ []) j.done);
+    is = let n = number b j.done in rw j.is (omega (arith, mul_comm n b));
+  }
 
-    pub joined-fits : number 128 (take count area) < 2 ^ 64 → value * 128 + d < 2 ^ 64
-    joined-fits k = omega (arith, joined_step, number-part 128 (take count area) (left - 1) (omega arith))
+  pub joined-fits : 0 < b → number b digits < 2 ^ 64 → value < 2 ^ 64
+  joined-fits h f =
+      let whole : number b (rest ++ j.done) < 2 ^ 64 = rw j.whole at f in
+      omega (arith, j.is, number-part b rest j.done h)
 
-  pub joined_end : (left : ℕ) {value : ℕ} → left ≤ 0 → value ≡ number 128 (drop left (take count area)) → value ≡ number 128 (take count area)
-  joined_end zero l e = e
-  joined_end (suc k) l e = absurd (omega arith)
+  pub joined-end : length rest ≡ 0 → value ≡ number b digits
+  joined-end e = j.is ∙ ap (number b) (sym (j.whole ∙ none rest j.done e))
+    where
+      none : (xs ys : List ℕ) → length xs ≡ 0 → xs ++ ys ≡ ys
+      none [] ys e = refl
+      none (x ∷ xs) ys e = absurd (omega arith)
 
 -- The code's two steps, one after the other.
-module _ (base : ℕ) (s : List ℕ) (at : ℕ) (area : List ℕ) {r : Groups} (t : GroupsTold base s at area r) where
-  pub steps-refused : {error err : WireError} → r ≡ groups.Refused error → err ≡ error → read_varint (rest_of base s at) ≡ wire_refused err
+module _ (base : ℕ) (s : List ℕ) (at : ℕ) (area : List ℕ) where
+  pub steps-refused : (error : WireError) → GroupsTold base s at area (Err error) → read_varint (rest_of base s at) ≡ wire_refused error
   unfolding read_varint
-  steps-refused g h =
-      ap (map_got (number 128)) (subst (GroupsTold base s at area) g t) ∙ ap (wire_refused {A = Got ℕ}) (sym h)
+  steps-refused error t = ap (map_got (number 128)) t
 
-  module _ {count : ℕ} (g : r ≡ groups.Read count) where
-    told : (read_groups (rest_of base s at) ≡ got (take count area) (rest_of base s (at + count))) × (count ≤ length area)
-    told = subst (GroupsTold base s at area) g t
-
+  module _ (count : ℕ) (t : GroupsTold base s at area (Ok count)) where
     pub steps-read : {value : ℕ} → value ≡ number 128 (take count area) → read_varint (rest_of base s at) ≡ got value (rest_of base s (at + count))
     unfolding read_varint
-    steps-read e = ap (map_got (number 128)) told.0 ∙ ap (λ (n : ℕ). got n (rest_of base s (at + count))) (sym e)
-
-    pub steps-few : count ≤ length area
-    steps-few = told.1
+    steps-read e = ap (map_got (number 128)) t.0 ∙ ap (λ (n : ℕ). got n (rest_of base s (at + count))) (sym e)
 
     pub steps-fit : number 128 (take count area) < 2 ^ 64
     steps-fit = gives-ok (λ a. a.0 < 2 ^ 64) (steps-read refl) (varint-below (rest_of base s at))
@@ -185,15 +175,13 @@ one_byte base s at {b} h e l =
 
 -- one of two bytes
 pub two_bytes : (base : ℕ) (s : List ℕ) (at : ℕ) {b c : ℕ} → at + 1 < length s → b ≡ get_or s at 0 → 128 ≤ b → c ≡ get_or s (at + 1) 0 → c < 128
-    → read_varint (rest_of base s at) ≡ got (c * 128 + b % 128) (rest_of base s (at + 2))
+    → read_varint (rest_of base s at) ≡ got (c * 128 + b % 128) (rest_of base s (at + 1 + 1))
 unfolding read_varint
 two_bytes base s at {b} {c} h e l f k =
     let n : b % 128 + 128 * (c % 128 + 128 * 0) ≡ c * 128 + b % 128 = omega arith in
-    let g : at + 1 + 1 ≡ at + 2 = omega arith in
     ap (map_got (number 128)) (groups-more (base + at) base s at 9 (omega arith) e l)
     ∙ ap (λ (r : Res (Got (List ℕ))). map_got (number 128) (map_got (λ gs. b % 128 ∷ gs) r)) (groups-last (base + at) base s (at + 1) 8 h f k)
     ∙ ap (λ (n : ℕ). got n (rest_of base s (at + 1 + 1))) n
-    ∙ ap (λ (i : ℕ). got (c * 128 + b % 128) (rest_of base s i)) g
 
 -- no byte is left
 varint_none : (base : ℕ) (s : List ℕ) (at : ℕ) → length s ≤ at → read_varint (rest_of base s at) ≡ refused varint_cut_short (base + at)

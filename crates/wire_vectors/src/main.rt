@@ -2,10 +2,9 @@
 // value or places, or the refusal with its offset.
 #![tactic(auto)]
 
-use messages::repeated::{FirstTwo, Two};
-use messages::{Checked, Found};
+use messages::repeated::Two;
 use std::io;
-use wire::{FieldStep, Varint, WireError, WireValue};
+use wire::{WireError, WireValue};
 
 fn print_refusal(rt: &impl Print, error: WireError) -> io::Result<()> {
     match error {
@@ -20,12 +19,12 @@ fn print_refusal(rt: &impl Print, error: WireError) -> io::Result<()> {
 
 fn print_value(rt: &impl Print, value: WireValue) -> io::Result<()> {
     match value {
-        WireValue::Varint { value: n } => println!(rt; " varint {n}"),
+        WireValue::Varint(n) => println!(rt; " varint {n}"),
         WireValue::Fixed { width, number } => {
             let bits = 8 * (width as u64 % 16);
             println!(rt; " fixed{bits} {number}")
         }
-        WireValue::Body { start, end } => println!(rt; " body {start}..{end}"),
+        WireValue::Body(body) => println!(rt; " body {}..{}", body.start, body.end),
     }
 }
 
@@ -36,17 +35,14 @@ fn show(rt: &impl Print, name: &str, s: &[u8], base: u32) -> io::Result<()> {
     while at < s.len() {
         let step = wire::field_at(s, base, at);
         print!(rt; "  ")?;
-        let FieldStep::Field {
-            number,
-            value,
-            next,
-        } = step
-        else {
-            return print_refusal(rt, step.error());
-        };
-        print!(rt; "field {number}")?;
-        print_value(rt, value)?;
-        at = next;
+        match step {
+            Err(error) => return print_refusal(rt, error),
+            Ok(read) => {
+                print!(rt; "field {}", read.value.number)?;
+                print_value(rt, read.value.value)?;
+                at = read.next;
+            }
+        }
     }
     Ok(())
 }
@@ -58,20 +54,22 @@ fn show_packed(rt: &impl Print, name: &str, s: &[u8], base: u32) -> io::Result<(
     while at < s.len() {
         let step = wire::varint_at(s, base, at);
         print!(rt; " ")?;
-        let Varint::Read { value, next } = step else {
-            return print_refusal(rt, step.error());
-        };
-        print!(rt; "{value}")?;
-        at = next;
+        match step {
+            Err(error) => return print_refusal(rt, error),
+            Ok(read) => {
+                print!(rt; "{}", read.value)?;
+                at = read.next;
+            }
+        }
     }
     println!(rt)
 }
 
-fn print_checked(rt: &impl Print, checked: Checked) -> io::Result<()> {
-    let Checked::Whole = checked else {
-        return print_refusal(rt, checked.error());
-    };
-    println!(rt; "whole")
+fn print_checked(rt: &impl Print, checked: Result<(), WireError>) -> io::Result<()> {
+    match checked {
+        Ok(()) => println!(rt; "whole"),
+        Err(error) => print_refusal(rt, error),
+    }
 }
 
 // A message cut short after each of its bytes.
@@ -86,11 +84,10 @@ fn show_cuts(rt: &impl Print, name: &str, s: &[u8]) -> io::Result<()> {
 
 fn show_first(rt: &impl Print, name: &str, s: &[u8], number: u32) -> io::Result<()> {
     print!(rt; "{name}\n  first")?;
-    let found = messages::find(s, 0, number);
-    let Found::Value { value } = found else {
-        return println!(rt; " nothing");
-    };
-    print_value(rt, value)
+    match messages::find(s, 0, number) {
+        Some(value) => print_value(rt, value),
+        None => println!(rt; " nothing"),
+    }
 }
 
 fn print_two(rt: &impl Print, two: Two) -> io::Result<()> {
@@ -104,11 +101,10 @@ fn print_two(rt: &impl Print, two: Two) -> io::Result<()> {
 // The first two of a repeated number, mod 2^32.
 fn show_two(rt: &impl Print, name: &str, s: &[u8], number: u32) -> io::Result<()> {
     print!(rt; "{name}\n  ")?;
-    let numbers = messages::repeated::first_two(s, 0, number);
-    let FirstTwo::Numbers { two } = numbers else {
-        return print_refusal(rt, numbers.error());
-    };
-    print_two(rt, two)
+    match messages::repeated::first_two(s, 0, number) {
+        Ok(two) => print_two(rt, two),
+        Err(error) => print_refusal(rt, error),
+    }
 }
 
 fn published(rt: &impl Print) -> io::Result<()> {

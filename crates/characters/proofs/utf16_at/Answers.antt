@@ -1,23 +1,17 @@
 use mathlib.Core.Path.{◌∙◌}
 use native.Mathlib.Omega.{arith}
-use Rattle.characters.proofs.TestLaws.{above, under, within}
-use Rattle.characters.proofs.UnitLaws.{units-ended, units-past, unit-none, unit-plain, unit-low, unit-high}
+use Rattle.characters.proofs.TestLaws.{above, within}
+use Rattle.characters.proofs.UnitLaws.{unit-none, unit-plain, unit-low, unit-high}
 use Rattle.characters.proofs.utf16_at.Goals as goal
 
-pub returns-then-end-at : goal.returns-then-end-at
-returns-then-end-at c = unit-none c.args.units.now _ c.args.end (units-ended c.args.units.now _ _ c.if-end-at.true)
-
 pub returns-then-units-at : goal.returns-then-units-at
-returns-then-units-at c = unit-none c.args.units.now _ c.args.end (units-past c.args.units.now _ c.args.end c.if-units-at.true)
+returns-then-units-at c = unit-none c.args.units.now _ c.if-units-at.true
 
 pub returns-then-unit-lt55296 : goal.returns-then-unit-lt55296
-returns-then-unit-lt55296 c = unit-plain c.args.units.now _ c.args.end c.if-end-at.false c.if-units-at.false c.wide_unit-unit.ensures (under _ _ _ c.if-unit-lt55296.true) (under 0xdc00 0xdfff c.wide_unit-unit.result (omega arith))
-
-pub returns-then-unit-gt57343 : goal.returns-then-unit-gt57343
-returns-then-unit-gt57343 c = unit-plain c.args.units.now _ c.args.end c.if-end-at.false c.if-units-at.false c.wide_unit-unit.ensures (above 0xd800 0xdbff c.wide_unit-unit.result (omega arith)) (above _ _ _ c.if-unit-gt57343.true)
+returns-then-unit-lt55296 c = unit-plain c.args.units.now _ c.if-units-at.false c.from-unit.ensures c.then-unit-lt55296.either
 
 pub returns-then-unit-gt56319 : goal.returns-then-unit-gt56319
-returns-then-unit-gt56319 c = c.replaced.ensures ∙ unit-low c.args.units.now _ c.args.end c.if-end-at.false c.if-units-at.false c.wide_unit-unit.ensures (above _ _ _ c.if-unit-gt56319.true) (within _ _ _ (omega arith) c.if-unit-gt57343.false)
+returns-then-unit-gt56319 c = c.replaced.ensures ∙ unit-low c.args.units.now _ c.if-units-at.false c.from-unit.ensures (above _ _ _ c.if-unit-gt56319.true) (within _ _ _ (omega arith) c.if-unit-gt57343.false)
 
 pub returns : goal.returns
-returns c = c.paired_at.ensures ∙ unit-high c.args.units.now _ c.args.end c.if-end-at.false c.if-units-at.false c.wide_unit-unit.ensures (within _ _ _ c.if-unit-lt55296.false c.if-unit-gt56319.false)
+returns c = c.paired_at.ensures ∙ unit-high c.args.units.now _ c.if-units-at.false c.from-unit.ensures (within _ _ _ c.if-unit-lt55296.false c.if-unit-gt56319.false)

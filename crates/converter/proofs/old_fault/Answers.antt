@@ -1,22 +1,20 @@
-use mathlib.Core.Path.{sym, ap}
-use Rattle.encoding.proofs.EncodingLaws.{above_unit, above_nothing}
-use Rattle.converter.specs.told.ConversionTold.{checked_of}
-use Rattle.converter.proofs.FaultLaws.{old-long, old-empty, old-marked, old-above, old-fine}
+use mathlib.Core.Path.{ap, ◌∙◌}
+use Rattle.std.proofs.lemmas.Result.{err_from_is_err_and}
+use Rattle.converter.specs.told.ConversionTold.{checked_told}
+use Rattle.converter.proofs.FaultLaws.{sized, old-sized, old-marked, old-bytes}
 use Rattle.converter.proofs.old_fault.Goals as goal
 
-pub returns-then-d1-gt-UNIT_LIMIT : goal.returns-then-d1-gt-UNIT_LIMIT
-returns-then-d1-gt-UNIT_LIMIT c = sym (ap checked_of (old-long _ c.if-d1-gt-UNIT_LIMIT.true))
-
-pub returns-then-d1-eq0 : goal.returns-then-d1-eq0
-returns-then-d1-eq0 c = sym (ap checked_of (old-empty _ c.if-d1-gt-UNIT_LIMIT.false c.if-d1-eq0.true))
+pub returns-in_err-some_units : goal.returns-in_err-some_units
+returns-in_err-some_units c =
+    let p = err_from_is_err_and c.from_residual.result c.from_residual.ensures.1 in
+    rw (p.1, p.2) (old-sized _ (c.some_units.ensures ∙ ap checked_told c.in_err-some_units.was))
 
 pub returns-then-d1-eq-BYTE_STRING_MARKER : goal.returns-then-d1-eq-BYTE_STRING_MARKER
-returns-then-d1-eq-BYTE_STRING_MARKER c = sym (ap checked_of (old-marked _ c.if-d1-gt-UNIT_LIMIT.false c.if-d1-eq0.false c.if-d1-eq-BYTE_STRING_MARKER.true))
-
-pub returns-in-Unit : goal.returns-in-Unit
-returns-in-Unit c =
-    sym (ap checked_of (old-above _ c.if-d1-gt-UNIT_LIMIT.false c.if-d1-eq0.false c.if-d1-eq-BYTE_STRING_MARKER.false (above_unit _ c.first_above_255.ensures c.in-Unit.is)))
+returns-then-d1-eq-BYTE_STRING_MARKER c =
+    let s = sized c.args.d1.now (c.some_units.ensures ∙ ap checked_told c.in_ok-some_units.was) in
+    old-marked _ s.0 s.1 c.if-d1-eq-BYTE_STRING_MARKER.true
 
 pub returns : goal.returns
 returns c =
-    sym (ap checked_of (old-fine _ c.if-d1-gt-UNIT_LIMIT.false c.if-d1-eq0.false c.if-d1-eq-BYTE_STRING_MARKER.false (above_nothing _ c.first_above_255.ensures c.in_default.is)))
+    let s = sized c.args.d1.now (c.some_units.ensures ∙ ap checked_told c.in_ok-some_units.was) in
+    old-bytes _ s.0 s.1 c.if-d1-eq-BYTE_STRING_MARKER.false ∙ c.only_bytes.ensures

@@ -1,9 +1,5 @@
-use Prim.Native.Nat.{◌-◌}
 use Rattle.converter.proofs.PackLaws.{Packing}
 use Rattle.converter.proofs.pack.Given as goal
 
 abbrev pub invariant-loop-at : goal.invariant-loop-at
 invariant-loop-at l = Packing l.bytes l.initial.units l.units l.buffer l.scale l.i l.at
-
-abbrev pub decreases-loop-at : goal.decreases-loop-at
-decreases-loop-at l = l.count - l.at

@@ -12,5 +12,5 @@ slice_bounds-old-end-2 c = search (rules, new-inside)
 pub slice_bounds-same-end : goal.slice_bounds-same-end
 slice_bounds-same-end c = search (rules, old-inside)
 
-pub slice_bounds-same-end-2 : goal.slice_bounds-same-end-2
-slice_bounds-same-end-2 c = search (rules, old-inside)
+pub slice_bounds-same-end-in-Ok-old_to_new : goal.slice_bounds-same-end-in-Ok-old_to_new
+slice_bounds-same-end-in-Ok-old_to_new c = search (rules, old-inside)

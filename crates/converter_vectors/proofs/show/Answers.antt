@@ -6,5 +6,5 @@ use Rattle.converter_vectors.proofs.show.Goals as goal
 pub slice_bounds-write_units-end : goal.slice_bounds-write_units-end
 slice_bounds-write_units-end g c = search (rules, new-inside)
 
-pub slice_bounds-write_units-end-2 : goal.slice_bounds-write_units-end-2
-slice_bounds-write_units-end-2 g c = search (rules, new-inside)
+pub slice_bounds-write_units-end-in-Ok : goal.slice_bounds-write_units-end-in-Ok
+slice_bounds-write_units-end-in-Ok g c = search (rules, new-inside)

@@ -1,6 +1,6 @@
 -- What the walk of a body tells: its head, its lists, all of its rows.
 -- Assumes nothing.
-use Rattle.std.specs.Prelude.{◌≡◌, Bool, List, [], ◌∷◌, map, ◌++◌, ℕ, ◌+◌, ◌*◌, ◌^◌, eqb, length}
+use Rattle.std.specs.Prelude.{◌≡◌, Bool, List, [], ◌∷◌, map, ◌++◌, ℕ, ◌+◌, ◌*◌, ◌^◌, eqb, length, Result, Ok, Err}
 use Rattle.std.proofs.Math.Option.{Option}
 use Rattle.foundation.specs.Choices.{concat}
 use Rattle.foundation.specs.Results.{Res, ok, ◌from◌}
@@ -15,16 +15,13 @@ use Rattle.declaration_rows.specs.told.Written.{head_cells}
 use Rattle.schema.specs.Reading.{Scope}
 use Rattle.schema.specs.Members.{Head, head, list_in, alias_in, head_in, constructors_in, alias_field, lists_in, after_table}
 use Rattle.schema.specs.told.SchemaTold.{Lent, NamesOf, Scoped, stop_refused}
-use Rattle.schema.specs.told.MembersTold.{Within, ListedWithin, ListedTold}
-use Rattle.schema.specs.declared.Listed.{Listed}
-use Rattle.schema.specs.declared.Listed.TheVariants as listed
+use Rattle.schema.specs.told.MembersTold.{ListWalked, Within, ListedWithin, ListedTold}
+use Rattle.schema.specs.declared.Stop.{Stop}
 use Rattle.descriptors.specs.Defaults.{closed_constructor, closed_function}
 use Rattle.members.specs.Lists.{section_rows}
 use Rattle.members.specs.declared.list.Member.TheVariants as member
 use Rattle.declarations.specs.Payload.{head_row, declaration_rows}
 use Rattle.declarations.specs.declared.body.Sections.{Sections}
-use Rattle.declarations.specs.declared.body.Body.{Body}
-use Rattle.declarations.specs.declared.body.Body.TheVariants as body
 
 -- What a head takes beside its counts; a list in n bytes; the aliases with kind 9, which is there without a byte of theirs; all lists; a whole
 -- body of n bytes.
@@ -53,18 +50,18 @@ pub record BodyHead (kind : ℕ) (payload d2 ends notes : List ℕ) (records : �
       → head_in (eqb kind 1) c m l ≡ ok (head name flags, l)
 
 -- The constructors of a class; a package has none.
-pub record ConstructorsTold (class : Bool) (e : Lent) (msg : List ℕ) (base : ℕ) (s : State) (r : Listed) (S S' T T' : List ℕ) : Type 0 where
+pub record ConstructorsTold (class : Bool) (e : Lent) (msg : List ℕ) (base : ℕ) (s : State) (r : ListWalked) (S S' T T' : List ℕ) : Type 0 where
   pub spends : ListedWithin (list_cost (length msg)) s r
   pub is : (c : Scope) → Scoped e c → (m : Message) → cut (◌from◌ base msg) ≡ ok m
       → ListedTold (constructors_in class c m s.types) closed_constructor s r S S' T T'
 
 -- The aliases after their count.
-abbrev pub AliasesAre : Res (List Alias × ℕ) → State → Listed → (S S' T T' : List ℕ) → Type 0
-AliasesAre r s (listed.Done s' count) S S' T T' =
-    (xs : List Alias) × (b : ℕ) × (r ≡ ok (xs, b)) × (count ≡ length xs) × PutRows (aliases_rows xs) b s s' S S' T T'
-AliasesAre r s (listed.Refused stop) S S' T T' = r ≡ stop_refused stop
+abbrev pub AliasesAre : Res (List Alias × ℕ) → State → ListWalked → (S S' T T' : List ℕ) → Type 0
+AliasesAre r s (Ok x) S S' T T' =
+    (xs : List Alias) × (b : ℕ) × (r ≡ ok (xs, b)) × (x.count ≡ length xs) × PutRows (aliases_rows xs) b s x.state S S' T T'
+AliasesAre r s (Err stop) S S' T T' = r ≡ stop_refused stop
 
-pub record AliasesTold (class : Bool) (e : Lent) (msg : List ℕ) (base : ℕ) (s : State) (r : Listed) (S S' T T' : List ℕ) : Type 0 where
+pub record AliasesTold (class : Bool) (e : Lent) (msg : List ℕ) (base : ℕ) (s : State) (r : ListWalked) (S S' T T' : List ℕ) : Type 0 where
   pub spends : ListedWithin (aliases_cost (length msg)) s r
   pub is : (c : Scope) → Scoped e c → (m : Message) → cut (◌from◌ base msg) ≡ ok m
       → AliasesAre (list_in (alias_in c) (alias_field class) m s.types) s r S S' T T'
@@ -99,11 +96,11 @@ pub record ListsDone (class : Bool) (c : Scope) (m : Message) (s : State) (b : S
       ++ (concat (map closed_function functions) ++ (concat (map property_rows properties) ++ aliases_rows aliases)))
       left s b.aliases.state S S' T T'
 
-abbrev pub ListsAre : Bool → Scope → Message → State → Body → (S S' T T' : List ℕ) → Type 0
-ListsAre class c m s (body.Done b) S S' T T' = ListsDone class c m s b S S' T T'
-ListsAre class c m s (body.Refused stop) S S' T T' = (h : Head) → lists_in class h c m s.types ≡ stop_refused stop
+abbrev pub ListsAre : Bool → Scope → Message → State → Result Sections Stop → (S S' T T' : List ℕ) → Type 0
+ListsAre class c m s (Ok b) S S' T T' = ListsDone class c m s b S S' T T'
+ListsAre class c m s (Err stop) S S' T T' = (h : Head) → lists_in class h c m s.types ≡ stop_refused stop
 
-abbrev pub ListsTold : Bool → Lent → List ℕ → ℕ → State → Body → (S S' T T' : List ℕ) → Type 0
+abbrev pub ListsTold : Bool → Lent → List ℕ → ℕ → State → Result Sections Stop → (S S' T T' : List ℕ) → Type 0
 ListsTold class e msg base s r S S' T T' =
     (c : Scope) → Scoped e c → (m : Message) → cut (◌from◌ base msg) ≡ ok m → ListsAre class c m s r S S' T T'
 
@@ -123,12 +120,12 @@ pub record Written (kind : ℕ) (d : Declarations) (left : ℕ) (s : State) (b :
   pub put : PutRows (declaration_rows kind d) left s b.aliases.state S S' T T'
 
 -- What was read, or refused.
-abbrev pub BodyTold : ℕ → Res (Declarations × ℕ) → State → Body → (S S' T T' : List ℕ) → Type 0
-BodyTold kind r s (body.Done sections) S S' T T' = (d : Declarations) × (left : ℕ) × (r ≡ ok (d, left)) × Written kind d left s sections S S' T T'
-BodyTold kind r s (body.Refused stop) S S' T T' = r ≡ stop_refused stop
+abbrev pub BodyTold : ℕ → Res (Declarations × ℕ) → State → Result Sections Stop → (S S' T T' : List ℕ) → Type 0
+BodyTold kind r s (Ok sections) S S' T T' = (d : Declarations) × (left : ℕ) × (r ≡ ok (d, left)) × Written kind d left s sections S S' T T'
+BodyTold kind r s (Err stop) S S' T T' = r ≡ stop_refused stop
 
 -- A whole body after its type table.
-abbrev pub BodyWalked : ℕ → Lent → List ℕ → ℕ → State → Body → (S S' T T' : List ℕ) → Type 0
+abbrev pub BodyWalked : ℕ → Lent → List ℕ → ℕ → State → Result Sections Stop → (S S' T T' : List ℕ) → Type 0
 BodyWalked kind e msg base s r S S' T T' =
     (c : Scope) → Scoped e c → (m : Message) → cut (◌from◌ base msg) ≡ ok m
     → BodyTold kind (after_table (eqb kind 1) c m s.types) s r S S' T T'

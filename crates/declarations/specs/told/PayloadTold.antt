@@ -1,14 +1,14 @@
 -- What the code's answers about the decoded bytes tell: the name table and the type table noted.
 -- Assumes nothing.
-use Rattle.std.specs.Prelude.{◌≡◌, List, ℕ, ◌+◌, ◌*◌, ◌^◌, ◌≤◌, ◌<◌, length, drop, true}
+use Rattle.std.specs.Prelude.{◌≡◌, List, ℕ, ◌+◌, ◌*◌, ◌^◌, ◌≤◌, ◌<◌, length, drop, true, Result, Ok, Err}
 use Rattle.std.proofs.Math.Option.{Option}
 use Rattle.foundation.specs.Results as Results
 use Rattle.foundation.specs.Results.{Res, ok, ◌from◌}
 use Rattle.foundation.specs.Texts.{Text}
 use Rattle.fields.specs.Fields.{Class-type_table}
 use Rattle.wire.specs.Wire.{Message, cut}
-use Rattle.wire.specs.Messages.{as32}
 use Rattle.wire.specs.told.WireTold.{wire_refused}
+use Rattle.messages.specs.told.Asked.{index_told}
 use Rattle.names.specs.Records.{Record}
 use Rattle.names.specs.Names.{Names, ends_fit}
 use Rattle.names.specs.told.Index.{IndexOf}
@@ -21,7 +21,8 @@ use Rattle.schema.specs.told.SchemaTold.{EntriesOf, entries_in}
 use Rattle.schema.specs.declared.Tables.{Tables}
 use Rattle.declarations.specs.Payload.{body_of, payload}
 use Rattle.declarations.specs.declared.payload.Opened.{Opened}
-use Rattle.declarations.specs.declared.payload.Opened.TheVariants as opened
+use Rattle.names.specs.declared.records.IndexError.{IndexError}
+use Rattle.names.specs.declared.records.IndexError.TheVariants as index
 
 -- the body from a place of the decoded bytes on
 abbrev pub body_from : ℕ → Names → List ℕ → ℕ → Res (Declarations × ℕ)
@@ -34,7 +35,7 @@ pub record BodyAt (bytes : List ℕ) (at : ℕ) (entries : List ℕ) (tables : T
   pub table : TypeTable
   pub reads : (l : ℕ) → type_table_in Class-type_table body l ≡ ok (table, l)
   pub noted : EntriesOf bytes entries tables.types table.types
-  pub nullable : table.first_nullable ≡ as32 tables.first_nullable
+  pub nullable : table.first_nullable ≡ index_told tables.first_nullable
 
 -- Half as many entries as the body has bytes, whose places fit 32 bits.
 pub record BodyRoom (bytes : List ℕ) (at : ℕ) (entries : List ℕ) : Type 0 where
@@ -42,13 +43,13 @@ pub record BodyRoom (bytes : List ℕ) (at : ℕ) (entries : List ℕ) : Type 0 
   pub short : length bytes < 2 ^ 32
   pub long : length bytes ≤ at + 2 * length entries
 
-abbrev pub BodyOpened : List ℕ → ℕ → ℕ → List ℕ → Opened → Type 0
-BodyOpened bytes at records entries (opened.Body place tables) = (place ≡ at) × (tables.records ≡ records) × BodyAt bytes at entries tables
-BodyOpened bytes at records entries (opened.Refused error) = (kind : ℕ) (names : Names) → body_from kind names bytes at ≡ wire_refused error
-BodyOpened bytes at records entries opened.NoRoom = BodyRoom bytes at entries → ⊥
+abbrev pub BodyOpened : List ℕ → ℕ → ℕ → List ℕ → Result Opened IndexError → Type 0
+BodyOpened bytes at records entries (Ok o) = (o.at ≡ at) × (o.tables.records ≡ records) × BodyAt bytes at entries o.tables
+BodyOpened bytes at records entries (Err (index.Wire error)) = (kind : ℕ) (names : Names) → body_from kind names bytes at ≡ wire_refused error
+BodyOpened bytes at records entries (Err index.NoRoom) = BodyRoom bytes at entries → ⊥
 
 -- The same after the records, which are worked out before.
-pub record NotedOpened (bytes : List ℕ) (at records : ℕ) (before after : List ℕ) (r : Opened) : Type 0 where
+pub record NotedOpened (bytes : List ℕ) (at records : ℕ) (before after : List ℕ) (r : Result Opened IndexError) : Type 0 where
   pub names : (rs : List Record) → length bytes < 65536 → IndexOf bytes before records rs → NotesOf bytes after records rs
   pub body : BodyOpened bytes at records (drop (3 * records) after) r
 
@@ -65,10 +66,10 @@ pub record NotesRoom (bytes notes : List ℕ) : Type 0 where
   pub short : length bytes < 65536
   pub long : 3 * length bytes ≤ 2 * length notes
 
-abbrev pub OpenedTold : List ℕ → List ℕ → Opened → Type 0
-OpenedTold bytes notes (opened.Body at tables) = OpenedAt bytes notes at tables
-OpenedTold bytes notes (opened.Refused error) = (kind : ℕ) (d2 : ℕ → Res (Option Text)) → payload kind d2 bytes ≡ wire_refused error
-OpenedTold bytes notes opened.NoRoom = NotesRoom bytes notes → ⊥
+abbrev pub OpenedTold : List ℕ → List ℕ → Result Opened IndexError → Type 0
+OpenedTold bytes notes (Ok o) = OpenedAt bytes notes o.at o.tables
+OpenedTold bytes notes (Err (index.Wire error)) = (kind : ℕ) (d2 : ℕ → Res (Option Text)) → payload kind d2 bytes ≡ wire_refused error
+OpenedTold bytes notes (Err index.NoRoom) = NotesRoom bytes notes → ⊥
 
 -- All that a reader is lent of the decoded bytes: their tables, and after these the sizes of d2's long strings.
 pub record LentAt (bytes d2 ends notes : List ℕ) (at : ℕ) (tables : Tables) : Type 0 where
@@ -80,7 +81,7 @@ pub record LentRoom (bytes notes : List ℕ) : Type 0 where
   pub short : length bytes < 65536
   pub long : 3 * length bytes ≤ 2 * codes_from (length notes)
 
-abbrev pub LentTold : List ℕ → List ℕ → List ℕ → List ℕ → Opened → Type 0
-LentTold bytes d2 ends notes (opened.Body at tables) = LentAt bytes d2 ends notes at tables
-LentTold bytes d2 ends notes (opened.Refused error) = (kind : ℕ) (strings : ℕ → Res (Option Text)) → payload kind strings bytes ≡ wire_refused error
-LentTold bytes d2 ends notes opened.NoRoom = LentRoom bytes notes → ⊥
+abbrev pub LentTold : List ℕ → List ℕ → List ℕ → List ℕ → Result Opened IndexError → Type 0
+LentTold bytes d2 ends notes (Ok o) = LentAt bytes d2 ends notes o.at o.tables
+LentTold bytes d2 ends notes (Err (index.Wire error)) = (kind : ℕ) (strings : ℕ → Res (Option Text)) → payload kind strings bytes ≡ wire_refused error
+LentTold bytes d2 ends notes (Err index.NoRoom) = LentRoom bytes notes → ⊥

@@ -15,8 +15,8 @@ use Rattle.erasure.specs.Erasure.{first_erased, erased, Returned, of_type, erase
 use Rattle.erasure.specs.told.ErasureTold.{PutSized}
 use Rattle.erasure.specs.declared.Position.{Position}
 use Rattle.erasure.specs.declared.Position.TheVariants as position
-use Rattle.erasure.specs.declared.Part.{Part}
-use Rattle.erasure.specs.declared.Part.TheVariants as part
+use Rattle.std.specs.Prelude as std
+use Rattle.std.specs.Prelude.{Some, None}
 use Rattle.descriptors.specs.Defaults.{erased_option, parameter_types, function_parts, constructor_parts, descriptor}
 
 -- The erasure of a type at its position.
@@ -30,17 +30,17 @@ abbrev pub part_cost : ℕ
 part_cost = 2 ^ 22
 
 -- a text of at most n bytes
-abbrev pub PartWithin : ℕ → Part → Type 0
-PartWithin n (part.Written size) = size ≤ n
-PartWithin n part.Absent = Unit {0}
+abbrev pub PartWithin : ℕ → std.Option ℕ → Type 0
+PartWithin n (Some size) = size ≤ n
+PartWithin n None = Unit {0}
 
 -- The text was written from a place on, or there is none; then the area holds anything.
-abbrev pub PartTold : Option (List ℕ) → ℕ → Part → List ℕ → List ℕ → Type 0
-PartTold o at (part.Written size) A A' = (text : List ℕ) × (o ≡ some text) × PutSized text at size A A'
-PartTold o at part.Absent A A' = o ≡ none
+abbrev pub PartTold : Option (List ℕ) → ℕ → std.Option ℕ → List ℕ → List ℕ → Type 0
+PartTold o at (Some size) A A' = (text : List ℕ) × (o ≡ some text) × PutSized text at size A A'
+PartTold o at None A A' = o ≡ none
 
 -- the part of one type
-pub record ErasedTold (e : Lent) (start end left : ℕ) (nullable : Bool) (position : Position) (at : ℕ) (r : Part) (A A' : List ℕ) : Type 0 where
+pub record ErasedTold (e : Lent) (start end left : ℕ) (nullable : Bool) (position : Position) (at : ℕ) (r : std.Option ℕ) (A A' : List ℕ) : Type 0 where
   pub within : PartWithin part_cost r
   pub is : (c : Scope) → Scoped e c → (t : Ty) → TypeFound e.payload c start end left t
       → PartTold (map_option print_returned (erased_at position (or_nullable nullable t))) at r A A'
@@ -50,18 +50,18 @@ abbrev pub parameters_part : List Parameter → Option (List ℕ)
 parameters_part ps = map_option (λ es. concat (map print es)) (every_of (map erased_option (parameter_types ps)))
 
 -- the parts of the parameters in field `number` of the message from start to end
-pub record ParametersTold (e : Lent) (start end number at : ℕ) (r : Part) (A A' : List ℕ) : Type 0 where
+pub record ParametersTold (e : Lent) (start end number at : ℕ) (r : std.Option ℕ) (A A' : List ℕ) : Type 0 where
   pub within : PartWithin (part_cost * (end - start)) r
   pub is : (c : Scope) → Scoped e c → (m : Message) → EntryAt e.payload start end m → (ps : List Parameter) (l b : ℕ)
       → parameters_in c number m l ≡ ok (ps, b) → PartTold (parameters_part ps) at r A A'
 
 -- the default descriptors of the constructor or function in the message from start to end
-pub record ConstructorDefault (e : Lent) (start end at : ℕ) (r : Part) (A A' : List ℕ) : Type 0 where
+pub record ConstructorDefault (e : Lent) (start end at : ℕ) (r : std.Option ℕ) (A A' : List ℕ) : Type 0 where
   pub within : PartWithin (part_cost * (4 + (end - start))) r
   pub is : (c : Scope) → Scoped e c → (m : Message) → EntryAt e.payload start end m → (d : Constructor) (l b : ℕ)
       → constructor_in c m l ≡ ok (some d, b) → PartTold (map_option descriptor (constructor_parts d)) at r A A'
 
-pub record FunctionDefault (e : Lent) (start end at : ℕ) (r : Part) (A A' : List ℕ) : Type 0 where
+pub record FunctionDefault (e : Lent) (start end at : ℕ) (r : std.Option ℕ) (A A' : List ℕ) : Type 0 where
   pub within : PartWithin (part_cost * (4 + (end - start))) r
   pub is : (c : Scope) → Scoped e c → (m : Message) → EntryAt e.payload start end m → (f : Function) (l b : ℕ)
       → function_in c m l ≡ ok (some f, b) → PartTold (map_option descriptor (function_parts f)) at r A A'

@@ -14,8 +14,8 @@ use Rattle.schema.specs.told.SchemaTold.{Lent, Scoped, EntryAt, Stands}
 use Rattle.erasure.specs.Erasure.{erased_return, print, print_returned}
 use Rattle.erasure.specs.declared.Position.{Position}
 use Rattle.erasure.specs.declared.Position.TheVariants as position
-use Rattle.erasure.specs.declared.Part.{Part}
-use Rattle.erasure.specs.declared.Part.TheVariants as part
+use Rattle.std.specs.Prelude as std
+use Rattle.std.specs.Prelude.{Some, None}
 use Rattle.descriptors.specs.Defaults.{erased_option, types_before, suspends, continuation_class, object}
 use Rattle.descriptors.specs.told.DefaultsTold.{erased_at, PartWithin, PartTold}
 
@@ -34,7 +34,7 @@ pub record Gave {A : Type 0} (read : Read A) (a : A) : Type 0 where
   pub is : read before ≡ ok (a, after)
 
 -- The part of what was given of the message from start to end, of n bytes at most, was written.
-pub record PartOf {A : Type 0} (given : Scope → Message → A → Type 0) (part : A → Option (List ℕ)) (n : ℕ) (e : Lent) (start end at : ℕ) (r : Part)
+pub record PartOf {A : Type 0} (given : Scope → Message → A → Type 0) (part : A → Option (List ℕ)) (n : ℕ) (e : Lent) (start end at : ℕ) (r : std.Option ℕ)
     (A₀ A₁ : List ℕ) : Type 0 where
   pub within : PartWithin n r
   pub is : (c : Scope) → Scoped e c → (m : Message) → EntryAt e.payload start end m → (a : A) → given c m a → PartTold (part a) at r A₀ A₁
@@ -69,6 +69,6 @@ after_part f =
     if suspends f then some (print continuation_class ++ (0x29 ∷ print object)) else returned
 
 -- a part with n bytes before it
-abbrev pub preceded : ℕ → Part → Part
-preceded n (part.Written size) = part.Written (n + size)
-preceded n part.Absent = part.Absent
+abbrev pub preceded : ℕ → std.Option ℕ → std.Option ℕ
+preceded n (Some size) = Some (n + size)
+preceded n None = None

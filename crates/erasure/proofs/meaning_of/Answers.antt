@@ -1,12 +1,19 @@
-use mathlib.Core.Path.{sym, ◌∙◌}
-use Rattle.erasure.proofs.ListedLaws.{means_row, means-past, means-itself}
+use Rattle.std.proofs.Common.{sym, ◌∙◌}
+use Rattle.std.proofs.lemmas.Bool.Decides.{Decides-eqb}
+use Rattle.std.proofs.lemmas.Slice.Eq.{slice_eq-Decides}
+use Rattle.erasure.proofs.ListedLaws.{means_row, means_none, means-itself}
+use Rattle.erasure.proofs.TextLaws.{never_both}
 use Rattle.erasure.proofs.meaning_of.Goals as goal
 
-pub returns-then-row-ge36 : goal.returns-then-row-ge36
-returns-then-row-ge36 c = means-past c.args.name.now c.row_of-row.result c.row_of-row.ensures c.if-row-ge36.true
+pub returns-then-eq : goal.returns-then-eq
+returns-then-eq c =
+    means_row c.args.name.now c.in-Some.row _ c.in-Some.ensures.0
+    ((slice_eq-Decides Decides-eqb _ _ _ c.eq.ensures).0 c.if-eq.true ∙ c.row_at-meaning.ensures.name) c.row_at-meaning.ensures.meaning
 
-pub returns-then-is_listed : goal.returns-then-is_listed
-returns-then-is_listed c = means_row c.args.name.now c.row_of-row.result c.meaning_at.result c.if-row-ge36.false (sym c.is_listed.ensures ∙ c.if-is_listed.true) c.meaning_at.ensures
+pub returns-else-eq : goal.returns-else-eq
+returns-else-eq c =
+    means-itself c.args.name.now c.in-Some.row c.in-Some.ensures λ e.
+    never_both ((slice_eq-Decides Decides-eqb _ _ _ c.eq.ensures).1 (e ∙ sym c.row_at-meaning.ensures.name)) c.if-eq.false
 
-pub returns : goal.returns
-returns c = means-itself c.args.name.now c.row_of-row.result c.row_of-row.ensures (sym c.is_listed.ensures ∙ c.if-is_listed.false)
+pub returns-in-None : goal.returns-in-None
+returns-in-None c = means_none c.args.name.now c.in-None.ensures

@@ -3,13 +3,13 @@ use Rattle.erasure.proofs.PartLaws.{prints-box, prints-letter, prints-letters, p
 use Rattle.erasure.proofs.printed_as.Goals as goal
 
 pub returns-then-is_boxed : goal.returns-then-is_boxed
-returns-then-is_boxed c = prints-box c.args.position c.args.nullable c.in-Primitive.is c.up_to-letter.ensures c.is_boxed.ensures c.if-is_boxed.true
+returns-then-is_boxed c = prints-box c.args.position c.args.nullable c.in-Primitive.is c.is_boxed.ensures c.if-is_boxed.true
 
 pub returns-else-is_boxed : goal.returns-else-is_boxed
-returns-else-is_boxed c = prints-letter c.args.position c.args.nullable c.in-Primitive.is c.up_to-letter.ensures c.is_boxed.ensures c.if-is_boxed.false
+returns-else-is_boxed c = prints-letter c.args.position c.args.nullable c.in-Primitive.is c.is_boxed.ensures c.if-is_boxed.false
 
 pub returns-in-PrimitiveArray : goal.returns-in-PrimitiveArray
-returns-in-PrimitiveArray c = prints-letters c.args.position c.args.nullable c.in-PrimitiveArray.is c.up_to.ensures
+returns-in-PrimitiveArray c = prints-letters c.args.position c.args.nullable c.in-PrimitiveArray.is
 
 pub returns-in-Array : goal.returns-in-Array
 returns-in-Array c = prints-array c.args.position c.args.nullable c.in-Array.is
@@ -27,7 +27,7 @@ pub returns-in-Nothing : goal.returns-in-Nothing
 returns-in-Nothing c = prints-nothing c.args.position c.args.nullable c.in-Nothing.is
 
 pub returns-in-Class : goal.returns-in-Class
-returns-in-Class c = prints-class c.args.position c.args.nullable c.in-Class.is c.up_to-in-Class.ensures
+returns-in-Class c = prints-class c.args.position c.args.nullable c.in-Class.is
 
 pub returns-in-Other : goal.returns-in-Other
 returns-in-Other c = prints-itself c.args.position c.args.nullable c.in-Other.is

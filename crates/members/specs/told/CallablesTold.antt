@@ -22,10 +22,9 @@ use Rattle.schema.specs.told.MembersTold.{Within}
 use Rattle.members.specs.told.SignaturesTold.{SignedTold}
 use Rattle.schema.specs.told.ReceiversTold.{ReceiverTold}
 use Rattle.declaration_rows.specs.declared.SignatureNames.{SignatureNames}
-use Rattle.members.specs.declared.signatures.Signed.{Signed}
-use Rattle.members.specs.declared.signatures.Signed.TheVariants as answer
-use Rattle.schema.specs.declared.Walked.{Walked}
-use Rattle.schema.specs.declared.Walked.TheVariants as walked
+use Rattle.members.specs.told.SignaturesTold.{Signed}
+use Rattle.std.specs.declared.result.Result.TheVariants.{Ok, Err}
+use Rattle.schema.specs.told.SchemaTold.{Walked}
 
 -- what a function's record up to its parameter count takes
 abbrev pub function_head_cost : ℕ
@@ -37,7 +36,7 @@ pub record FunctionHead (payload d2 msg : List ℕ) (base : ℕ) (name : Name) (
   pub signature : Option Signature
   pub receiver : Bool
   pub flags-are : (m : Message) → cut (◌from◌ base msg) ≡ ok m → flags_in Function-flags m ≡ flags
-  pub signature-is : (n : SignatureNames) → a ≡ answer.Names n
+  pub signature-is : (n : SignatureNames) → a ≡ Ok n
       → signature ≡ both_of signed (or_else (name_text payload d2 n.name) (name_text payload d2 name)) (name_text payload d2 n.descriptor)
   pub receiver-is : ReceiverTold msg base Function-receiver_type Function-receiver_type_id receiver
   pub put : PutHead 3 (function_cells (name_text payload d2 name) flags signature receiver) s.types s s' S S' T T'
@@ -51,13 +50,13 @@ function_types c fallback m f =
     declared_type c Function-return_type Function-return_type_id m >>= λ returned. pure (f receiver signature returned)
 
 abbrev pub FunctionTypesAre : Scope → Option Text → Message → State → Walked → (S S' T T' : List ℕ) → Type 0
-FunctionTypesAre c fallback m s (walked.Done s') S S' T T' =
+FunctionTypesAre c fallback m s (Ok s') S S' T T' =
     (receiver : Option Ty) × (signature : Option Signature) × (returned : Option Ty) × (a : ℕ) × (b : ℕ)
     × (declared_type c Function-receiver_type Function-receiver_type_id m s.types ≡ ok (receiver, a))
     × (signature_in c fallback Function-method_signature m a ≡ ok (signature, a))
     × (declared_type c Function-return_type Function-return_type_id m a ≡ ok (returned, b))
     × PutRows (type_rows receiver_role receiver ++ type_rows return_role returned) b s s' S S' T T'
-FunctionTypesAre c fallback m s (walked.Refused stop) S S' T T' =
+FunctionTypesAre c fallback m s (Err stop) S S' T T' =
     (f : Option Ty → Option Signature → Option Ty → Function) → function_types c fallback m f s.types ≡ stop_refused stop
 
 -- a function's receiver type, the refusal of its signature, and its return type

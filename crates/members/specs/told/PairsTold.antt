@@ -11,8 +11,8 @@ use Rattle.declaration_rows.specs.Rows.{type_rows}
 use Rattle.schema.specs.Reading.{Read, pure, ◌>>=◌, Scope}
 use Rattle.schema.specs.Types.{declared_type}
 use Rattle.schema.specs.told.SchemaTold.{Lent, Scoped, WalkedSpends, WalkedTold}
-use Rattle.schema.specs.declared.Walked.{Walked}
 use Rattle.members.specs.declared.pairs.TypePair.{TypePair}
+use Rattle.schema.specs.told.SchemaTold.{Walked}
 
 -- two readings, one after the other
 abbrev pub both : {A B : Type 0} → Read A → Read B → Read (A × B)

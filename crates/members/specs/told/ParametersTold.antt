@@ -10,13 +10,13 @@ use Rattle.schema.specs.Reading.{each, Scope}
 use Rattle.schema.specs.Members.{parameter_in, parameters_in}
 use Rattle.schema.specs.told.SchemaTold.{Lent, Scoped, WalkedTold}
 use Rattle.schema.specs.told.MembersTold.{Within, ListedWithin, ListedTold, parameter_cost}
-use Rattle.schema.specs.declared.Listed.{Listed}
-use Rattle.schema.specs.declared.Walked.{Walked}
-use Rattle.schema.specs.declared.Walked.TheVariants as walked
+use Rattle.std.specs.declared.result.Result.TheVariants.{Ok, Err}
+use Rattle.schema.specs.told.SchemaTold.{Walked}
+use Rattle.schema.specs.told.MembersTold.{ListWalked}
 
 abbrev pub WalkedWithin : ℕ → State → Walked → Type 0
-WalkedWithin n s (walked.Done s') = Within n s s'
-WalkedWithin n s (walked.Refused stop) = Unit {0}
+WalkedWithin n s (Ok s') = Within n s s'
+WalkedWithin n s (Err stop) = Unit {0}
 
 -- A parameter in the message msg, which stands at base among the decoded bytes.
 pub record ParameterTold (e : Lent) (msg : List ℕ) (base : ℕ) (s : State) (r : Walked) (S S' T T' : List ℕ) : Type 0 where
@@ -24,13 +24,13 @@ pub record ParameterTold (e : Lent) (msg : List ℕ) (base : ℕ) (s : State) (r
   pub is : (c : Scope) → Scoped e c → (m : Message) → cut (◌from◌ base msg) ≡ ok m → WalkedTold (parameter_in c m s.types) parameter_rows s r S S' T T'
 
 -- The parameters in a field, all of whose messages can be cut.
-pub record ParametersAtTold (e : Lent) (msg : List ℕ) (base number : ℕ) (s : State) (r : Listed) (S S' T T' : List ℕ) : Type 0 where
+pub record ParametersAtTold (e : Lent) (msg : List ℕ) (base number : ℕ) (s : State) (r : ListWalked) (S S' T T' : List ℕ) : Type 0 where
   pub spends : ListedWithin (parameter_cost * length msg) s r
   pub is : (c : Scope) → Scoped e c → (m : Message) → cut (◌from◌ base msg) ≡ ok m → (ms : List Message) → messages number m ≡ ok ms
       → ListedTold (each (parameter_in c) ms s.types) parameter_rows s r S S' T T'
 
 -- The parameters in a field.
-pub record ParametersInTold (e : Lent) (msg : List ℕ) (base number : ℕ) (s : State) (r : Listed) (S S' T T' : List ℕ) : Type 0 where
+pub record ParametersInTold (e : Lent) (msg : List ℕ) (base number : ℕ) (s : State) (r : ListWalked) (S S' T T' : List ℕ) : Type 0 where
   pub spends : ListedWithin (parameter_cost * length msg) s r
   pub is : (c : Scope) → Scoped e c → (m : Message) → cut (◌from◌ base msg) ≡ ok m
       → ListedTold (parameters_in c number m s.types) parameter_rows s r S S' T T'

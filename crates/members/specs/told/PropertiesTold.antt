@@ -20,11 +20,10 @@ use Rattle.declaration_rows.specs.told.Written.{signature_by, property_cells}
 use Rattle.schema.specs.told.SchemaTold.{Lent, Scoped, PickedTold}
 use Rattle.schema.specs.told.MembersTold.{Within, PickedWithin, member_cost}
 use Rattle.members.specs.told.SignaturesTold.{PropertySignedTold}
-use Rattle.schema.specs.declared.Picked.{Picked}
 use Rattle.declaration_rows.specs.declared.SignatureNames.{SignatureNames}
-use Rattle.members.specs.declared.signatures.Signed.TheVariants as answer
 use Rattle.members.specs.declared.signatures.PropertyNames.{PropertyNames}
-use Rattle.members.specs.declared.signatures.PropertySigned.TheVariants as property
+use Rattle.std.specs.declared.result.Result.TheVariants.{Ok}
+use Rattle.schema.specs.told.SchemaTold.{Picked}
 
 -- A property's record takes no more than this.
 abbrev pub record_cost : ℕ
@@ -36,7 +35,7 @@ pub record PropertyRecordTold (payload d2 msg : List ℕ) (base : ℕ) (name : N
   pub types : s'.types ≡ s.types
   pub is : (c : Scope) (m : Message) → cut (◌from◌ base msg) ≡ ok m
       → (l : ℕ) (o : Option Ty) (b : ℕ) → declared_type c Property-receiver_type Property-receiver_type_id m l ≡ ok (o, b)
-      → (g h : SignatureNames) → n.getter ≡ answer.Names g → n.setter ≡ answer.Names h
+      → (g h : SignatureNames) → n.getter ≡ Ok g → n.setter ≡ Ok h
       → PutRows
       (row 4 (
       property_cells (name_text payload d2 name) (flags_in Property-flags m) (receiver_in o Property-receiver_type_id m)
@@ -49,4 +48,4 @@ pub record NamedPropertyTold (e : Lent) (msg : List ℕ) (base : ℕ) (name : Na
   pub spends : PickedWithin (member_cost (length msg)) s r
   pub is : (c : Scope) → Scoped e c → (m : Message) → cut (◌from◌ base msg) ≡ ok m
       → (t : Text) → name_text e.payload e.d2 name ≡ some t → ((l : ℕ) → name_in c Property-name m l ≡ ok (some t, l))
-      → PropertySignedTold e.payload e.d2 c m (property.Names n) → PickedTold (property_in c m s.types) property_rows s r S S' T T'
+      → PropertySignedTold e.payload e.d2 c m (Ok n) → PickedTold (property_in c m s.types) property_rows s r S S' T T'

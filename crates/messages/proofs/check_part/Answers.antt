@@ -6,5 +6,5 @@ use Rattle.messages.proofs.check_part.Goals as goal
 pub slice_bounds-check_from-end : goal.slice_bounds-check_from-end
 slice_bounds-check_from-end c = simp length-take (omega arith)
 
-pub returns-then-place-gt4294967295 : goal.returns-then-place-gt4294967295
-returns-then-place-gt4294967295 c = checked_part c.args.base c.args.s.now c.args.start c.args.end c.check_from.result c.requires.0 c.check_from.ensures
+pub returns-in-Err : goal.returns-in-Err
+returns-in-Err c = checked_part c.args.base c.args.s.now c.args.part.start c.args.part.end c.check_from.result c.requires.0 c.check_from.ensures

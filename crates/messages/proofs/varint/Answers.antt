@@ -1,14 +1,7 @@
-use Rattle.wire.specs.Messages.{as_varint, varint_of}
-use Rattle.messages.proofs.FindLaws.{asked-nothing, varint-found}
+use mathlib.Core.Path.{◌∙◌, ap, sym}
+use Rattle.messages.specs.told.Asked.{number_told}
+use Rattle.messages.proofs.FindLaws.{number_is}
 use Rattle.messages.proofs.varint.Goals as goal
 
-pub returns-in_default : goal.returns-in_default
-unfolding varint_of
-returns-in_default c =
-    let a = c.args in
-    asked-nothing as_varint a.number a.base a.s.now c.find-found.ensures c.in_default.is
-
 pub returns : goal.returns
-returns c =
-    let a = c.args in
-    varint-found a.number a.base a.s.now c.find-found.ensures c.in-Value.is c.varint.ensures
+returns c = λ m w. number_is c.args.base c.args.s.now c.args.number m w _ c.find.ensures ∙ ap number_told (sym c.number_in.ensures)

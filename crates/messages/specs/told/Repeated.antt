@@ -1,12 +1,11 @@
 -- The first two of a field's numbers, mod 2^32, as the code answers them.
 -- Assumes nothing.
-use Rattle.std.specs.Prelude.{List, [], ◌∷◌, ℕ, ◌%◌, ◌^◌}
+use Rattle.std.specs.Prelude.{List, [], ◌∷◌, ℕ, ◌%◌, ◌^◌, Result, Ok, Err}
 use Rattle.foundation.specs.Results.{Res, ok, ◌>>=◌}
 use Rattle.wire.specs.told.WireTold.{wire_refused}
+use Rattle.wire.specs.declared.WireError.{WireError}
 use Rattle.messages.specs.declared.repeated.Two.{Two}
 use Rattle.messages.specs.declared.repeated.Two.TheVariants.{Neither, One, Both}
-use Rattle.messages.specs.declared.repeated.FirstTwo.{FirstTwo}
-use Rattle.messages.specs.declared.repeated.FirstTwo.TheVariants as first
 
 abbrev pub first_two : List ℕ → Two
 first_two [] = Neither
@@ -16,9 +15,9 @@ first_two (a ∷ b ∷ ns) = Both (a % 2 ^ 32) (b % 2 ^ 32)
 abbrev pub first_two_of : Res (List ℕ) → Res Two
 first_two_of r = r >>= λ ns. ok (first_two ns)
 
-abbrev pub two_told : FirstTwo → Res Two
-two_told (first.Numbers two) = ok two
-two_told (first.Refused error) = wire_refused error
+abbrev pub two_told : Result Two WireError → Res Two
+two_told (Ok two) = ok two
+two_told (Err error) = wire_refused error
 
 -- the same number by number
 abbrev pub pushed : Two → ℕ → Two

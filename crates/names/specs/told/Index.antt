@@ -12,8 +12,10 @@ use Rattle.messages.specs.told.Asked.{bodies}
 use Rattle.characters.specs.told.Places.{part_from}
 use Rattle.names.specs.Records.{Record, record_of}
 use Rattle.names.specs.Names.{records_of}
-use Rattle.names.specs.declared.records.RecordIndex.{RecordIndex}
-use Rattle.names.specs.declared.records.RecordIndex.TheVariants.{Records, NoRoom, Refused}
+use Rattle.std.specs.declared.result.Result.{Result}
+use Rattle.std.specs.declared.result.Result.TheVariants.{Ok, Err}
+use Rattle.names.specs.declared.records.IndexError.{IndexError}
+use Rattle.names.specs.declared.records.IndexError.TheVariants.{NoRoom, Wire}
 
 -- running sums, from n on: what comes before each number, and last before what would come next
 unfoldable pub sums_from : ℕ → List ℕ → List ℕ
@@ -64,16 +66,20 @@ pub record IndexRoom (bytes : List ℕ) (at : ℕ) (notes : List ℕ) (count : �
   pub short : length bytes < 2 ^ 32
   pub long : 3 * count ≤ length notes
 
+-- how many records are noted, or why none are
+abbrev pub RecordIndex : Type 0
+RecordIndex = Result ℕ IndexError
+
 -- of the name table m, which begins at `at`: its messages, and what the index is made of them
 abbrev pub NotedTold : List ℕ → ℕ → Message → List ℕ → RecordIndex → Type 0
-NotedTold bytes at m notes (Records count) =
+NotedTold bytes at m notes (Ok count) =
     (ms : List Message) × (messages StringTableTypes-record m ≡ ok ms) × IndexOf bytes notes count (map record_of ms)
-NotedTold bytes at m notes NoRoom = IndexRoom bytes at notes (length (bodies StringTableTypes-record m)) → ⊥
-NotedTold bytes at m notes (Refused error) = messages StringTableTypes-record m ≡ wire_refused error
+NotedTold bytes at m notes (Err NoRoom) = IndexRoom bytes at notes (length (bodies StringTableTypes-record m)) → ⊥
+NotedTold bytes at m notes (Err (Wire error)) = messages StringTableTypes-record m ≡ wire_refused error
 
 -- and its records
 abbrev pub IndexTold : List ℕ → ℕ → Message → List ℕ → RecordIndex → Type 0
-IndexTold bytes at m notes (Records count) =
+IndexTold bytes at m notes (Ok count) =
     (records : List Record) × (records_of m ≡ ok records) × IndexOf bytes notes count records
-IndexTold bytes at m notes NoRoom = IndexRoom bytes at notes (length (bodies StringTableTypes-record m)) → ⊥
-IndexTold bytes at m notes (Refused error) = records_of m ≡ wire_refused error
+IndexTold bytes at m notes (Err NoRoom) = IndexRoom bytes at notes (length (bodies StringTableTypes-record m)) → ⊥
+IndexTold bytes at m notes (Err (Wire error)) = records_of m ≡ wire_refused error

@@ -1,47 +1,20 @@
 -- What the code's answers about a record tell, in the definitions' words.
 -- Assumes nothing.
-use Rattle.std.specs.Prelude.{◌≡◌, List, ℕ, eqb, if◌then◌else◌}
+use Rattle.std.specs.Prelude.{◌≡◌, List, ℕ}
 use Rattle.std.proofs.Math.Option.{Option, none, some}
+use Rattle.std.specs.declared.option.Option as rust
 use Rattle.foundation.specs.Choices.{if_some}
 use Rattle.foundation.specs.Results.{ok, ◌from◌}
-use Rattle.fields.specs.Fields.{Record-range, Record-predefined_index, Record-operation, Record-substring_index, Record-replace_char, Record-string}
 use Rattle.wire.specs.Wire.{Message, cut}
-use Rattle.messages.specs.told.Asked.{FoundTold, number_told, piece_told, PieceInside, index_told, number_in}
+use Rattle.messages.specs.told.Asked.{number_told, piece_told, PieceInside, index_told, number_in}
 use Rattle.wire.specs.declared.WireValue.{WireValue}
-use Rattle.messages.specs.declared.Found.{Found}
-use Rattle.messages.specs.declared.Found.TheVariants as found
 use Rattle.messages.specs.declared.repeated.Two.{Two}
 use Rattle.messages.specs.declared.repeated.Two.TheVariants.{Neither, One, Both}
 use Rattle.names.specs.Records.{record_of}
 use Rattle.names.specs.Records as definition
-use Rattle.names.specs.declared.records.Firsts.{Firsts}
 use Rattle.names.specs.declared.records.Record.{Record}
 
--- the first occurrence of field k, after one more field
-abbrev pub first_seen : ℕ → Found → ℕ → WireValue → Found
-first_seen k (found.Value v) n w = found.Value v
-first_seen k found.Nothing n w = if eqb n k then found.Value w else found.Nothing
-
-unfoldable pub with_field : Firsts → ℕ → WireValue → Firsts
-with_field f n v = record {
-  range = first_seen Record-range f.range n v;
-  predefined = first_seen Record-predefined_index f.predefined n v;
-  operation = first_seen Record-operation f.operation n v;
-  substring = first_seen Record-substring_index f.substring n v;
-  replaced = first_seen Record-replace_char f.replaced n v;
-  string = first_seen Record-string f.string n v;
-}
-
--- the first occurrences of all fields
-pub record FirstsTold (base : ℕ) (s : List ℕ) (f : Firsts) : Type 0 where
-  pub range : FoundTold base s Record-range f.range
-  pub predefined : FoundTold base s Record-predefined_index f.predefined
-  pub operation : FoundTold base s Record-operation f.operation
-  pub substring : FoundTold base s Record-substring_index f.substring
-  pub replaced : FoundTold base s Record-replace_char f.replaced
-  pub string : FoundTold base s Record-string f.string
-
-abbrev pub operation_in : Found → ℕ
+abbrev pub operation_in : rust.Option WireValue → ℕ
 operation_in f = if_some (number_told (number_in f)) 0 λ n. n
 
 abbrev pub both_numbers : Two → Option (ℕ × ℕ)

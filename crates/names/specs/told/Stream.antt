@@ -1,27 +1,26 @@
 -- What the code does with a name, in the definitions' words.
 -- Assumes nothing.
-use Rattle.std.specs.Prelude.{Bool, true, false, ◌||◌, ◌≡◌, List, [], map, ℕ, ◌+◌, ◌≤◌, eqb, leb, length, if◌then◌else◌}
+use Rattle.std.specs.Prelude as Std
+use Rattle.std.specs.Prelude.{Some, None, Bool, true, false, ◌||◌, ◌≡◌, List, [], map, ℕ, ◌+◌, ◌≤◌, eqb, leb, length, if◌then◌else◌}
 use Rattle.std.proofs.Math.Option.{Option, none, some}
 use Rattle.std.proofs.lemmas.List.Edits.{sets}
 use Rattle.foundation.specs.Choices.{if_some}
 use Rattle.foundation.specs.Texts.{Text}
 use Rattle.characters.specs.Characters.{width, from_utf8, utf8}
 use Rattle.characters.specs.told.Places.{part_from}
-use Rattle.characters.specs.told.Plain.{instead, with_dots, slashed_character, is_ascii}
-use Rattle.characters.specs.declared.Character.{Character}
-use Rattle.characters.specs.declared.Character.TheVariants.{Read, End}
+use Rattle.characters.specs.told.Plain.{instead, with_dots, slashed_character}
+use Rattle.characters.specs.told.CharactersTold.{Character}
 use Rattle.names.specs.told.Name.{predefined_list, sized, name_text}
 use Rattle.names.specs.Records.{INTERNAL_TO_CLASS_ID, DESC_TO_CLASS_ID, substituted}
 use Rattle.names.specs.declared.name.Name.{Name}
 use Rattle.names.specs.declared.name.Change.{Change}
-use Rattle.names.specs.declared.stream.Fitted.{Fitted}
-use Rattle.names.specs.declared.name.PredefinedPart.{PredefinedPart}
-use Rattle.names.specs.declared.name.PredefinedPart.TheVariants.{Part, Nothing}
+use Rattle.foundation.specs.declared.Read.{Read}
+use Rattle.foundation.specs.declared.Span.{Span}
 
 -- the predefined string that is a part of the list
-abbrev pub listed_text : PredefinedPart → Option Text
-listed_text (Part start end) = some (from_utf8 (part_from start end predefined_list))
-listed_text Nothing = none
+abbrev pub listed_text : Std.Option Span → Option Text
+listed_text (Some part) = some (from_utf8 (part_from part.start part.end predefined_list))
+listed_text None = none
 
 -- the bytes that a part is taken of
 abbrev pub base_of : ℕ → List ℕ → List ℕ → List ℕ
@@ -48,12 +47,6 @@ pub record NoneReplaced (h : Change) : Type 0 where
   pub same : h.from ≡ h.to
   pub dollars : h.dollars ≡ false
 
--- a part that is there, of characters below 128 alone
-pub record PlainPart (s : List ℕ) (start end : ℕ) : Type 0 where
-  pub ordered : start ≤ end
-  pub inside : end ≤ length s
-  pub ascii : is_ascii (part_from start end s) ≡ true
-
 -- a text, with slashes for dots if they are asked for
 abbrev pub slashed_text : Bool → Text → Text
 slashed_text slashes t = if slashes then substituted 0x2e 0x2f t else t
@@ -75,10 +68,10 @@ source_bytes size h t = if_some t [] (sized_bytes size h)
 
 -- What is written next of a text that is made to take `left` bytes more: of a character, it or a zero where it takes too much; at the end
 -- a zero. After a zero the text has ended.
-abbrev pub fitted_of : Change → ℕ → ℕ → Character → Fitted
-fitted_of h left end (Read code next) =
-    if leb (width (changed h code)) left then record { code = changed h code; next = next } else record { code = 0; next = end }
-fitted_of h left end End = record { code = 0; next = end }
+abbrev pub fitted_of : Change → ℕ → ℕ → Character → Read ℕ
+fitted_of h left end (Some c) =
+    if leb (width (changed h c.value)) left then record { value = changed h c.value; next = c.next } else record { value = 0; next = end }
+fitted_of h left end None = record { value = 0; next = end }
 
 -- a name's text in UTF-8, with slashes for dots if they are asked for; nothing if it is absent
 unfoldable pub name_bytes : List ℕ → List ℕ → Name → Bool → List ℕ

@@ -1,6 +1,6 @@
 -- What the code's answers about a record's class name tell, in the definitions' words.
 -- Assumes nothing.
-use Rattle.std.specs.Prelude.{◌≡◌, true, List, ℕ, ◌+◌, ◌≤◌, ◌<◌, length, eqb, if◌then◌else◌}
+use Rattle.std.specs.Prelude.{◌≡◌, true, List, ℕ, ◌+◌, ◌≤◌, ◌<◌, length, eqb, if◌then◌else◌, Some, None}
 use Rattle.std.proofs.Math.Option.{Option}
 use Rattle.foundation.specs.Choices.{map_option}
 use Rattle.foundation.specs.Texts.{Text}
@@ -11,22 +11,22 @@ use Rattle.names.specs.Names.{unwrapped}
 use Rattle.names.specs.told.Name.{predefined_list, name_text}
 use Rattle.names.specs.told.Stream.{base_of}
 use Rattle.names.specs.declared.name.Name.{Name}
-use Rattle.record_names.specs.declared.Extent.{Extent}
-use Rattle.record_names.specs.declared.Extent.TheVariants as extent
+use Rattle.foundation.specs.declared.Span.{Span}
+use Rattle.std.specs.declared.option.Option as rust
 
 -- how many bytes a text takes, every character `from` become `to`
 abbrev pub size_with : ℕ → ℕ → List ℕ → ℕ
 size_with from to s = length (utf8 (substituted from to (from_utf8 s)))
 
 -- the part of some bytes that is left of their text without L and ;
-abbrev pub UnwrapTold : List ℕ → ℕ → ℕ → Extent → Type 0
-UnwrapTold s from to (extent.Part a b) =
-    (unwrapped (substituted from to (from_utf8 s)) ≡ substituted from to (from_utf8 (part_from a b s)))
-    × (a ≤ b)
-    × (b ≤ length s)
-    × (0 < a)
-    × (size_with from to s ≡ size_with from to (part_from a b s) + 2)
-UnwrapTold s from to extent.Nothing = unwrapped (substituted from to (from_utf8 s)) ≡ substituted from to (from_utf8 s)
+abbrev pub UnwrapTold : List ℕ → ℕ → ℕ → rust.Option Span → Type 0
+UnwrapTold s from to (Some p) =
+    (unwrapped (substituted from to (from_utf8 s)) ≡ substituted from to (from_utf8 (part_from p.start p.end s)))
+    × (p.start ≤ p.end)
+    × (p.end ≤ length s)
+    × (0 < p.start)
+    × (size_with from to s ≡ size_with from to (part_from p.start p.end s) + 2)
+UnwrapTold s from to None = unwrapped (substituted from to (from_utf8 s)) ≡ substituted from to (from_utf8 s)
 
 abbrev pub qualified_part : Name → ℕ → ℕ → Name
 qualified_part n start end = record {

@@ -1,6 +1,6 @@
 -- What is told of one record: its name, its class name, and the words that say both.
 -- Assumes nothing.
-use Rattle.std.specs.Prelude.{◌≡◌, true, false, List, ℕ}
+use Rattle.std.specs.Prelude.{◌≡◌, true, false, List, ℕ, Option, Some, None}
 use Rattle.foundation.specs.Results.{ok, ◌from◌}
 use Rattle.wire.specs.Wire.{Message, cut}
 use Rattle.characters.specs.told.Places.{part_from}
@@ -12,12 +12,10 @@ use Rattle.record_names.specs.told.Steps.{BytesName}
 use Rattle.record_names.specs.told.Note.{noted, noted_class}
 use Rattle.record_names.specs.told.ClassNames.{class_text}
 use Rattle.record_names.specs.declared.note.Words.{Words}
-use Rattle.record_names.specs.declared.Decided.{Decided}
-use Rattle.record_names.specs.declared.Decided.TheVariants as decided
 
-abbrev pub DecidedBytes : Decided → Type 0
-DecidedBytes (decided.Yes name) = BytesName name
-DecidedBytes decided.No = Unit {0}
+abbrev pub DecidedBytes : Option Name → Type 0
+DecidedBytes (Some name) = BytesName name
+DecidedBytes None = Unit {0}
 
 -- a predefined string as a name
 pub record PredefinedTold (index : ℕ) (r : Name) : Type 0 where
@@ -25,19 +23,19 @@ pub record PredefinedTold (index : ℕ) (r : Name) : Type 0 where
   pub is : (payload units : List ℕ) → name_text payload units r ≡ predefined_text index
 
 -- by a record: whether it decides, and its name
-abbrev pub NamedIs : List ℕ → List ℕ → Record → Decided → Type 0
-NamedIs bytes units r (decided.Yes name) = (decides r ≡ true) × (text_of r ≡ name_text bytes units name)
-NamedIs bytes units r decided.No = decides r ≡ false
+abbrev pub NamedIs : List ℕ → List ℕ → Record → Option Name → Type 0
+NamedIs bytes units r (Some name) = (decides r ≡ true) × (text_of r ≡ name_text bytes units name)
+NamedIs bytes units r None = decides r ≡ false
 
 -- by the record whose message stands from start to end
-pub record NamedTold (bytes : List ℕ) (start end : ℕ) (r : Decided) : Type 0 where
+pub record NamedTold (bytes : List ℕ) (start end : ℕ) (r : Option Name) : Type 0 where
   pub made : DecidedBytes r
   pub is : (m : Message) → cut (◌from◌ start (part_from start end bytes)) ≡ ok m → (units : List ℕ) → NamedIs bytes units (record_of m) r
 
 -- the same of its class name
-abbrev pub ClassIs : List ℕ → List ℕ → Record → Decided → Type 0
-ClassIs bytes units r (decided.Yes name) = (decides r ≡ true) × (class_text (text_of r) ≡ name_text bytes units name)
-ClassIs bytes units r decided.No = decides r ≡ false
+abbrev pub ClassIs : List ℕ → List ℕ → Record → Option Name → Type 0
+ClassIs bytes units r (Some name) = (decides r ≡ true) × (class_text (text_of r) ≡ name_text bytes units name)
+ClassIs bytes units r None = decides r ≡ false
 
 -- What is noted of a record: whether it decides, its name and its class name, each with the size of its text. Nothing of its message is
 -- read again.
@@ -46,7 +44,7 @@ pub record NoteTold (bytes : List ℕ) (r : Record) (place steps : ℕ) : Type 0
   pub class : (units : List ℕ) → ClassIs bytes units r (noted_class place steps)
 
 -- the words say of a record what the answer says
-abbrev pub WordsFor : List ℕ → Decided → Words → Type 0
+abbrev pub WordsFor : List ℕ → Option Name → Words → Type 0
 WordsFor bytes d w = (r : Record) → ((units : List ℕ) → NamedIs bytes units r d) → NoteTold bytes r w.place w.steps
 
 -- the words of the record whose message stands from start to end

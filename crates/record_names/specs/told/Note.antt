@@ -1,10 +1,8 @@
 -- What is noted of a record: what it builds, in two words.
 -- Assumes nothing.
-use Rattle.std.specs.Prelude.{◌≡◌, Bool, true, false, ℕ, ◌-◌, ◌/◌, ◌%◌, ◌≤◌, ◌<◌, eqb, if◌then◌else◌}
+use Rattle.std.specs.Prelude.{◌≡◌, true, false, ℕ, ◌-◌, ◌/◌, ◌%◌, ◌≤◌, ◌<◌, eqb, if◌then◌else◌, Option, Some, None}
 use Rattle.names.specs.declared.name.Name.{Name}
 use Rattle.record_names.specs.declared.note.Words.{Words}
-use Rattle.record_names.specs.declared.Decided.{Decided}
-use Rattle.record_names.specs.declared.Decided.TheVariants as decided
 
 -- The first word: where the name's part of its source begins and ends, and the same of its class name, 16 bits each. The second, from its low
 -- bits on: kind, 2 bits; operation, 2; the characters that are replaced and put in their place, 21 each; the size of the text, 18.
@@ -38,16 +36,13 @@ class_of n start end = record {
   size = class_size n.size n.start start;
 }
 
-unfoldable pub noted : ℕ → ℕ → Decided
-noted place steps = if eqb (steps % 4) 0 then decided.No else decided.Yes (noted_name place steps)
+unfoldable pub noted : ℕ → ℕ → Option Name
+noted place steps = if eqb (steps % 4) 0 then None else Some (noted_name place steps)
 
-unfoldable pub noted_class : ℕ → ℕ → Decided
+unfoldable pub noted_class : ℕ → ℕ → Option Name
 noted_class place steps =
-    if eqb (steps % 4) 0 then decided.No
-    else decided.Yes (class_of (noted_name place steps) (place / 65536 / 65536 % 65536) (place / 65536 / 65536 / 65536 % 65536))
-
-abbrev pub noted_as : Bool → ℕ → ℕ → Decided
-noted_as class place steps = if class then noted_class place steps else noted place steps
+    if eqb (steps % 4) 0 then None
+    else Some (class_of (noted_name place steps) (place / 65536 / 65536 % 65536) (place / 65536 / 65536 / 65536 % 65536))
 
 -- a name that two words can hold
 pub record NameFits (n : Name) : Type 0 where
@@ -62,4 +57,4 @@ pub record NameFits (n : Name) : Type 0 where
 
 -- the words of a name and of the part that is left of it as a class name
 abbrev pub WordsTold : Name → ℕ → ℕ → Words → Type 0
-WordsTold n start end w = (noted w.place w.steps ≡ decided.Yes n) × (noted_class w.place w.steps ≡ decided.Yes (class_of n start end))
+WordsTold n start end w = (noted w.place w.steps ≡ Some n) × (noted_class w.place w.steps ≡ Some (class_of n start end))

@@ -1,11 +1,8 @@
 -- A record's name clipped to what it is made of, and its size.
 -- Assumes nothing.
-use Rattle.std.specs.Prelude.{◌≡◌, List, ℕ, ◌≤◌, eqb, ltb, if◌then◌else◌}
+use Rattle.std.specs.Prelude.{◌≡◌, List, ℕ, ◌≤◌, eqb, min, if◌then◌else◌}
 use Rattle.names.specs.declared.name.Name.{Name}
 use Rattle.record_names.specs.told.ClassNames.{part_size}
-
-abbrev pub least : ℕ → ℕ → ℕ
-least a b = if ltb a b then a else b
 
 -- how far the source of a name goes, in a payload of so many bytes
 abbrev pub limit_of : ℕ → ℕ → ℕ
@@ -14,8 +11,8 @@ limit_of source size = if eqb source 2 then 878 else size
 abbrev pub clipped_name : ℕ → Name → Name
 clipped_name size n = record {
   source = n.source;
-  start = least n.start (least n.end (limit_of n.source size));
-  end = least n.end (limit_of n.source size);
+  start = min n.start (min n.end (limit_of n.source size));
+  end = min n.end (limit_of n.source size);
   from = n.from;
   to = n.to;
   operation = n.operation;

@@ -1,13 +1,10 @@
 -- What the code's answers about a record's text tell, in the definitions' words.
 -- Assumes nothing.
-use Rattle.std.specs.Prelude.{◌≡◌, false, List, ℕ, ◌+◌, ◌^◌, ◌≤◌, ◌<◌, eqb, length, if◌then◌else◌}
+use Rattle.std.specs.Prelude.{◌≡◌, false, List, ℕ, ◌+◌, ◌^◌, ◌≤◌, ◌<◌, eqb, length, if◌then◌else◌, Some, None}
 use Rattle.std.proofs.Math.Option.{Option, none, some}
 use Rattle.foundation.specs.Choices.{if_some, map_option}
 use Rattle.foundation.specs.Texts.{Text}
 use Rattle.messages.specs.told.Asked.{piece_told, PieceInside, index_told}
-use Rattle.wire.specs.declared.Piece.{Piece}
-use Rattle.wire.specs.declared.Piece.TheVariants as piece
-use Rattle.messages.specs.declared.Indexed.{Indexed}
 use Rattle.characters.specs.Characters.{from_utf8}
 use Rattle.characters.specs.told.Places.{part_from}
 use Rattle.characters.specs.Splits.{substring_of}
@@ -16,55 +13,64 @@ use Rattle.names.specs.told.Name.{turned, source_text, name_text, plain}
 use Rattle.names.specs.told.RecordTold.{record_told}
 use Rattle.names.specs.declared.records.Record.{Record}
 use Rattle.names.specs.declared.name.Name.{Name}
-use Rattle.record_names.specs.declared.Extent.{Extent}
-use Rattle.record_names.specs.declared.Extent.TheVariants as extent
-use Rattle.record_names.specs.declared.steps.Span.{Span}
+use Rattle.foundation.specs.declared.Span.{Span}
 use Rattle.record_names.specs.declared.steps.Base.{Base}
-use Rattle.record_names.specs.declared.steps.Base.TheVariants as base
+use Rattle.std.specs.declared.option.Option as rust
 
-abbrev pub extent_of : List ℕ → Extent → Option (List ℕ)
-extent_of s (extent.Part start end) = some (part_from start end s)
-extent_of s extent.Nothing = none
+-- a part of what begins at `from`, as a part of the whole
+abbrev pub within : ℕ → Span → Span
+within from p = record { start = from + p.start; end = from + p.end }
 
-abbrev pub ExtentInside : List ℕ → Extent → Type 0
-ExtentInside s (extent.Part start end) = (start ≤ end) × (end ≤ length s)
-ExtentInside s extent.Nothing = Unit {0}
+abbrev pub extent_of : List ℕ → rust.Option Span → Option (List ℕ)
+extent_of s (Some p) = some (part_from p.start p.end s)
+extent_of s None = none
+
+abbrev pub ExtentInside : List ℕ → rust.Option Span → Type 0
+ExtentInside s (Some p) = (p.start ≤ p.end) × (p.end ≤ length s)
+ExtentInside s None = Unit {0}
 
 -- the part of some bytes that a substring of their text is
-pub record SubstringTold (s : List ℕ) (first last : ℕ) (r : Extent) : Type 0 where
+pub record SubstringTold (s : List ℕ) (first last : ℕ) (r : rust.Option Span) : Type 0 where
   pub is : substring_of first last (from_utf8 s) ≡ map_option from_utf8 (extent_of s r)
   pub inside : ExtentInside s r
 
 -- a piece of a message that begins at `from` has places
-abbrev pub PieceFits : ℕ → Piece → Type 0
-PieceFits from (piece.Body start end) = (start ≤ end) × (from + end < 2 ^ 64)
-PieceFits from piece.Nothing = Unit {0}
+abbrev pub PieceFits : ℕ → rust.Option Span → Type 0
+PieceFits from (Some p) = (p.start ≤ p.end) × (from + p.end < 2 ^ 64)
+PieceFits from None = Unit {0}
 
-abbrev pub text_in : List ℕ → List ℕ → Base → Option Text
-text_in payload d2 (base.Part source start end) = source_text payload d2 (plain source start end)
-text_in payload d2 base.Nothing = none
+-- the text of a part of a source
+abbrev pub base_in : List ℕ → List ℕ → Base → Option Text
+base_in payload d2 b = source_text payload d2 (plain b.source b.part.start b.part.end)
+
+abbrev pub text_in : List ℕ → List ℕ → rust.Option Base → Option Text
+text_in payload d2 (Some b) = base_in payload d2 b
+text_in payload d2 None = none
 
 -- it is made of bytes, not of units
 abbrev pub OfBytes : Base → Type 0
-OfBytes (base.Part source start end) = (0 < source) × (source ≤ 2)
-OfBytes base.Nothing = Unit {0}
+OfBytes b = (0 < b.source) × (b.source ≤ 2)
+
+abbrev pub IfOfBytes : rust.Option Base → Type 0
+IfOfBytes (Some b) = OfBytes b
+IfOfBytes None = Unit {0}
 
 -- what a record's text is made of, whose message begins at `from`: its string or its predefined string
-pub record BaseTold (from : ℕ) (string : Piece) (index : Indexed) (r : Base) : Type 0 where
-  pub bytes : OfBytes r
+pub record BaseTold (from : ℕ) (string : rust.Option Span) (index : rust.Option ℕ) (r : rust.Option Base) : Type 0 where
+  pub bytes : IfOfBytes r
   pub is : (payload d2 : List ℕ) (end : ℕ) → PieceInside (part_from from end payload) string
       → if_some (piece_told from (part_from from end payload) string) (if_some (index_told index) none predefined_text) (λ p. some (from_utf8 p.bytes))
       ≡ text_in payload d2 r
 
 -- the part of a part that a step gives
-pub record StepTold (payload : List ℕ) (step : Text → Option Text) (source start end : ℕ) (r : Base) : Type 0 where
-  pub bytes : OfBytes r
-  pub is : (d2 : List ℕ) → if_some (source_text payload d2 (plain source start end)) none step ≡ text_in payload d2 r
+pub record StepTold (payload : List ℕ) (step : Text → Option Text) (base : Base) (r : rust.Option Base) : Type 0 where
+  pub bytes : IfOfBytes r
+  pub is : (d2 : List ℕ) → if_some (base_in payload d2 base) none step ≡ text_in payload d2 r
 
 -- the part of a part that is left by something that drops characters
-abbrev pub LeftTold : List ℕ → ℕ → ℕ → ℕ → (Text → Text) → Span → Type 0
-LeftTold payload source start end drops r =
-    (d2 : List ℕ) → map_option drops (source_text payload d2 (plain source start end)) ≡ source_text payload d2 (plain source r.start r.end)
+pub record LeftTold (payload : List ℕ) (base : Base) (drops : Text → Text) (r : Base) : Type 0 where
+  pub bytes : OfBytes r
+  pub is : (d2 : List ℕ) → map_option drops (base_in payload d2 base) ≡ base_in payload d2 r
 
 abbrev pub known : ℕ → ℕ
 known operation = if eqb operation 1 then 1 else if eqb operation 2 then 2 else 0
@@ -81,9 +87,9 @@ turned_steps replaced operation text = if_some text none λ t. map_option (turne
 abbrev pub BytesName : Name → Type 0
 BytesName n = (n.source ≤ 2) × (n.qualified ≡ false) × (n.operation < 4) × (n.from < 2097152) × (n.to < 2097152) × (n.size ≡ 0)
 
-pub record StepsTold (source start end : ℕ) (replaced : Option (ℕ × ℕ)) (operation : ℕ) (r : Name) : Type 0 where
-  pub bytes : source ≤ 2 → BytesName r
-  pub is : (payload d2 : List ℕ) → name_text payload d2 r ≡ turned_steps replaced operation (source_text payload d2 (plain source start end))
+pub record StepsTold (base : Base) (replaced : Option (ℕ × ℕ)) (operation : ℕ) (r : Name) : Type 0 where
+  pub bytes : base.source ≤ 2 → BytesName r
+  pub is : (payload d2 : List ℕ) → name_text payload d2 r ≡ turned_steps replaced operation (base_in payload d2 base)
 
 -- the name that a record builds, whose message begins at `from`
 pub record BuiltTold (payload : List ℕ) (from : ℕ) (read : Record) (r : Name) : Type 0 where

@@ -2,6 +2,9 @@
 -- Assumes nothing.
 use Rattle.std.specs.Prelude.{◌≡◌, List, map, ℕ, ◌+◌, ◌*◌, ◌^◌, ◌≤◌, length}
 use Rattle.std.proofs.Math.Option.{Option}
+use Rattle.std.specs.declared.option.Option.TheVariants.{Some, None}
+use Rattle.std.specs.declared.result.Result.{Result}
+use Rattle.std.specs.declared.result.Result.TheVariants.{Ok, Err}
 use Rattle.foundation.specs.Choices.{concat}
 use Rattle.foundation.specs.Results.{Res, ok, ◌from◌}
 use Rattle.wire.specs.Wire.{Message, cut}
@@ -10,11 +13,16 @@ use Rattle.sheet.specs.told.Put.{PutRows}
 use Rattle.sheet.specs.declared.State.{State}
 use Rattle.schema.specs.Reading.{Read, Scope, allowance}
 use Rattle.schema.specs.Members.{list_in}
-use Rattle.schema.specs.told.SchemaTold.{Lent, Scoped, type_length, name_limit, stop_refused, PickedTold}
-use Rattle.schema.specs.declared.Listed.{Listed}
-use Rattle.schema.specs.declared.Listed.TheVariants as listed
-use Rattle.schema.specs.declared.Picked.{Picked}
-use Rattle.schema.specs.declared.Picked.TheVariants as picked
+use Rattle.schema.specs.told.SchemaTold.{Lent, Scoped, type_length, name_limit, Picked, stop_refused, PickedTold}
+use Rattle.schema.specs.declared.Stop.{Stop}
+use Rattle.schema.specs.declared.Section.{Section}
+
+-- the answer of the reader of a list: what was read is written, up to a state, and how many are kept
+abbrev pub ListWalked : Type 0
+ListWalked = Result Section Stop
+
+abbrev pub section : State → ℕ → Section
+section s count = record { state = s; count = count }
 
 -- What is counted: the places in both areas, and the most that the types take which may still be entered.
 abbrev pub counted : State → ℕ
@@ -33,13 +41,13 @@ pub record Within (n : ℕ) (s s' : State) : Type 0 where
   pub types : s'.types ≤ s.types
 
 abbrev pub PickedWithin : ℕ → State → Picked → Type 0
-PickedWithin n s (picked.Kept s') = Within n s s'
-PickedWithin n s picked.Dropped = Unit {0}
-PickedWithin n s (picked.Refused stop) = Unit {0}
+PickedWithin n s (Ok (Some s')) = Within n s s'
+PickedWithin n s (Ok None) = Unit {0}
+PickedWithin n s (Err stop) = Unit {0}
 
-abbrev pub ListedWithin : ℕ → State → Listed → Type 0
-ListedWithin n s (listed.Done s' count) = Within n s s'
-ListedWithin n s (listed.Refused stop) = Unit {0}
+abbrev pub ListedWithin : ℕ → State → ListWalked → Type 0
+ListedWithin n s (Ok x) = Within n s x.state
+ListedWithin n s (Err stop) = Unit {0}
 
 -- What a parameter takes beside its types; what another member does, whose message has n bytes; the same with its default descriptor.
 abbrev pub parameter_cost : ℕ
@@ -52,10 +60,10 @@ abbrev pub closed_cost : ℕ → ℕ
 closed_cost n = 2 ^ 25 * (1 + n)
 
 -- A list is written, each in its rows, or refused.
-abbrev pub ListedTold : {A : Type 0} → Res (List A × ℕ) → (A → List Row) → State → Listed → (S S' T T' : List ℕ) → Type 0
-ListedTold {A} r rows s (listed.Done s' count) S S' T T' =
-    (xs : List A) × (b : ℕ) × (r ≡ ok (xs, b)) × (count ≡ length xs) × PutRows (concat (map rows xs)) b s s' S S' T T'
-ListedTold r rows s (listed.Refused stop) S S' T T' = r ≡ stop_refused stop
+abbrev pub ListedTold : {A : Type 0} → Res (List A × ℕ) → (A → List Row) → State → ListWalked → (S S' T T' : List ℕ) → Type 0
+ListedTold {A} r rows s (Ok x) S S' T T' =
+    (xs : List A) × (b : ℕ) × (r ≡ ok (xs, b)) × (x.count ≡ length xs) × PutRows (concat (map rows xs)) b s x.state S S' T T'
+ListedTold r rows s (Err stop) S S' T T' = r ≡ stop_refused stop
 
 -- A member in the message msg, which stands at base among the decoded bytes.
 pub record MemberTold {A : Type 0} (read : Scope → Message → Read (Option A)) (rows : A → List Row) (cost : ℕ) (e : Lent) (msg : List ℕ) (base : ℕ) (s : State) (r : Picked) (S S' T T' : List ℕ) : Type 0 where
@@ -63,7 +71,7 @@ pub record MemberTold {A : Type 0} (read : Scope → Message → Read (Option A)
   pub is : (c : Scope) → Scoped e c → (m : Message) → cut (◌from◌ base msg) ≡ ok m → PickedTold (read c m s.types) rows s r S S' T T'
 
 -- The list of members in a field.
-pub record ListTold {A : Type 0} (read : Scope → Message → Read (Option A)) (rows : A → List Row) (cost : ℕ) (e : Lent) (msg : List ℕ) (base number : ℕ) (s : State) (r : Listed) (S S' T T' : List ℕ) : Type 0 where
+pub record ListTold {A : Type 0} (read : Scope → Message → Read (Option A)) (rows : A → List Row) (cost : ℕ) (e : Lent) (msg : List ℕ) (base number : ℕ) (s : State) (r : ListWalked) (S S' T T' : List ℕ) : Type 0 where
   pub spends : ListedWithin cost s r
   pub is : (c : Scope) → Scoped e c → (m : Message) → cut (◌from◌ base msg) ≡ ok m
       → ListedTold (list_in (read c) number m s.types) rows s r S S' T T'

@@ -1,11 +1,15 @@
 -- What the code's answers tell, in the definitions' words: what is lent, what was written, what is left.
 -- Assumes nothing.
-use Rattle.std.specs.Prelude.{◌≡◌, true, List, ℕ, ◌+◌, ◌*◌, ◌^◌, ◌≤◌, length, drop, get_or}
+use Rattle.std.specs.Prelude.{◌≡◌, Bool, true, false, List, ℕ, leb, ◌+◌, ◌*◌, ◌^◌, ◌≤◌, length, drop, get_or}
 use Rattle.std.proofs.Math.Option.{Option, none, some}
 use Rattle.std.proofs.Math.ListN.{get_elem?}
+use Rattle.std.specs.declared.option.Option as rust
+use Rattle.std.specs.declared.option.Option.TheVariants.{Some, None}
+use Rattle.std.specs.declared.result.Result.{Result}
+use Rattle.std.specs.declared.result.Result.TheVariants.{Ok, Err}
 use Rattle.foundation.specs.Results.{Res, ok, refused, Cause, too_many_types, ◌from◌}
 use Rattle.wire.specs.Wire.{Message, cut}
-use Rattle.wire.specs.Messages.{as32}
+use Rattle.messages.specs.told.Asked.{index_told}
 use Rattle.wire.specs.told.WireTold.{wire_cause, wire_place}
 use Rattle.characters.specs.told.Places.{part_from}
 use Rattle.names.specs.Names.{Names, strings_from, d2_string, ends_fit}
@@ -19,10 +23,13 @@ use Rattle.schema.specs.Reading.{Scope, allowance}
 use Rattle.schema.specs.declared.Tables.{Tables}
 use Rattle.schema.specs.declared.Stop.{Stop}
 use Rattle.schema.specs.declared.Stop.TheVariants.{Wire, TooManyTypes}
-use Rattle.schema.specs.declared.Walked.{Walked}
-use Rattle.schema.specs.declared.Walked.TheVariants as walked
-use Rattle.schema.specs.declared.Picked.{Picked}
-use Rattle.schema.specs.declared.Picked.TheVariants as picked
+
+-- The answers of the readers: what was read is written, up to a state; the same of what may not be there.
+abbrev pub Walked : Type 0
+Walked = Result State Stop
+
+abbrev pub Picked : Type 0
+Picked = Result (rust.Option State) Stop
 
 abbrev pub stop_cause : Stop → Cause
 stop_cause (Wire error) = wire_cause error
@@ -70,6 +77,11 @@ pub record EntriesOf (payload entries : List ℕ) (count : ℕ) (types : List Me
   pub long : count ≤ length entries
   pub each : (i : ℕ) (m : Message) → get_elem? types i ≡ some m → EntryAt payload (start_of (get_or entries i 0)) (end_of (get_or entries i 0)) m
 
+-- the entries from the first nullable one on
+abbrev pub entry_nullable : rust.Option ℕ → ℕ → Bool
+entry_nullable (Some first) i = leb first i
+entry_nullable None i = false
+
 -- they are noted after the records
 abbrev pub entries_in : Tables → List ℕ → List ℕ
 entries_in tables notes = drop (3 * tables.records) notes
@@ -85,7 +97,7 @@ pub record NamesOf (payload d2 ends notes : List ℕ) (count : ℕ) (n : Names) 
 pub record Scoped (e : Lent) (s : Scope) : Type 0 where
   pub names : NamesOf e.payload e.d2 e.ends e.notes e.tables.records s.names
   pub entries : EntriesOf e.payload (entries_in e.tables e.notes) e.tables.types s.table.types
-  pub nullable : s.table.first_nullable ≡ as32 e.tables.first_nullable
+  pub nullable : s.table.first_nullable ≡ index_told e.tables.first_nullable
 
 -- How many bytes a name takes at most, and a type's record.
 abbrev pub name_limit : ℕ
@@ -113,21 +125,21 @@ pub record Spends (s s' : State) : Type 0 where
   pub types : s'.types ≤ s.types
 
 abbrev pub WalkedSpends : State → Walked → Type 0
-WalkedSpends s (walked.Done s') = Spends s s'
-WalkedSpends s (walked.Refused stop) = Unit {0}
+WalkedSpends s (Ok s') = Spends s s'
+WalkedSpends s (Err stop) = Unit {0}
 
 abbrev pub PickedSpends : State → Picked → Type 0
-PickedSpends s (picked.Kept s') = Spends s s'
-PickedSpends s picked.Dropped = Unit {0}
-PickedSpends s (picked.Refused stop) = Unit {0}
+PickedSpends s (Ok (Some s')) = Spends s s'
+PickedSpends s (Ok None) = Unit {0}
+PickedSpends s (Err stop) = Unit {0}
 
 -- What was read is written, in rows, or refused.
 abbrev pub WalkedTold : {A : Type 0} → Res (A × ℕ) → (A → List Row) → State → Walked → (S S' T T' : List ℕ) → Type 0
-WalkedTold {A} r rows s (walked.Done s') S S' T T' = (a : A) × (b : ℕ) × (r ≡ ok (a, b)) × PutRows (rows a) b s s' S S' T T'
-WalkedTold r rows s (walked.Refused stop) S S' T T' = r ≡ stop_refused stop
+WalkedTold {A} r rows s (Ok s') S S' T T' = (a : A) × (b : ℕ) × (r ≡ ok (a, b)) × PutRows (rows a) b s s' S S' T T'
+WalkedTold r rows s (Err stop) S S' T T' = r ≡ stop_refused stop
 
 -- The same of what may not be there.
 abbrev pub PickedTold : {A : Type 0} → Res (Option A × ℕ) → (A → List Row) → State → Picked → (S S' T T' : List ℕ) → Type 0
-PickedTold {A} r rows s (picked.Kept s') S S' T T' = (a : A) × (b : ℕ) × (r ≡ ok (some a, b)) × PutRows (rows a) b s s' S S' T T'
-PickedTold r rows s picked.Dropped S S' T T' = (r ≡ ok (none, s.types)) × (S' ≡ S) × (T' ≡ T)
-PickedTold r rows s (picked.Refused stop) S S' T T' = r ≡ stop_refused stop
+PickedTold {A} r rows s (Ok (Some s')) S S' T T' = (a : A) × (b : ℕ) × (r ≡ ok (some a, b)) × PutRows (rows a) b s s' S S' T T'
+PickedTold r rows s (Ok None) S S' T T' = (r ≡ ok (none, s.types)) × (S' ≡ S) × (T' ≡ T)
+PickedTold r rows s (Err stop) S S' T T' = r ≡ stop_refused stop

@@ -3,22 +3,21 @@
 use Rattle.std.specs.Prelude.{◌≡◌, Bool, ◌||◌, List, ℕ, ◌-◌, ◌≤◌, ◌<◌, length}
 use Rattle.std.proofs.Math.Option.{Option, none, some}
 use Rattle.std.proofs.Math.ListN.{get_elem?}
+use Rattle.std.specs.declared.option.Option.TheVariants.{Some}
+use Rattle.std.specs.declared.result.Result.TheVariants.{Ok, Err}
 use Rattle.foundation.specs.Results.{ok, ◌from◌}
 use Rattle.wire.specs.Wire.{Message, cut}
 use Rattle.characters.specs.told.Places.{part_from}
-use Rattle.wire.specs.declared.Piece.{Piece}
-use Rattle.wire.specs.declared.Piece.TheVariants as piece
 use Rattle.sheet.specs.Rows.{Row}
 use Rattle.sheet.specs.declared.State.{State}
 use Rattle.declaration_rows.specs.Declarations.{invariant, no_types, Ty, with_type}
 use Rattle.schema.specs.Reading.{Scope, allowance}
 use Rattle.schema.specs.Types.{max_depth, resolve_at, type_in, type_at, declared_type}
 use Rattle.declaration_rows.specs.Rows.{types_rows}
-use Rattle.schema.specs.told.SchemaTold.{Lent, Scoped, WalkedSpends, PickedSpends, WalkedTold, PickedTold, EntriesOf}
-use Rattle.schema.specs.declared.Walked.{Walked}
-use Rattle.schema.specs.declared.Walked.TheVariants as walked
-use Rattle.schema.specs.declared.Picked.{Picked}
-use Rattle.schema.specs.declared.Picked.TheVariants as picked
+use Rattle.schema.specs.told.SchemaTold.{Lent, Scoped, Walked, Picked, WalkedSpends, PickedSpends, WalkedTold, PickedTold, EntriesOf}
+use Rattle.std.specs.declared.option.Option as rust
+use Rattle.std.specs.declared.option.Option.TheVariants.{None}
+use Rattle.foundation.specs.declared.Span.{Span}
 
 -- a type that is nullable also where another says so
 abbrev pub or_nullable : Bool → Ty → Ty
@@ -30,24 +29,24 @@ rows_in role projection t = types_rows role (with_type projection t no_types)
 
 -- what was walked, as something that may not be there
 abbrev pub picked_of : Walked → Picked
-picked_of (walked.Done s) = picked.Kept s
-picked_of (walked.Refused stop) = picked.Refused stop
+picked_of (Ok s) = Ok (Some s)
+picked_of (Err stop) = Err stop
 
 -- an entry of the type table
-abbrev pub EntryIs : List ℕ → Option Message → Piece → Type 0
-EntryIs payload o (piece.Body start end) = (m : Message) × (o ≡ some m) × (cut (◌from◌ start (part_from start end payload)) ≡ ok m)
-EntryIs payload o piece.Nothing = o ≡ none
+abbrev pub EntryIs : List ℕ → Option Message → rust.Option Span → Type 0
+EntryIs payload o (Some p) = (m : Message) × (o ≡ some m) × (cut (◌from◌ p.start (part_from p.start p.end payload)) ≡ ok m)
+EntryIs payload o None = o ≡ none
 
-abbrev pub EntryInside : List ℕ → Piece → Type 0
-EntryInside payload (piece.Body start end) = (start ≤ end) × (end ≤ length payload)
-EntryInside payload piece.Nothing = Unit {0}
+abbrev pub EntryInside : List ℕ → rust.Option Span → Type 0
+EntryInside payload (Some p) = (p.start ≤ p.end) × (p.end ≤ length payload)
+EntryInside payload None = Unit {0}
 
 -- it is one of so many
-abbrev pub EntryBelow : ℕ → ℕ → Piece → Type 0
-EntryBelow count i (piece.Body start end) = i < count
-EntryBelow count i piece.Nothing = Unit {0}
+abbrev pub EntryBelow : ℕ → ℕ → rust.Option Span → Type 0
+EntryBelow count i (Some p) = i < count
+EntryBelow count i None = Unit {0}
 
-pub record EntryTold (payload entries : List ℕ) (count i : ℕ) (r : Piece) : Type 0 where
+pub record EntryTold (payload entries : List ℕ) (count i : ℕ) (r : rust.Option Span) : Type 0 where
   pub is : (types : List Message) → EntriesOf payload entries count types → EntryIs payload (get_elem? types i) r
   pub inside : EntryInside payload r
   pub below : EntryBelow count i r

@@ -10,16 +10,15 @@ use Rattle.schema.specs.Reading.{Scope}
 use Rattle.declaration_rows.specs.Rows.{type_rows}
 use Rattle.schema.specs.told.SchemaTold.{Lent, Scoped, WalkedSpends, WalkedTold}
 use Rattle.schema.specs.told.TypesTold.{ResolveTold}
-use Rattle.schema.specs.declared.Walked.{Walked}
-use Rattle.schema.specs.declared.Walked.TheVariants as walked
-use Rattle.schema.specs.declared.Picked.{Picked}
-use Rattle.schema.specs.declared.Picked.TheVariants as picked
+use Rattle.std.specs.declared.option.Option.TheVariants.{Some, None}
+use Rattle.std.specs.declared.result.Result.TheVariants.{Ok, Err}
+use Rattle.schema.specs.told.SchemaTold.{Walked, Picked}
 
 -- what is there or not, as what is done: nothing is written of what isn't there
 abbrev pub optional_of : State → Picked → Walked
-optional_of s (picked.Kept s') = walked.Done s'
-optional_of s picked.Dropped = walked.Done s
-optional_of s (picked.Refused stop) = walked.Refused stop
+optional_of s (Ok (Some s')) = Ok s'
+optional_of s (Ok None) = Ok s
+optional_of s (Err stop) = Err stop
 
 -- a type by its index, from depth 0
 pub record LookedTold (e : Lent) (index role : ℕ) (s : State) (r : Walked) (S S' T T' : List ℕ) : Type 0 where

@@ -20,58 +20,60 @@ use Rattle.schema.specs.Reading.{Scope, pure, enter, kept, allowance}
 use Rattle.schema.specs.Types.{max_depth, projection_in, argument_in, type_at}
 use Rattle.schema.specs.told.SchemaTold.{Lent, Scoped, Ready, WalkedSpends, WalkedTold, stop_refused}
 use Rattle.schema.specs.told.PlacesTold.{TableOf}
-use Rattle.schema.specs.told.ArgumentTold.{NoStar}
+use Rattle.schema.specs.told.ArgumentTold.{projection_number, NoStar}
 use Rattle.schema.specs.told.TypesTold.{or_nullable, rows_in}
 use Rattle.schema.specs.declared.Tables.{Tables}
-use Rattle.schema.specs.declared.Walked.{Walked}
-use Rattle.schema.specs.declared.Walked.TheVariants as walked
 use Rattle.type_references.specs.told.Pending.{rows_read, prefixed, shown_rows, argument_rows}
 use Rattle.type_references.specs.declared.arguments.TypeField.{TypeField}
 use Rattle.type_references.specs.declared.arguments.TypeField.TheVariants as field
-use Rattle.type_references.specs.declared.arguments.Argument.{Argument}
-use Rattle.type_references.specs.declared.arguments.Argument.TheVariants as argument
-use Rattle.type_references.specs.declared.enter.Counted.{Counted}
-use Rattle.type_references.specs.declared.enter.Counted.TheVariants as counted
+use Rattle.schema.specs.declared.argument.ArgumentHead.{ArgumentHead}
+use Rattle.schema.specs.declared.argument.ArgumentHead.TheVariants as head
+use Rattle.std.specs.declared.option.Option as rust
+use Rattle.std.specs.declared.result.Result.{Result}
+use Rattle.wire.specs.declared.WireError.{WireError}
+use Rattle.std.specs.declared.option.Option.TheVariants.{Some, None}
+use Rattle.std.specs.declared.result.Result.TheVariants.{Ok, Err}
+use Rattle.schema.specs.told.SchemaTold.{Walked}
 
--- A type in a message: inline in field f, from x to y of the bytes, else by its index in field g.
-abbrev pub TypeIs : ℕ → List ℕ → (f g : ℕ) → Message → TypeField → Type 0
-TypeIs base msg f g m (field.Inline x y) =
-    (inner : Message) × (cut (◌from◌ (base + x) (part_from x y msg)) ≡ ok inner) × (message f m ≡ ok (some inner))
-TypeIs base msg f g m (field.ByIndex i) = (message f m ≡ ok none) × (index g m ≡ some i)
-TypeIs base msg f g m field.Nothing = (message f m ≡ ok none) × (index g m ≡ none)
-TypeIs base msg f g m (field.Refused error) = message f m ≡ wire_refused error
+-- A type in a message: inline in field f, in a part of the bytes, else by its index in field g.
+abbrev pub TypeIs : ℕ → List ℕ → (f g : ℕ) → Message → Result (rust.Option TypeField) WireError → Type 0
+TypeIs base msg f g m (Ok (Some (field.Inline p))) =
+    (inner : Message) × (cut (◌from◌ (base + p.start) (part_from p.start p.end msg)) ≡ ok inner) × (message f m ≡ ok (some inner))
+TypeIs base msg f g m (Ok (Some (field.ByIndex i))) = (message f m ≡ ok none) × (index g m ≡ some i)
+TypeIs base msg f g m (Ok None) = (message f m ≡ ok none) × (index g m ≡ none)
+TypeIs base msg f g m (Err error) = message f m ≡ wire_refused error
 
-abbrev pub TypeFieldInside : ℕ → TypeField → Type 0
-TypeFieldInside b (field.Inline x y) = (0 < x) × (x ≤ y) × (y ≤ b)
-TypeFieldInside b (field.ByIndex i) = Unit {0}
-TypeFieldInside b field.Nothing = Unit {0}
-TypeFieldInside b (field.Refused error) = Unit {0}
+abbrev pub TypeFieldInside : ℕ → Result (rust.Option TypeField) WireError → Type 0
+TypeFieldInside b (Ok (Some (field.Inline p))) = (0 < p.start) × (p.start ≤ p.end) × (p.end ≤ b)
+TypeFieldInside b (Ok (Some (field.ByIndex i))) = Unit {0}
+TypeFieldInside b (Ok None) = Unit {0}
+TypeFieldInside b (Err error) = Unit {0}
 
--- An argument: a star, or its type, inline from x to y of the bytes or else by its index, and that it is no star.
-abbrev pub ArgumentIs : ℕ → List ℕ → Message → Argument → Type 0
-ArgumentIs base msg m argument.Star = projection_in m ≡ star
-ArgumentIs base msg m (argument.Inline p x y) =
-    (inner : Message) × (cut (◌from◌ (base + x) (part_from x y msg)) ≡ ok inner) × (message Type-Argument-type m ≡ ok (some inner)) × NoStar p m
-ArgumentIs base msg m (argument.ByIndex p i) =
-    (message Type-Argument-type m ≡ ok none) × (index Type-Argument-type_id m ≡ some i) × NoStar p m
-ArgumentIs base msg m argument.Nothing =
+-- An argument: a star, or its type, inline in a part of the bytes or else by its index, and that it is no star.
+abbrev pub ArgumentIs : ℕ → List ℕ → Message → Result ArgumentHead WireError → Type 0
+ArgumentIs base msg m (Ok head.Star) = projection_in m ≡ star
+ArgumentIs base msg m (Ok (head.Inline p b)) =
+    (inner : Message) × (cut (◌from◌ (base + b.start) (part_from b.start b.end msg)) ≡ ok inner) × (message Type-Argument-type m ≡ ok (some inner)) × NoStar (projection_number p) m
+ArgumentIs base msg m (Ok (head.ByIndex p i)) =
+    (message Type-Argument-type m ≡ ok none) × (index Type-Argument-type_id m ≡ some i) × NoStar (projection_number p) m
+ArgumentIs base msg m (Ok head.Nothing) =
     (message Type-Argument-type m ≡ ok none) × (index Type-Argument-type_id m ≡ none) × NoStar (projection_in m) m
-ArgumentIs base msg m (argument.Refused error) = (message Type-Argument-type m ≡ wire_refused error) × NoStar (projection_in m) m
+ArgumentIs base msg m (Err error) = (message Type-Argument-type m ≡ wire_refused error) × NoStar (projection_in m) m
 
-abbrev pub ArgumentInside : ℕ → ℕ → Argument → Type 0
-ArgumentInside a b argument.Star = Unit {0}
-ArgumentInside a b (argument.Inline p x y) = (a < x) × (x ≤ y) × (y ≤ b)
-ArgumentInside a b (argument.ByIndex p i) = Unit {0}
-ArgumentInside a b argument.Nothing = Unit {0}
-ArgumentInside a b (argument.Refused error) = Unit {0}
+abbrev pub ArgumentInside : ℕ → ℕ → Result ArgumentHead WireError → Type 0
+ArgumentInside a b (Ok head.Star) = Unit {0}
+ArgumentInside a b (Ok (head.Inline p i)) = (a < i.start) × (i.start ≤ i.end) × (i.end ≤ b)
+ArgumentInside a b (Ok (head.ByIndex p i)) = Unit {0}
+ArgumentInside a b (Ok head.Nothing) = Unit {0}
+ArgumentInside a b (Err error) = Unit {0}
 
 -- the type in a message
-pub record TypeFieldTold (base : ℕ) (msg : List ℕ) (f g : ℕ) (r : TypeField) : Type 0 where
+pub record TypeFieldTold (base : ℕ) (msg : List ℕ) (f g : ℕ) (r : Result (rust.Option TypeField) WireError) : Type 0 where
   pub is : (m : Message) → cut (◌from◌ base msg) ≡ ok m → TypeIs base msg f g m r
   pub inside : TypeFieldInside (length msg) r
 
 -- the argument from a to b of a message
-pub record ArgumentTold (base : ℕ) (msg : List ℕ) (a b : ℕ) (r : Argument) : Type 0 where
+pub record ArgumentTold (base : ℕ) (msg : List ℕ) (a b : ℕ) (r : Result ArgumentHead WireError) : Type 0 where
   pub is : (m : Message) → cut (◌from◌ (base + a) (part_from a b msg)) ≡ ok m → ArgumentIs base msg m r
   pub inside : ArgumentInside a b r
 
@@ -87,30 +89,30 @@ pub record CountTold (payload notes : List ℕ) (tables : Tables) (msg : List �
       → kept (argument_in (type_at allowance c) c d) ms l ≡ ok (ts, b) → r ≡ length ts
 
 -- All arguments of a type are cut, and so many are kept; or one is not cut.
-abbrev pub ArgumentsCut : Res (List Message) → Counted → Type 0
-ArgumentsCut r (counted.Count n) = (ms : List Message) × (r ≡ ok ms)
-ArgumentsCut r (counted.Refused error) = r ≡ wire_refused error
+abbrev pub ArgumentsCut : Res (List Message) → Result ℕ WireError → Type 0
+ArgumentsCut r (Ok n) = (ms : List Message) × (r ≡ ok ms)
+ArgumentsCut r (Err error) = r ≡ wire_refused error
 
-abbrev pub ArgumentsKept : (payload notes : List ℕ) → Tables → List ℕ → (base left : ℕ) → Counted → Type 0
-ArgumentsKept payload notes tables msg base left (counted.Count n) = CountTold payload notes tables msg base left n
-ArgumentsKept payload notes tables msg base left (counted.Refused error) = Unit {0}
+abbrev pub ArgumentsKept : (payload notes : List ℕ) → Tables → List ℕ → (base left : ℕ) → Result ℕ WireError → Type 0
+ArgumentsKept payload notes tables msg base left (Ok n) = CountTold payload notes tables msg base left n
+ArgumentsKept payload notes tables msg base left (Err error) = Unit {0}
 
-pub record CountedTold (payload notes : List ℕ) (tables : Tables) (msg : List ℕ) (base left : ℕ) (r : Counted) : Type 0 where
+pub record CountedTold (payload notes : List ℕ) (tables : Tables) (msg : List ℕ) (base left : ℕ) (r : Result ℕ WireError) : Type 0 where
   pub cuts : (m : Message) → cut (◌from◌ base msg) ≡ ok m → ArgumentsCut (messages Type-argument m) r
   pub kept : ArgumentsKept payload notes tables msg base left r
 
 -- A type is entered: its own row is written, and those of its arguments are to follow.
 abbrev pub EnteredIs : Scope → ℕ → Message → (role projection : ℕ) → Bool → State → Walked → (S S' T T' : List ℕ) → Type 0
-EnteredIs c d m role projection nullable s (walked.Done s') S S' T T' =
+EnteredIs c d m role projection nullable s (Ok s') S S' T T' =
     (ms : List Message) × (own : List Row) × (messages Type-argument m ≡ ok ms) × PutRows own s'.types s s' S S' T T'
     × (rows_read (λ t. rows_in role projection (or_nullable nullable t)) (type_at allowance c d m s.types)
     ≡ prefixed own (rows_read argument_rows (kept (argument_in (type_at allowance c) c (d + 1)) ms s'.types)))
-EnteredIs c d m role projection nullable s (walked.Refused stop) S S' T T' = type_at allowance c d m s.types ≡ stop_refused stop
+EnteredIs c d m role projection nullable s (Err stop) S S' T T' = type_at allowance c d m s.types ≡ stop_refused stop
 
 -- One of the types that may be entered is taken.
 abbrev pub EnteredOne : State → Walked → Type 0
-EnteredOne s (walked.Done s') = s.types ≡ 1 + s'.types
-EnteredOne s (walked.Refused stop) = Unit {0}
+EnteredOne s (Ok s') = s.types ≡ 1 + s'.types
+EnteredOne s (Err stop) = Unit {0}
 
 -- A star is entered: its own row is written.
 pub record StarTold (s : State) (r : Walked) (S S' T T' : List ℕ) : Type 0 where

@@ -1,15 +1,30 @@
 use native.Mathlib.Omega.{arith}
-use Rattle.wire.proofs.SkipLaws.{short-field}
+use Rattle.foundation.proofs.ErrorLaws.{handed_on}
+use Rattle.wire.specs.told.WireTold.{rest_of}
+use Rattle.wire.proofs.FieldLaws.{varint-inside, field-refused, read-inside, read-past}
 use Rattle.wire.proofs.field_at.Goals as goal
 
-pub returns-then-tag-eq0 : goal.returns-then-tag-eq0
-returns-then-tag-eq0 c = c.long_field_at.ensures
+pub returns-in-Some : goal.returns-in-Some
+returns-in-Some c =
+    let f = c.in-Some.ensures in
+    record { inside = λ h. f.is c.args.base; past = λ h. absurd (omega (arith, f.later, f.inside)) }
 
-pub returns-then-first-eq0 : goal.returns-then-first-eq0
-returns-then-first-eq0 c = record { inside = λ h. c.tagged_at.ensures (c.short_varint-tag.ensures.is (omega arith) c.args.base); past = λ h. absurd (omega (arith, c.short_varint-tag.ensures.fits)) }
+pub returns-in_err-tag : goal.returns-in_err-tag
+returns-in_err-tag c =
+    let a = c.args in
+    let t = c.in_err-tag.ensures in
+    rw (handed_on _ c.from_residual.ensures.1) (record { inside = λ h. field-refused (rest_of a.base a.s.now a.at) (t.inside h); past = read-past t })
 
-pub short_field_at-requires : goal.short_field_at-requires
-short_field_at-requires c = short-field c.args.s.now c.args.at c.short_varint-tag.ensures c.if-tag-eq0.false c.short_varint-first.ensures c.if-first-eq0.false
+pub tagged_at-requires : goal.tagged_at-requires
+tagged_at-requires c =
+    let a = c.args in
+    let t = c.in_ok-tag.ensures in
+    let h = read-inside t in
+    let i = varint-inside a.base a.s.now a.at c.in_ok-tag.tag (t.inside h) h in
+    (h, i.1)
 
 pub returns : goal.returns
-returns c = record { inside = λ h. c.short_field_at.ensures; past = λ h. absurd (omega (arith, c.short_varint-tag.ensures.fits)) }
+returns c =
+    let t = c.in_ok-tag.ensures in
+    let h = read-inside t in
+    record { inside = λ k. c.tagged_at.ensures (t.inside k); past = λ p. absurd (omega arith) }

@@ -1,5 +1,5 @@
 use mathlib.Core.Path.{◌≡◌}
-use Prim.Native.Nat.{◌+◌, ◌-◌, ◌≤◌}
+use Prim.Native.Nat.{◌+◌, ◌≤◌}
 use lib.ListN.{length}
 use Rattle.wire.specs.Wire.{read_groups}
 use Rattle.wire.specs.told.WireTold.{rest_of}
@@ -7,7 +7,8 @@ use Rattle.wire.proofs.VarintLaws.{onward}
 use Rattle.wire.proofs.groups_at.Given as goal
 
 abbrev pub invariant-loop-count : goal.invariant-loop-count
-invariant-loop-count l = (onward l.place l.base l.s l.at l.count l.groups ≡ read_groups (rest_of l.base l.s l.at)) × (length l.groups ≡ length l.initial.groups) × (l.count ≤ 10) × (l.at + l.count ≤ length l.s)
-
-abbrev pub decreases-loop-count : goal.decreases-loop-count
-decreases-loop-count l = 10 - l.count
+invariant-loop-count l = record {
+  read : onward l.place l.base l.s l.at l.count l.groups ≡ read_groups (rest_of l.base l.s l.at);
+  room : length l.groups ≡ 10;
+  inside : l.at + l.count ≤ length l.s;
+}

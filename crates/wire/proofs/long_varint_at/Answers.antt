@@ -1,19 +1,25 @@
+use mathlib.Core.Path.{refl}
 use native.Mathlib.Omega.{arith}
-use Rattle.wire.proofs.VarintLaws.{steps-refused, steps-few, steps-fit, steps-read}
+use Rattle.foundation.proofs.ErrorLaws.{handed_on}
+use Rattle.wire.proofs.VarintLaws.{varint-past, steps-refused, steps-fit, steps-read}
 use Rattle.wire.proofs.long_varint_at.Goals as goal
 
-pub returns-in_default : goal.returns-in_default
-returns-in_default c = steps-refused c.args.base c.args.s.now c.args.at c.groups_at-dropped.new.groups c.groups_at-dropped.ensures c.in_default.is (c.error.ensures _ c.in_default.is)
-
-pub join_groups-value-requires : goal.join_groups-value-requires
-join_groups-value-requires c =
+pub returns-then-s-at : goal.returns-then-s-at
+returns-then-s-at c =
     let a = c.args in
-    (steps-few a.base a.s.now a.at c.groups_at-dropped.new.groups c.groups_at-dropped.ensures c.in-Read.is, steps-fit a.base a.s.now a.at c.groups_at-dropped.new.groups c.groups_at-dropped.ensures c.in-Read.is)
+    record { inside = varint-past a.base a.s.now a.at c.if-s-at.true; past = λ h. refl }
 
-pub overflow_add-next : goal.overflow_add-next
-overflow_add-next c =
+pub returns-in_err-count : goal.returns-in_err-count
+returns-in_err-count c =
     let a = c.args in
-    omega (arith, steps-few a.base a.s.now a.at c.groups_at-dropped.new.groups c.groups_at-dropped.ensures c.in-Read.is)
+    rw (handed_on _ c.from_residual.ensures.1) (record { inside = λ h. steps-refused a.base a.s.now a.at c.groups_at.new.groups _ c.in_err-count.ensures; past = λ h. absurd (omega arith) })
+
+pub number_of-value-requires : goal.number_of-value-requires
+number_of-value-requires c =
+    let a = c.args in
+    (omega arith, steps-fit a.base a.s.now a.at c.groups_at.new.groups c.in_ok-count.count c.in_ok-count.ensures)
 
 pub returns : goal.returns
-returns c = steps-read c.args.base c.args.s.now c.args.at c.groups_at-dropped.new.groups c.groups_at-dropped.ensures c.in-Read.is c.join_groups-value.ensures
+returns c =
+    let a = c.args in
+    record { inside = λ h. steps-read a.base a.s.now a.at c.groups_at.new.groups c.in_ok-count.count c.in_ok-count.ensures c.number_of-value.ensures; past = λ h. absurd (omega arith) }

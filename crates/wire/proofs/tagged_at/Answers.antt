@@ -1,24 +1,25 @@
-use mathlib.Core.Path.{◌∙◌, sym}
+use mathlib.Core.Path.{sym}
+use Rattle.foundation.proofs.ErrorLaws.{handed_on}
 use Rattle.wire.specs.told.WireTold.{rest_of}
 use Rattle.wire.proofs.FieldLaws.{field-large, field-forbidden, field-not, field-read}
 use Rattle.wire.proofs.tagged_at.Goals as goal
 
-pub returns-then-number-gt4294967295 : goal.returns-then-number-gt4294967295
-returns-then-number-gt4294967295 c =
+pub returns-in_default : goal.returns-in_default
+returns-in_default c =
     let a = c.args in
-    λ e. field-large (rest_of a.base a.s.now a.at) e c.if-number-gt4294967295.true
+    λ e. field-large (rest_of a.base a.s.now a.at) e c.in_default.ensures
 
 pub returns-then-not-is_field_number : goal.returns-then-not-is_field_number
 returns-then-not-is_field_number c =
     let a = c.args in
-    λ e. field-forbidden (rest_of a.base a.s.now a.at) e c.if-number-gt4294967295.false (sym c.is_field_number.ensures ∙ c.if-not-is_field_number.true)
+    λ e. field-forbidden (rest_of a.base a.s.now a.at) e c.in-Ok.ensures.0 c.in-Ok.ensures.1 (sym c.if-not-is_field_number.ensures)
 
-pub returns-in_default : goal.returns-in_default
-returns-in_default c =
+pub returns-in_err-read : goal.returns-in_err-read
+returns-in_err-read c =
     let a = c.args in
-    λ e. field-not a.base a.s.now a.at a.next e (sym c.is_field_number.ensures ∙ c.if-not-is_field_number.false) c.value_at-step.ensures c.in_default.is (c.error.ensures _ c.in_default.is)
+    λ e. rw (handed_on _ c.from_residual.ensures.1) (field-not a.base a.s.now a.at a.tag e c.in-Ok.ensures.1 (sym c.if-not-is_field_number.ensures) _ c.in_err-read.ensures)
 
 pub returns : goal.returns
 returns c =
     let a = c.args in
-    λ e. field-read a.base a.s.now a.at a.next e (sym c.is_field_number.ensures ∙ c.if-not-is_field_number.false) c.value_at-step.ensures c.in-Value.is
+    λ e. field-read a.base a.s.now a.at a.tag e c.in-Ok.ensures.1 (sym c.if-not-is_field_number.ensures) _ c.in_ok-read.ensures

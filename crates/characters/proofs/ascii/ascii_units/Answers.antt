@@ -1,17 +1,13 @@
 use mathlib.Core.Path.{refl}
-use native.Mathlib.Omega.{arith}
-use Rattle.characters.proofs.UnitLaws.{units-cons, units-ended}
-use Rattle.characters.proofs.AsciiLaws.{ascii_next, ascii-end}
+use lib.ListN.{drop_of_length-le}
+use Rattle.characters.proofs.AsciiLaws.{drop_next, ascii_next, ascii-end}
 use Rattle.characters.proofs.ascii.ascii_units.Goals as goal
 
-pub loop-i-init : goal.loop-i-init
-loop-i-init c = refl
+pub loop-unit-init : goal.loop-unit-init
+loop-unit-init c = refl
 
-pub loop-i-smaller : goal.loop-i-smaller
-loop-i-smaller c = omega arith
-
-pub loop-i-preserved : goal.loop-i-preserved
-loop-i-preserved c = let a = c.args in ascii_next c.loop-i.all _ _ (units-cons a.units.now c.loop-i.i a.end c.loop-i-test.true (omega arith)) c.loop-i.invariant
+pub loop-unit-preserved : goal.loop-unit-preserved
+loop-unit-preserved c = ascii_next c.loop-unit.all _ _ (drop_next c.args.units.now c.loop-unit.unit-index c.loop-unit-test.true) c.loop-unit.invariant
 
 pub returns : goal.returns
-returns c = let a = c.args in ascii-end c.loop-i.all (units-ended a.units.now c.loop-i.i a.end c.loop-i-test.false) c.loop-i.invariant
+returns c = ascii-end c.loop-unit.all (drop_of_length-le c.args.units.now c.loop-unit-test.false) c.loop-unit.invariant

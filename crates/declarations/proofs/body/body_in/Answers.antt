@@ -1,3 +1,4 @@
+use Rattle.schema.proofs.AnswerLaws.{handed_on}
 use mathlib.Core.Path.{refl}
 use native.Mathlib.Omega.{arith}
 use lib.Dec.{eqb}
@@ -9,14 +10,14 @@ use Rattle.declarations.proofs.body.body_in.Goals as goal
 pub head_in-begun-requires : goal.head_in-begun-requires
 head_in-begun-requires c = head-affords (length c.args.msg.now) c.requires.0
 
-pub lists_in-lists-requires : goal.lists_in-lists-requires
-lists_in-lists-requires c = (lists-affords (length c.args.msg.now) c.requires.0 c.head_in-begun.ensures.spends, c.requires.1)
+pub lists_in-requires : goal.lists_in-requires
+lists_in-requires c = (lists-affords (length c.args.msg.now) c.requires.0 c.head_in-begun.ensures.spends, c.requires.1)
 
-pub returns-in_default : goal.returns-in_default
-returns-in_default c = body-stops c.args.kind (lent c.args.payload.now c.args.d2.now c.args.ends.now c.args.notes.now c.args.tables) c.args.msg.now c.args.base (eqb c.args.kind 1) refl c.head_in-begun.ensures c.lists_in-lists.result c.lists_in-lists.new.sheet c.lists_in-lists.new.text c.lists_in-lists.ensures c.in_default.is
+pub returns-in_err-sections : goal.returns-in_err-sections
+returns-in_err-sections c = rw (handed_on c.from_residual.result c.from_residual.ensures.1) (body-stops c.args.kind (lent c.args.payload.now c.args.d2.now c.args.ends.now c.args.notes.now c.args.tables) c.args.msg.now c.args.base (eqb c.args.kind 1) refl c.head_in-begun.ensures _ c.lists_in.new.sheet c.lists_in.new.text c.in_err-sections.ensures)
 
 pub put_head_counts-requires : goal.put_head_counts-requires
 put_head_counts-requires c = let h = head-ends (length c.args.msg.now) c.requires.0 c.head_in-begun.ensures.spends in omega arith
 
 pub returns : goal.returns
-returns c = body-done c.args.kind (lent c.args.payload.now c.args.d2.now c.args.ends.now c.args.notes.now c.args.tables) c.args.msg.now c.args.base (eqb c.args.kind 1) refl c.head_in-begun.ensures c.lists_in-lists.result c.lists_in-lists.new.sheet c.lists_in-lists.new.text c.lists_in-lists.ensures c.in-Done.is c.put_head_counts.ensures
+returns c = body-done c.args.kind (lent c.args.payload.now c.args.d2.now c.args.ends.now c.args.notes.now c.args.tables) c.args.msg.now c.args.base (eqb c.args.kind 1) refl c.head_in-begun.ensures c.in_ok-sections.ensures c.put_head_counts.ensures

@@ -1,34 +1,32 @@
 use lib.ListN.{length}
 use Rattle.schema.specs.told.SchemaTold.{lent}
-use Rattle.schema.specs.declared.Listed.TheVariants as listed
-use Rattle.schema.proofs.CountLaws.{listed-within}
-use Rattle.schema.proofs.AnswerLaws.{refused_by}
+use Rattle.schema.proofs.AnswerLaws.{handed_on}
 use Rattle.declarations.proofs.BodyLaws.{first-affords, second-affords, third-affords, last-affords, constructors-refused, functions-refused, properties-refused, lists-refused, lists-done}
 use Rattle.declarations.proofs.body.lists_in.Goals as goal
 
-pub constructors_in-made-requires : goal.constructors_in-made-requires
-constructors_in-made-requires c = (first-affords (length c.args.msg.now) c.requires.0, c.requires.1)
+pub constructors_in-requires : goal.constructors_in-requires
+constructors_in-requires c = (first-affords (length c.args.msg.now) c.requires.0, c.requires.1)
 
-pub returns-in_default : goal.returns-in_default
-returns-in_default c = constructors-refused (lent c.args.payload.now c.args.d2.now c.args.ends.now c.args.notes.now c.args.tables) c.args.msg.now c.args.base c.args.class c.args.head c.constructors_in-made.result c.constructors_in-made.ensures (refused_by listed.Refused c.stop.ensures c.in_default.is)
+pub returns-in_err-constructors : goal.returns-in_err-constructors
+returns-in_err-constructors c = rw (handed_on c.from_residual.result c.from_residual.ensures.1) (constructors-refused (lent c.args.payload.now c.args.d2.now c.args.ends.now c.args.notes.now c.args.tables) c.args.msg.now c.args.base c.args.class c.args.head c.in_err-constructors.ensures)
 
-pub members_in-called-requires : goal.members_in-called-requires
-members_in-called-requires c = (second-affords (length c.args.msg.now) c.requires.0 (listed-within c.constructors_in-made.ensures.spends c.in-Done.is), c.requires.1)
+pub members_in-requires : goal.members_in-requires
+members_in-requires c = (second-affords (length c.args.msg.now) c.requires.0 c.in_ok-constructors.ensures.spends, c.requires.1)
 
-pub returns-in_default-called : goal.returns-in_default-called
-returns-in_default-called c = functions-refused (lent c.args.payload.now c.args.d2.now c.args.ends.now c.args.notes.now c.args.tables) c.args.msg.now c.args.base c.args.class c.args.head c.constructors_in-made.result c.constructors_in-made.ensures c.in-Done.is c.function_field.result c.function_field.ensures c.members_in-called.result c.members_in-called.ensures (refused_by listed.Refused c.stop-in_default-called.ensures c.in_default-called.is)
+pub returns-in_err-functions : goal.returns-in_err-functions
+returns-in_err-functions c = rw (handed_on c.from_residual-in_err-functions.result c.from_residual-in_err-functions.ensures.1) (functions-refused (lent c.args.payload.now c.args.d2.now c.args.ends.now c.args.notes.now c.args.tables) c.args.msg.now c.args.base c.args.class c.args.head c.in_ok-constructors.ensures c.function_field.result c.function_field.ensures c.in_err-functions.ensures)
 
-pub members_in-held-requires : goal.members_in-held-requires
-members_in-held-requires c = (third-affords (length c.args.msg.now) c.requires.0 (listed-within c.constructors_in-made.ensures.spends c.in-Done.is) (listed-within c.members_in-called.ensures.spends c.in-Done-called.is), c.requires.1)
+pub members_in-requires-2 : goal.members_in-requires-2
+members_in-requires-2 c = (third-affords (length c.args.msg.now) c.requires.0 c.in_ok-constructors.ensures.spends c.in_ok-functions.ensures.spends, c.requires.1)
 
-pub returns-in_default-held : goal.returns-in_default-held
-returns-in_default-held c = properties-refused (lent c.args.payload.now c.args.d2.now c.args.ends.now c.args.notes.now c.args.tables) c.args.msg.now c.args.base c.args.class c.args.head c.constructors_in-made.result c.constructors_in-made.ensures c.in-Done.is c.function_field.result c.function_field.ensures c.members_in-called.result c.members_in-called.ensures c.in-Done-called.is c.property_field.result c.property_field.ensures c.members_in-held.result c.members_in-held.ensures (refused_by listed.Refused c.stop-in_default-held.ensures c.in_default-held.is)
+pub returns-in_err-properties : goal.returns-in_err-properties
+returns-in_err-properties c = rw (handed_on c.from_residual-in_err-properties.result c.from_residual-in_err-properties.ensures.1) (properties-refused (lent c.args.payload.now c.args.d2.now c.args.ends.now c.args.notes.now c.args.tables) c.args.msg.now c.args.base c.args.class c.args.head c.in_ok-constructors.ensures c.function_field.result c.function_field.ensures c.in_ok-functions.ensures c.property_field.result c.property_field.ensures c.in_err-properties.ensures)
 
-pub aliases_in-aliased-requires : goal.aliases_in-aliased-requires
-aliases_in-aliased-requires c = (last-affords (length c.args.msg.now) c.requires.0 (listed-within c.constructors_in-made.ensures.spends c.in-Done.is) (listed-within c.members_in-called.ensures.spends c.in-Done-called.is) (listed-within c.members_in-held.ensures.spends c.in-Done-held.is), c.requires.1)
+pub aliases_in-requires : goal.aliases_in-requires
+aliases_in-requires c = (last-affords (length c.args.msg.now) c.requires.0 c.in_ok-constructors.ensures.spends c.in_ok-functions.ensures.spends c.in_ok-properties.ensures.spends, c.requires.1)
 
-pub returns-in_default-aliased : goal.returns-in_default-aliased
-returns-in_default-aliased c = lists-refused (lent c.args.payload.now c.args.d2.now c.args.ends.now c.args.notes.now c.args.tables) c.args.msg.now c.args.base c.args.class c.args.head c.constructors_in-made.result c.constructors_in-made.ensures c.in-Done.is c.function_field.result c.function_field.ensures c.members_in-called.result c.members_in-called.ensures c.in-Done-called.is c.property_field.result c.property_field.ensures c.members_in-held.result c.members_in-held.ensures c.in-Done-held.is c.aliases_in-aliased.result c.aliases_in-aliased.ensures (refused_by listed.Refused c.stop-in_default-aliased.ensures c.in_default-aliased.is)
+pub returns-in_err-aliases : goal.returns-in_err-aliases
+returns-in_err-aliases c = rw (handed_on c.from_residual-in_err-aliases.result c.from_residual-in_err-aliases.ensures.1) (lists-refused (lent c.args.payload.now c.args.d2.now c.args.ends.now c.args.notes.now c.args.tables) c.args.msg.now c.args.base c.args.class c.args.head c.in_ok-constructors.ensures c.function_field.result c.function_field.ensures c.in_ok-functions.ensures c.property_field.result c.property_field.ensures c.in_ok-properties.ensures c.in_err-aliases.ensures)
 
 pub returns : goal.returns
-returns c = lists-done (lent c.args.payload.now c.args.d2.now c.args.ends.now c.args.notes.now c.args.tables) c.args.msg.now c.args.base c.args.class c.args.head c.constructors_in-made.result c.constructors_in-made.ensures c.in-Done.is c.function_field.result c.function_field.ensures c.members_in-called.result c.members_in-called.ensures c.in-Done-called.is c.property_field.result c.property_field.ensures c.members_in-held.result c.members_in-held.ensures c.in-Done-held.is c.aliases_in-aliased.result c.aliases_in-aliased.ensures c.in-Done-aliased.is
+returns c = lists-done (lent c.args.payload.now c.args.d2.now c.args.ends.now c.args.notes.now c.args.tables) c.args.msg.now c.args.base c.args.class c.args.head c.in_ok-constructors.ensures c.function_field.result c.function_field.ensures c.in_ok-functions.ensures c.property_field.result c.property_field.ensures c.in_ok-properties.ensures c.in_ok-aliases.ensures

@@ -1,14 +1,12 @@
-use Rattle.declarations.proofs.PayloadLaws.{types-left, body_refused, body_open, body-table-refused, body-no-room}
+use Rattle.schema.proofs.AnswerLaws.{handed_on}
+use Rattle.declarations.proofs.PayloadLaws.{body_refused, body_unnoted, body_open}
 use Rattle.declarations.proofs.payload.open_body.Goals as goal
 
-pub returns-in_default : goal.returns-in_default
-returns-in_default c = body_refused c.args.bytes.now c.args.at c.args.records c.args.entries.now c.check-checked.result c.check-checked.ensures c.in_default.is (c.error.ensures _ c.in_default.is)
+pub returns-in_err-check : goal.returns-in_err-check
+returns-in_err-check c = rw (handed_on c.from_residual.result c.from_residual.ensures.1) (body_refused c.args.bytes.now c.args.at c.args.records c.args.entries.now _ c.in_err-check.ensures)
 
-pub returns-in_default-types-2 : goal.returns-in_default-types-2
-returns-in_default-types-2 c = body-no-room c.args.bytes.now c.args.at c.args.records c.index_types-types.new.notes c.check-checked.result c.check-checked.ensures c.in-Whole.is c.index_types-types.result c.index_types-types.ensures (types-left c.index_types-types.result c.in_default-types.not-Types c.in_default-types-2.not-Refused)
-
-pub returns-in_default-types : goal.returns-in_default-types
-returns-in_default-types c = body-table-refused c.args.bytes.now c.args.at c.args.records c.index_types-types.new.notes c.check-checked.result c.check-checked.ensures c.in-Whole.is c.index_types-types.result c.index_types-types.ensures c.in-Refused.is
+pub returns-in_err-types : goal.returns-in_err-types
+returns-in_err-types c = let m = c.in_ok-check.ensures in rw (handed_on c.from_residual-in_err-types.result c.from_residual-in_err-types.ensures.1) (body_unnoted c.args.bytes.now c.args.at c.args.records c.index_types.new.notes m.0 m.1 _ c.in_err-types.ensures)
 
 pub returns : goal.returns
-returns c = body_open c.args.bytes.now c.args.at c.args.records c.index_types-types.new.notes c.check-checked.result c.check-checked.ensures c.in-Whole.is c.index_types-types.result c.index_types-types.ensures c.in-Types.is
+returns c = let m = c.in_ok-check.ensures in body_open c.args.bytes.now c.args.at c.args.records c.index_types.new.notes m.0 m.1 _ c.in_ok-types.ensures

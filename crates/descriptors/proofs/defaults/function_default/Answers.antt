@@ -1,25 +1,43 @@
 use Prim.Native.Nat.{◌+◌, ◌*◌}
 use native.Mathlib.Omega.{arith}
 use lib.ListN.{length}
+use Rattle.std.proofs.Common.{ap, sym, ◌∙◌}
 use Rattle.descriptors.specs.told.DefaultsTold.{part_cost}
-use Rattle.descriptors.proofs.JoinLaws.{within_more, written-within}
+use Rattle.descriptors.specs.told.PartsTold.{preceded}
+use Rattle.descriptors.proofs.JoinLaws.{written-within}
 use Rattle.descriptors.proofs.FunctionLaws.{room_less, function-absent, function-done}
 use Rattle.descriptors.proofs.defaults.function_default.Goals as goal
 
-pub returns-in_default : goal.returns-in_default
-returns-in_default c = function-absent c.args.msg.now c.args.at c.args.area.now c.put.ensures c.before_part-before.ensures c.in_default.is
+pub returns-in_err-before : goal.returns-in_err-before
+returns-in_err-before c = rw c.from_residual.ensures (function-absent c.args.msg.now c.args.at c.args.area.now c.put.ensures c.before_part.ensures c.in_err-before.was)
 
 pub overflow_add-at-3 : goal.overflow_add-at-3
-overflow_add-at-3 c = let h = written-within (part_cost * (1 + length c.args.msg.now)) c.before_part-before.ensures.within c.in-Written.is in omega (arith, c.requires.room)
+overflow_add-at-3 c =
+    let h = written-within (part_cost * (1 + length c.args.msg.now)) c.before_part.ensures.within c.in_ok-before.was in
+    omega (arith, c.requires.room)
 
-pub after_part-after-requires : goal.after_part-after-requires
-after_part-after-requires c = let h = written-within (part_cost * (1 + length c.args.msg.now)) c.before_part-before.ensures.within c.in-Written.is in room_less (part_cost * 2) (c.args.at + 1 + c.in-Written.size) (omega arith) c.requires
+pub after_part-requires : goal.after_part-requires
+after_part-requires c =
+    let h = written-within (part_cost * (1 + length c.args.msg.now)) c.before_part.ensures.within c.in_ok-before.was in
+    room_less (part_cost * 2) (c.args.at + 1 + c.in_ok-before.before) (omega arith) c.requires
 
-pub overflow_add-size : goal.overflow_add-size
-overflow_add-size c = let h = written-within (part_cost * (1 + length c.args.msg.now)) c.before_part-before.ensures.within c.in-Written.is in omega (arith, c.requires.room)
+pub returns-in_err-after : goal.returns-in_err-after
+returns-in_err-after c =
+    function-done c.args.msg.now c.args.at c.args.area.now c.put.ensures c.before_part.ensures c.in_ok-before.was c.after_part.ensures
+    (c.from_residual-in_err-after.ensures ∙ ap (preceded (1 + c.in_ok-before.before)) (sym c.in_err-after.was))
 
-pub preceded-requires : goal.preceded-requires
-preceded-requires c = let h = written-within (part_cost * (1 + length c.args.msg.now)) c.before_part-before.ensures.within c.in-Written.is in (omega (arith, c.requires.room), within_more c.after_part-after.result (omega arith) c.after_part-after.ensures.within)
+pub overflow_add-result : goal.overflow_add-result
+overflow_add-result c =
+    let h = written-within (part_cost * (1 + length c.args.msg.now)) c.before_part.ensures.within c.in_ok-before.was in
+    omega (arith, c.requires.room)
+
+pub overflow_add-result-2 : goal.overflow_add-result-2
+overflow_add-result-2 c =
+    let h = written-within (part_cost * (1 + length c.args.msg.now)) c.before_part.ensures.within c.in_ok-before.was in
+    let k = written-within (part_cost * 2) c.after_part.ensures.within c.in_ok-after.was in
+    omega (arith, c.requires.room)
 
 pub returns : goal.returns
-returns c = function-done c.args.msg.now c.args.at c.args.area.now c.put.ensures c.before_part-before.ensures c.in-Written.is c.after_part-after.ensures c.preceded.ensures
+returns c =
+    function-done c.args.msg.now c.args.at c.args.area.now c.put.ensures c.before_part.ensures c.in_ok-before.was c.after_part.ensures
+    (ap (preceded (1 + c.in_ok-before.before)) (sym c.in_ok-after.was))

@@ -4,27 +4,27 @@ use Rattle.schema.proofs.StandsLaws.{part-stands}
 use Rattle.descriptors.proofs.DefaultLaws.{type-nowhere, type-inside, type-there}
 use Rattle.descriptors.proofs.defaults.type_part.Goals as goal
 
-pub declared_place-found-requires : goal.declared_place-found-requires
-declared_place-found-requires c = (c.requires.stands, c.requires.payload-short)
+pub declared_place-requires : goal.declared_place-requires
+declared_place-requires c = (c.requires.stands, c.requires.payload-short)
 
-pub returns-in_default : goal.returns-in_default
-returns-in_default c = type-nowhere (lent c.args.payload.now c.args.d2.now c.args.ends.now c.args.notes.now c.args.tables) c.args.at c.args.position c.declared_place-found.ensures c.in_default.is
+pub returns-in_err-found : goal.returns-in_err-found
+returns-in_err-found c = rw c.from_residual.ensures (type-nowhere (lent c.args.payload.now c.args.d2.now c.args.ends.now c.args.notes.now c.args.tables) c.args.at c.args.position c.declared_place.ensures c.in_err-found.was)
 
 pub slice_bounds-put_erased-count : goal.slice_bounds-put_erased-count
-slice_bounds-put_erased-count c = let h = type-inside (lent c.args.payload.now c.args.d2.now c.args.ends.now c.args.notes.now c.args.tables) c.args.at c.args.position c.declared_place-found.ensures c.in-Type.is in omega arith
+slice_bounds-put_erased-count c = let h = type-inside (lent c.args.payload.now c.args.d2.now c.args.ends.now c.args.notes.now c.args.tables) c.args.at c.args.position c.declared_place.ensures c.in_ok-found.was in omega arith
 
 pub slice_bounds-put_erased-start : goal.slice_bounds-put_erased-start
-slice_bounds-put_erased-start c = let h = type-inside (lent c.args.payload.now c.args.d2.now c.args.ends.now c.args.notes.now c.args.tables) c.args.at c.args.position c.declared_place-found.ensures c.in-Type.is in omega arith
+slice_bounds-put_erased-start c = let h = type-inside (lent c.args.payload.now c.args.d2.now c.args.ends.now c.args.notes.now c.args.tables) c.args.at c.args.position c.declared_place.ensures c.in_ok-found.was in omega arith
 
 pub slice_bounds-put_erased-end : goal.slice_bounds-put_erased-end
-slice_bounds-put_erased-end c = let h = type-inside (lent c.args.payload.now c.args.d2.now c.args.ends.now c.args.notes.now c.args.tables) c.args.at c.args.position c.declared_place-found.ensures c.in-Type.is in omega arith
+slice_bounds-put_erased-end c = let h = type-inside (lent c.args.payload.now c.args.d2.now c.args.ends.now c.args.notes.now c.args.tables) c.args.at c.args.position c.declared_place.ensures c.in_ok-found.was in omega arith
 
-pub overflow_cast-from : goal.overflow_cast-from
-overflow_cast-from c = let h = type-inside (lent c.args.payload.now c.args.d2.now c.args.ends.now c.args.notes.now c.args.tables) c.args.at c.args.position c.declared_place-found.ensures c.in-Type.is in omega (arith, c.requires.payload-short)
+pub overflow_cast-found : goal.overflow_cast-found
+overflow_cast-found c = let h = type-inside (lent c.args.payload.now c.args.d2.now c.args.ends.now c.args.notes.now c.args.tables) c.args.at c.args.position c.declared_place.ensures c.in_ok-found.was in omega (arith, c.requires.payload-short)
 
 pub put_erased-requires : goal.put_erased-requires
-put_erased-requires c = let h = type-inside (lent c.args.payload.now c.args.d2.now c.args.ends.now c.args.notes.now c.args.tables) c.args.at c.args.position c.declared_place-found.ensures c.in-Type.is in
-    (part-stands c.args.payload.now c.in-Type.from c.in-Type.to h.0 h.1, h.2, c.requires.payload-short, c.requires.d2-short, omega (arith, c.requires.room))
+put_erased-requires c = let h = type-inside (lent c.args.payload.now c.args.d2.now c.args.ends.now c.args.notes.now c.args.tables) c.args.at c.args.position c.declared_place.ensures c.in_ok-found.was in
+    (part-stands c.args.payload.now c.in_ok-found.found.start c.in_ok-found.found.end h.0 h.1, h.2, c.requires.payload-short, c.requires.d2-short, omega (arith, c.requires.room))
 
 pub returns : goal.returns
-returns c = type-there (lent c.args.payload.now c.args.d2.now c.args.ends.now c.args.notes.now c.args.tables) c.args.at c.args.position c.declared_place-found.ensures c.in-Type.is c.put_erased.ensures
+returns c = type-there (lent c.args.payload.now c.args.d2.now c.args.ends.now c.args.notes.now c.args.tables) c.args.at c.args.position c.declared_place.ensures c.in_ok-found.was c.put_erased.ensures

@@ -1,4 +1,5 @@
-use mathlib.Core.Path.{sym, ◌∙◌}
+use mathlib.Core.Path.{ap, sym, ◌∙◌}
+use Rattle.characters.specs.Characters.{from_utf16}
 use Rattle.std.proofs.lemmas.Bool.{eqb-false}
 use Rattle.characters.proofs.UnitLaws.{utf16-next}
 use Rattle.schema.proofs.HeadLaws.{never_false}
@@ -12,4 +13,4 @@ pub returns-in_default : goal.returns-in_default
 returns-in_default c = λ e. never_false e
 
 pub returns : goal.returns
-returns c = λ e. not_listed c.args.payload.now c.args.d2.now c.args.name c.if-source-ne3.false c.change_of.ensures (utf16-next c.args.d2.now c.args.name.start c.args.name.end (sym c.utf16_at-character.ensures ∙ c.in-Read.is)) c.character_of.ensures (eqb-false c.character_of.result 0x6b e)
+returns c = λ e. not_listed c.args.payload.now c.args.d2.now c.args.name c.if-source-ne3.false c.change_of.ensures (ap from_utf16 (sym c.part_of.ensures) ∙ utf16-next c.part_of.result.now 0 (sym c.utf16_at.ensures ∙ c.in-Some.is)) c.character_of.ensures (eqb-false c.character_of.result 0x6b e)

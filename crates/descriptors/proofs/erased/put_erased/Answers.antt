@@ -1,4 +1,5 @@
-use mathlib.Core.Path.{refl, ◌∙◌}
+use mathlib.Core.Path.{refl, ap, ◌∙◌}
+use Rattle.std.specs.Prelude.{Some}
 use Prim.Native.Nat.{◌+◌}
 use native.Mathlib.Omega.{arith}
 use lib.ListN.{length}
@@ -10,59 +11,59 @@ use Rattle.descriptors.proofs.erased.put_erased.Goals as goal
 pub overflow_add-end : goal.overflow_add-end
 overflow_add-end c = omega (arith, c.requires.0.inside, c.requires.2)
 
-pub loop-size-init : goal.loop-size-init
-loop-size-init c = (walking_start (lent c.args.payload.now c.args.d2.now c.args.ends.now c.args.notes.now c.args.tables) c.args.base (c.args.base + length c.args.msg.now) c.args.placed.nullable c.args.placed.left c.args.placed.position c.args.at c.args.area.now (omega arith) c.requires.0.inside, refl)
+pub loop-one-init : goal.loop-one-init
+loop-one-init c = (walking_start (lent c.args.payload.now c.args.d2.now c.args.ends.now c.args.notes.now c.args.tables) c.args.base (c.args.base + length c.args.msg.now) c.args.placed.nullable c.args.placed.left c.args.placed.position c.args.at c.args.area.now (omega arith) c.requires.0.inside, refl)
 
 pub slice_bounds-put_type_part-count : goal.slice_bounds-put_type_part-count
-slice_bounds-put_type_part-count c = c.loop-size.invariant.0.ordered
+slice_bounds-put_type_part-count c = c.loop-one.invariant.0.ordered
 
 pub slice_bounds-put_type_part-start : goal.slice_bounds-put_type_part-start
-slice_bounds-put_type_part-start c = omega (arith, c.loop-size.invariant.0.ordered, c.loop-size.invariant.0.inside)
+slice_bounds-put_type_part-start c = omega (arith, c.loop-one.invariant.0.ordered, c.loop-one.invariant.0.inside)
 
 pub slice_bounds-put_type_part-end : goal.slice_bounds-put_type_part-end
-slice_bounds-put_type_part-end c = c.loop-size.invariant.0.inside
+slice_bounds-put_type_part-end c = c.loop-one.invariant.0.inside
 
-pub overflow_cast-start-in-loop-size : goal.overflow_cast-start-in-loop-size
-overflow_cast-start-in-loop-size c = omega (arith, c.loop-size.invariant.0.ordered, c.loop-size.invariant.0.inside, c.requires.2)
+pub overflow_cast-start-in-loop-one : goal.overflow_cast-start-in-loop-one
+overflow_cast-start-in-loop-one c = omega (arith, c.loop-one.invariant.0.ordered, c.loop-one.invariant.0.inside, c.requires.2)
 
-pub put_type_part-one-requires : goal.put_type_part-one-requires
-put_type_part-one-requires c = let h = walking-few c.loop-size.invariant.0 c.requires.1 c.requires.0.inside c.requires.2 in (part-stands c.args.payload.now c.loop-size.start c.loop-size.end c.loop-size.invariant.0.ordered c.loop-size.invariant.0.inside, c.requires.2, c.requires.3, omega (arith, c.requires.4))
+pub put_type_part-requires : goal.put_type_part-requires
+put_type_part-requires c = let h = walking-few c.loop-one.invariant.0 c.requires.1 c.requires.0.inside c.requires.2 in (part-stands c.args.payload.now c.loop-one.start c.loop-one.end c.loop-one.invariant.0.ordered c.loop-one.invariant.0.inside, c.requires.2, c.requires.3, omega (arith, c.requires.4))
 
-pub overflow_add-past : goal.overflow_add-past
-overflow_add-past c = let h = walking-few c.loop-size.invariant.0 c.requires.1 c.requires.0.inside c.requires.2 in let s = whole-short c.loop-size.invariant.0 c.put_type_part-one.ensures c.in-Whole.is in omega (arith, c.requires.4)
+pub overflow_add-result : goal.overflow_add-result
+overflow_add-result c = let h = walking-few c.loop-one.invariant.0 c.requires.1 c.requires.0.inside c.requires.2 in let s = whole-short c.loop-one.invariant.0 c.put_type_part.ensures (c.in_ok-one.was ∙ ap Some c.in-Whole.is) in omega (arith, c.requires.4)
 
-pub overflow_sub-whole : goal.overflow_sub-whole
-overflow_sub-whole c = omega (arith, c.loop-size.invariant.0.later)
+pub overflow_sub-result : goal.overflow_sub-result
+overflow_sub-result c = omega (arith, c.loop-one.invariant.0.later)
 
 pub returns-in-Whole : goal.returns-in-Whole
-returns-in-Whole c = walking-whole c.loop-size.invariant.0 c.put_type_part-one.ensures c.requires.1 c.requires.0.inside c.requires.2 c.in-Whole.is
+returns-in-Whole c = walking-whole c.loop-one.invariant.0 c.put_type_part.ensures c.requires.1 c.requires.0.inside c.requires.2 (c.in_ok-one.was ∙ ap Some c.in-Whole.is)
 
-pub returns-in-Absent : goal.returns-in-Absent
-returns-in-Absent c = walking-absent c.loop-size.invariant.0 c.put_type_part-one.ensures c.in-Absent.is
+pub returns-in_err-one : goal.returns-in_err-one
+returns-in_err-one c = rw c.from_residual.ensures (walking-absent c.loop-one.invariant.0 c.put_type_part.ensures c.in_err-one.was)
 
 pub slice_bounds-first_argument-count : goal.slice_bounds-first_argument-count
-slice_bounds-first_argument-count c = c.loop-size.invariant.0.ordered
+slice_bounds-first_argument-count c = c.loop-one.invariant.0.ordered
 
 pub slice_bounds-first_argument-start : goal.slice_bounds-first_argument-start
-slice_bounds-first_argument-start c = omega (arith, c.loop-size.invariant.0.ordered, c.loop-size.invariant.0.inside)
+slice_bounds-first_argument-start c = omega (arith, c.loop-one.invariant.0.ordered, c.loop-one.invariant.0.inside)
 
 pub slice_bounds-first_argument-end : goal.slice_bounds-first_argument-end
-slice_bounds-first_argument-end c = c.loop-size.invariant.0.inside
+slice_bounds-first_argument-end c = c.loop-one.invariant.0.inside
 
-pub overflow_cast-start-in-loop-size-2 : goal.overflow_cast-start-in-loop-size-2
-overflow_cast-start-in-loop-size-2 c = omega (arith, c.loop-size.invariant.0.ordered, c.loop-size.invariant.0.inside, c.requires.2)
+pub overflow_cast-start-in-loop-one-2 : goal.overflow_cast-start-in-loop-one-2
+overflow_cast-start-in-loop-one-2 c = omega (arith, c.loop-one.invariant.0.ordered, c.loop-one.invariant.0.inside, c.requires.2)
 
-pub first_argument-found-requires : goal.first_argument-found-requires
-first_argument-found-requires c = (part-stands c.args.payload.now c.loop-size.start c.loop-size.end c.loop-size.invariant.0.ordered c.loop-size.invariant.0.inside, c.requires.2)
+pub first_argument-requires : goal.first_argument-requires
+first_argument-requires c = (part-stands c.args.payload.now c.loop-one.start c.loop-one.end c.loop-one.invariant.0.ordered c.loop-one.invariant.0.inside, c.requires.2)
 
-pub returns-in_default : goal.returns-in_default
-returns-in_default c = walking-empty c.loop-size.invariant.0 c.put_type_part-one.ensures c.in-Bracket.is c.less.ensures c.first_argument-found.ensures c.in_default.is
+pub returns-in_err-found : goal.returns-in_err-found
+returns-in_err-found c = rw c.from_residual-in_err-found.ensures (walking-empty c.loop-one.invariant.0 c.put_type_part.ensures (c.in_ok-one.was ∙ ap Some c.in-Bracket.is) c.saturating_sub.ensures c.first_argument.ensures c.in_err-found.was)
 
 pub overflow_add-next : goal.overflow_add-next
-overflow_add-next c = let h = walking-few c.loop-size.invariant.0 c.requires.1 c.requires.0.inside c.requires.2 in omega (arith, c.requires.4)
+overflow_add-next c = let h = walking-few c.loop-one.invariant.0 c.requires.1 c.requires.0.inside c.requires.2 in omega (arith, c.requires.4)
 
-pub loop-size-smaller : goal.loop-size-smaller
-loop-size-smaller c = walking-less c.loop-size.invariant.0 c.put_type_part-one.ensures c.in-Bracket.is c.less.ensures c.first_argument-found.ensures c.in-Type.is
+pub loop-one-smaller : goal.loop-one-smaller
+loop-one-smaller c = walking-less c.loop-one.invariant.0 c.put_type_part.ensures (c.in_ok-one.was ∙ ap Some c.in-Bracket.is) c.saturating_sub.ensures c.first_argument.ensures c.in_ok-found.was
 
-pub loop-size-preserved : goal.loop-size-preserved
-loop-size-preserved c = (walking_on c.loop-size.invariant.0 c.put_type_part-one.ensures c.in-Bracket.is c.less.ensures c.first_argument-found.ensures c.in-Type.is, c.put_type_part-one.auto.area ∙ c.loop-size.invariant.1)
+pub loop-one-preserved : goal.loop-one-preserved
+loop-one-preserved c = (walking_on c.loop-one.invariant.0 c.put_type_part.ensures (c.in_ok-one.was ∙ ap Some c.in-Bracket.is) c.saturating_sub.ensures c.first_argument.ensures c.in_ok-found.was, c.put_type_part.auto.area ∙ c.loop-one.invariant.1)

@@ -1,4 +1,4 @@
-use Rattle.descriptors.proofs.ErasedLaws.{printed-fixed, printed-array, printed-class, printed-nothing}
+use Rattle.descriptors.proofs.ErasedLaws.{printed-fixed, printed-array, printed-class}
 use Rattle.descriptors.proofs.erased.put_printed.Goals as goal
 
 pub returns-in-Fixed : goal.returns-in-Fixed
@@ -9,6 +9,3 @@ returns-in-ThroughArray c = printed-array c.args.payload.now c.args.d2.now c.arg
 
 pub returns-in-ClassItself : goal.returns-in-ClassItself
 returns-in-ClassItself c = printed-class c.args.payload.now c.args.d2.now c.args.name c.requires.0 c.requires.1 c.in-ClassItself.is c.put_class.ensures
-
-pub returns-in-Nothing : goal.returns-in-Nothing
-returns-in-Nothing c = printed-nothing c.args.payload.now c.args.d2.now c.args.name c.in-Nothing.is

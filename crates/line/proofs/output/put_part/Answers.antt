@@ -1,8 +1,11 @@
+use Rattle.std.proofs.Common.{sym, ◌∙◌}
+use Rattle.std.proofs.lemmas.Bool.{eqb-true, eqb-false}
 use Rattle.line.proofs.OutputLaws.{part-empty, part-digits}
 use Rattle.line.proofs.output.put_part.Goals as goal
 
-pub returns-then-bytes-eq0 : goal.returns-then-bytes-eq0
-returns-then-bytes-eq0 c = part-empty c.args.bytes.now c.if-bytes-eq0.true c.put.ensures c.put-then-bytes-eq0.ensures
+pub returns-then-is_empty : goal.returns-then-is_empty
+returns-then-is_empty c =
+    part-empty c.args.bytes.now (eqb-true _ _ (sym c.is_empty.ensures ∙ c.if-is_empty.true)) c.put.ensures c.put-then-is_empty.ensures
 
 pub returns : goal.returns
-returns c = part-digits c.args.bytes.now c.if-bytes-eq0.false c.put.ensures c.put_hex.ensures
+returns c = part-digits c.args.bytes.now (eqb-false _ _ (sym c.is_empty.ensures ∙ c.if-is_empty.false)) c.put.ensures c.put_hex.ensures

@@ -8,7 +8,7 @@ pub returns : goal.returns
 returns g c = record {
   over = record {
     area = c.take_piece.new.area;
-    within = shorter _ c.take_piece.new.area c.take_piece.auto.area c.least-size.ensures.0;
+    within = shorter _ c.take_piece.new.area c.take_piece.auto.area (omega (arith, c.min-size.ensures));
     piece = c.take_piece.ensures.piece;
   };
   given = c.take_piece.ensures.given;

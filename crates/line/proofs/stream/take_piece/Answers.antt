@@ -9,7 +9,7 @@ returns g c = record {
     within = c.read_full-size.ensures.inside;
     bytes = bytes_take c.read_full-size.result c.read_full-size.new.area (λ i. search rules);
     total = refl;
-    counts = c.counts_in-counts.ensures;
+    counts = c.counts_in.ensures;
     kept = refl;
   };
   given = c.read_full-size.ensures.given;

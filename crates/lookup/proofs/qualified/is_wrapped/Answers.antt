@@ -1,14 +1,15 @@
 use Rattle.lookup.proofs.QualifiedLaws.{wrapped-empty, wrapped-single, wrapped-other, wrapped-is}
 use Rattle.lookup.proofs.qualified.is_wrapped.Goals as goal
+use Rattle.lookup.proofs.qualified.is_wrapped.Goals.{else-start-end-via-then-start-end+then-start-end-2+else-units-start-eq76, else-start-end-via-then-start-end+else-start-end-2, else-start-end-via-else-start-end}
 
-pub returns-then-end-start : goal.returns-then-end-start
-returns-then-end-start c = wrapped-empty c.args.units.now c.args.start c.args.end c.if-end-start.true
-
-pub returns-then-last-start : goal.returns-then-last-start
-returns-then-last-start c = wrapped-single c.args.units.now c.args.start c.args.end c.if-end-start.false c.requires c.if-last-start.true
-
-pub returns-then-units-start-ne76 : goal.returns-then-units-start-ne76
-returns-then-units-start-ne76 c = wrapped-other c.args.units.now c.args.start c.args.end c.requires c.if-last-start.false c.if-units-start-ne76.true
+pub returns-then-units-start-eq76 : goal.returns-then-units-start-eq76
+returns-then-units-start-eq76 c = wrapped-is c.args.units.now c.args.start c.args.end c.requires c.if-start-end-2.true c.if-units-start-eq76.true
 
 pub returns : goal.returns
-returns c = wrapped-is c.args.units.now c.args.start c.args.end c.requires c.if-last-start.false c.if-units-start-ne76.false
+returns c =
+    let l = c.args.units.now in
+    elim c.else-start-end.branch [
+      | else-start-end-via-then-start-end+then-start-end-2+else-units-start-eq76 w ↦ wrapped-other l c.args.start c.args.end c.requires w.if-start-end-2.true w.if-units-start-eq76.false
+      | else-start-end-via-then-start-end+else-start-end-2 w ↦ wrapped-single l c.args.start c.args.end w.if-start-end.true c.requires w.if-start-end-2.false
+      | else-start-end-via-else-start-end w ↦ wrapped-empty l c.args.start c.args.end w.if-start-end.false
+    ]

@@ -8,8 +8,8 @@ use Rattle.schema.proofs.ListLaws.{Looping}
 use Rattle.members.proofs.ParameterLaws.{read_always}
 use Rattle.members.proofs.parameters.parameters_at.Given as goal
 
-abbrev pub invariant-loop-start : goal.invariant-loop-start
-invariant-loop-start l = Looping read_always parameter_rows parameter_cost (lent l.payload l.d2 l.ends l.notes l.tables) l.msg l.base l.number l.initial.next l.initial.sheet l.initial.text l.at l.count l.next l.sheet l.text × (length l.sheet ≡ length l.initial.sheet) × (length l.text ≡ length l.initial.text)
+abbrev pub invariant-loop-parameter : goal.invariant-loop-parameter
+invariant-loop-parameter l = Looping read_always parameter_rows parameter_cost (lent l.payload l.d2 l.ends l.notes l.tables) l.msg l.base l.number l.initial.next l.initial.sheet l.initial.text l.at l.count l.next l.sheet l.text × (length l.sheet ≡ length l.initial.sheet) × (length l.text ≡ length l.initial.text)
 
-abbrev pub decreases-loop-start : goal.decreases-loop-start
-decreases-loop-start l = length l.msg - l.at
+abbrev pub decreases-loop-parameter : goal.decreases-loop-parameter
+decreases-loop-parameter l = length l.msg - l.at

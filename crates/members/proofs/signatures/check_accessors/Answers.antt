@@ -1,10 +1,12 @@
 use mathlib.Core.Logic.{inl, inr}
-use Rattle.members.specs.declared.signatures.Signed.TheVariants as answer
-use Rattle.schema.proofs.AnswerLaws.{refused_by}
+use Rattle.schema.proofs.AnswerLaws.{handed_on}
 use Rattle.members.proofs.signatures.check_accessors.Goals as goal
 
-pub returns-in_default : goal.returns-in_default
-returns-in_default c = inl (refused_by answer.Refused c.error.ensures c.in_default.is)
+pub returns-in_err-names : goal.returns-in_err-names
+returns-in_err-names c = rw (handed_on _ c.from_residual.ensures.1) (inl c.in_err-names.was)
 
-pub returns-in_default-setter : goal.returns-in_default-setter
-returns-in_default-setter c = inr (c.in-Names.names, c.in-Names.is, refused_by answer.Refused c.error-in_default-setter.ensures c.in_default-setter.is)
+pub returns-in_err-names-2 : goal.returns-in_err-names-2
+returns-in_err-names-2 c = rw (handed_on _ c.from_residual-in_err-names-2.ensures.1) (inr (_, c.in_ok-names.was, c.in_err-names-2.was))
+
+pub returns : goal.returns
+returns c = (_, _, c.in_ok-names.was, c.in_ok-names-2.was)

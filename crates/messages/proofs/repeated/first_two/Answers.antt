@@ -1,5 +1,6 @@
 use native.Mathlib.Omega.{arith}
-use Rattle.wire.proofs.WalkLaws.{field_is, field-inside}
+use Rattle.wire.proofs.WalkLaws.{field-inside}
+use Rattle.std.proofs.lemmas.Result.{err_from_is_err_and}
 use Rattle.messages.proofs.RepeatedLaws.{pushing-start, pushing-end, pushing-never, pushing-passed, pushing-next, pushing-refused}
 use Rattle.messages.proofs.repeated.first_two.Goals as goal
 
@@ -12,42 +13,42 @@ pub returns-in_default : goal.returns-in_default
 returns-in_default c =
     let a = c.args in
     let l = c.loop-at in
-    λ m w. pushing-never a.number a.base a.s.now l.at l.two l.invariant (c.field_at-step.ensures.inside (omega arith)) c.loop-at-test.true c.in_default.is m w
-
-pub loop-at-smaller-then-n-number : goal.loop-at-smaller-then-n-number
-loop-at-smaller-then-n-number c =
-    let a = c.args in
-    let h = field-inside a.base a.s.now c.loop-at.at (c.field_at-step.ensures.inside (omega arith)) (omega arith) c.in-Field.is in
-    omega arith
-
-pub loop-at-preserved-then-n-number : goal.loop-at-preserved-then-n-number
-loop-at-preserved-then-n-number c =
-    let a = c.args in
-    let l = c.loop-at in
-    pushing-passed a.number a.base a.s.now l.at l.two l.invariant (c.field_at-step.ensures.inside (omega arith)) c.loop-at-test.true _ c.in-Field.is c.if-n-number.true
-
-pub push_value-pushed-requires : goal.push_value-pushed-requires
-push_value-pushed-requires c =
-    let a = c.args in
-    (field_is a.base a.s.now c.loop-at.at (c.field_at-step.ensures.inside (omega arith)) c.in-Field.is).1
-
-pub returns-in_default-pushed : goal.returns-in_default-pushed
-returns-in_default-pushed c =
-    let a = c.args in
-    let l = c.loop-at in
-    pushing-refused a.number a.base a.s.now l.at l.two l.invariant (c.field_at-step.ensures.inside (omega arith)) c.loop-at-test.true _ c.in-Field.is c.if-n-number.false c.push_value-pushed.ensures c.in_default-pushed.is
+    λ m w. pushing-never a.number a.base a.s.now l.at l.two l.invariant _ (c.in_default.ensures.inside (omega arith)) c.loop-at-test.true m w
 
 pub loop-at-smaller : goal.loop-at-smaller
 loop-at-smaller c =
     let a = c.args in
-    let h = field-inside a.base a.s.now c.loop-at.at (c.field_at-step.ensures.inside (omega arith)) (omega arith) c.in-Field.is in
+    let h = field-inside a.base a.s.now c.loop-at.at c.in-Ok.read (c.in-Ok.ensures.inside (omega arith)) (omega arith) in
+    omega arith
+
+pub loop-at-smaller-then-read-number : goal.loop-at-smaller-then-read-number
+loop-at-smaller-then-read-number c =
+    let a = c.args in
+    let h = field-inside a.base a.s.now c.loop-at.at c.in-Ok.read (c.in-Ok.ensures.inside (omega arith)) (omega arith) in
     omega arith
 
 pub loop-at-preserved : goal.loop-at-preserved
 loop-at-preserved c =
     let a = c.args in
     let l = c.loop-at in
-    pushing-next a.number a.base a.s.now l.at l.two l.invariant (c.field_at-step.ensures.inside (omega arith)) c.loop-at-test.true _ c.in-Field.is c.if-n-number.false c.push_value-pushed.ensures c.in-Numbers.is
+    pushing-passed a.number a.base a.s.now l.at l.two l.invariant c.in-Ok.read (c.in-Ok.ensures.inside (omega arith)) c.loop-at-test.true c.if-read-number.false
+
+pub push_value-requires : goal.push_value-requires
+push_value-requires c =
+    (c.in-Ok.ensures.inside (omega arith)).1
+
+pub returns-in_err-two : goal.returns-in_err-two
+returns-in_err-two c =
+    let a = c.args in
+    let l = c.loop-at in
+    let p = err_from_is_err_and c.from_residual.result c.from_residual.ensures.1 in
+    rw (p.1, p.2) (pushing-refused a.number a.base a.s.now l.at l.two l.invariant c.in-Ok.read (c.in-Ok.ensures.inside (omega arith)) c.loop-at-test.true c.if-read-number.true c.push_value.ensures c.in_err-two.was)
+
+pub loop-at-preserved-then-read-number : goal.loop-at-preserved-then-read-number
+loop-at-preserved-then-read-number c =
+    let a = c.args in
+    let l = c.loop-at in
+    pushing-next a.number a.base a.s.now l.at l.two l.invariant c.in-Ok.read (c.in-Ok.ensures.inside (omega arith)) c.loop-at-test.true c.if-read-number.true c.push_value.ensures c.in_ok-two.was
 
 pub returns : goal.returns
 returns c =

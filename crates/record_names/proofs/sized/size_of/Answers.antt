@@ -1,6 +1,5 @@
 use mathlib.Core.Bool.{false}
 use mathlib.Core.List.{[]}
-use mathlib.Core.Path.{refl}
 use native.Mathlib.Omega.{arith}
 use Rattle.names.proofs.PresentLaws.{name-most}
 use Rattle.record_names.proofs.SizedLaws.{size_is, unstepped}
@@ -8,9 +7,6 @@ use Rattle.record_names.proofs.sized.size_of.Goals as goal
 
 pub put_name-size-requires : goal.put_name-size-requires
 put_name-size-requires c = let a = c.args in let l = c.requires.1 in omega (arith, name-most a.bytes.now [] (unstepped a.bytes.now a.name c.requires.0.0) 65536 (omega arith) (omega arith) (omega arith) false)
-
-pub returns-then-size-gt131072 : goal.returns-then-size-gt131072
-returns-then-size-gt131072 c = record { fits = omega arith; is = λ h. absurd (h refl) }
 
 pub returns : goal.returns
 returns c = let a = c.args in record { fits = c.if-size-gt131072.false; is = λ h. size_is a.bytes.now a.name c.requires.0.0 _ c.put_name-size.ensures.place h }

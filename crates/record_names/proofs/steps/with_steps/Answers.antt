@@ -1,13 +1,34 @@
-use mathlib.Core.Path.{refl}
+use mathlib.Core.Bool.{false, ◌&&◌}
+use mathlib.Core.Path.{◌≡◌, refl, sym, ◌∙◌}
 use native.Mathlib.Omega.{arith}
-use Rattle.record_names.proofs.PartLaws.{known-low, scalars_low, not-both, steps-none, steps-both, steps-absent}
+use Rattle.characters.specs.Characters.{is_scalar}
+use Rattle.record_names.proofs.PartLaws.{absent-made, scalar_least, known-low, not-both, steps-none, steps-both, steps-absent}
 use Rattle.record_names.proofs.steps.with_steps.Goals as goal
-
-pub returns-then-are_scalars : goal.returns-then-are_scalars
-returns-then-are_scalars c = record { bytes = λ h. let s = scalars_low _ _ c.are_scalars.ensures c.if-are_scalars.true in (h, refl, known-low c.args.operation c.known-operation.ensures, s.0, s.1, refl); is = λ payload d2. steps-both payload d2 c.args.source c.args.start c.args.end c.args.operation c.in-Both.is c.are_scalars.ensures c.if-are_scalars.true c.known-operation.ensures }
-
-pub returns-else-are_scalars : goal.returns-else-are_scalars
-returns-else-are_scalars c = record { bytes = λ h. rw c.absent.ensures (omega arith, refl, omega arith, omega arith, omega arith, refl); is = λ payload d2. steps-absent payload d2 c.args.source c.args.start c.args.end c.args.operation c.in-Both.is c.are_scalars.ensures c.if-are_scalars.false c.absent.ensures }
+use Rattle.record_names.proofs.steps.with_steps.Goals.{else-is_scalar-via-then-is_scalar+else-is_scalar-2, else-is_scalar-via-else-is_scalar}
 
 pub returns-in_default : goal.returns-in_default
-returns-in_default c = record { bytes = λ h. (h, refl, known-low c.args.operation c.known-operation.ensures, omega arith, omega arith, refl); is = λ payload d2. steps-none payload d2 c.args.source c.args.start c.args.end c.args.operation c.args.replaced (not-both c.args.replaced c.in_default.not-Both) c.known-operation.ensures }
+returns-in_default c = rw c.plain.ensures record {
+  bytes = λ h. (h, refl, known-low c.args.operation c.known.ensures, omega arith, omega arith, refl);
+  is = λ payload d2. steps-none payload d2 c.args.base c.args.operation c.args.replaced (not-both c.args.replaced c.in_default.not-Both) c.known.ensures;
+}
+
+pub returns-then-is_scalar-2 : goal.returns-then-is_scalar-2
+returns-then-is_scalar-2 c =
+    let a = sym c.is_scalar.ensures ∙ c.if-is_scalar.true in
+    let b = sym c.is_scalar-then-is_scalar.ensures ∙ c.if-is_scalar-2.true in
+    rw c.plain.ensures record {
+      bytes = λ h. (h, refl, known-low c.args.operation c.known.ensures, scalar_least _ a, scalar_least _ b, refl);
+      is = λ payload d2. steps-both payload d2 c.args.base c.args.operation c.in-Both.is a b c.known.ensures;
+    }
+
+pub returns : goal.returns
+returns c =
+    let f : is_scalar c.in-Both.first && is_scalar c.in-Both.second ≡ false =
+    elim c.else-is_scalar.branch [
+      | else-is_scalar-via-then-is_scalar+else-is_scalar-2 w ↦ rw (← c.is_scalar.ensures, w.if-is_scalar.true, ← w.is_scalar-then-is_scalar.ensures, w.if-is_scalar-2.false)
+      | else-is_scalar-via-else-is_scalar w ↦ rw (← c.is_scalar.ensures, w.if-is_scalar.false)
+    ] in
+    record {
+      bytes = λ h. absent-made c.absent.ensures;
+      is = λ payload d2. steps-absent payload d2 c.args.base c.args.operation c.in-Both.is f c.absent.ensures;
+    }

@@ -7,4 +7,4 @@ use Rattle.schema.proofs.head.index_of.Goals as goal
 
 pub returns : goal.returns
 unfolding index
-returns c = λ k m t. ap (λ (o : Option ℕ). if_some o none as32) t ∙ sym c.index.ensures
+returns c = λ k m t. ap (λ (o : Option ℕ). if_some o none as32) t ∙ sym c.index_in.ensures

@@ -7,13 +7,13 @@ pub loop-at-init : goal.loop-at-init
 loop-at-init c = seeing-start c.args.base c.args.msg.now
 
 pub returns-in_default : goal.returns-in_default
-returns-in_default c = seeing-never c.args.base c.args.msg.now c.loop-at.at c.loop-at.seen c.loop-at.invariant (c.field_at-step.ensures.inside (omega arith)) c.loop-at-test.true c.in_default.is
+returns-in_default c = λ m w. seeing-never c.args.base c.args.msg.now c.loop-at.at c.loop-at.seen c.loop-at.invariant c.loop-at-test.true _ (c.in_default.ensures.inside (omega arith)) m w
 
 pub loop-at-smaller : goal.loop-at-smaller
-loop-at-smaller c = let h = field-inside c.args.base c.args.msg.now c.loop-at.at (c.field_at-step.ensures.inside (omega arith)) (omega arith) c.in-Field.is in omega arith
+loop-at-smaller c = let h = field-inside c.args.base c.args.msg.now c.loop-at.at c.in-Ok.read (c.in-Ok.ensures.inside (omega arith)) (omega arith) in omega arith
 
 pub loop-at-preserved : goal.loop-at-preserved
-loop-at-preserved c = seeing-next c.args.base c.args.msg.now c.loop-at.at c.loop-at.seen c.loop-at.invariant (c.field_at-step.ensures.inside (omega arith)) c.loop-at-test.true _ c.in-Field.is c.with_field-seen.result c.with_field-seen.ensures
+loop-at-preserved c = seeing-next c.args.base c.args.msg.now c.loop-at.at c.loop-at.seen c.loop-at.invariant c.loop-at-test.true c.in-Ok.read (c.in-Ok.ensures.inside (omega arith)) c.with_field-seen.result c.with_field-seen.ensures
 
 pub returns : goal.returns
 returns c = seeing-end c.args.base c.args.msg.now c.loop-at.at c.loop-at.seen c.loop-at.invariant c.loop-at-test.false

@@ -12,4 +12,4 @@ returns-in_default c = λ s o k m e l. looked-none (qualified_name s.names) e l 
 
 pub returns : goal.returns
 unfolding class_name_in
-returns c = λ s o k m e l. looked-up (qualified_name s.names) e l c.in-At.is (ap (λ (n : Names). qualified_name n c.in-At.index) (names-are o) ∙ c.qualified_name.ensures s.names.records o.fit o.sizes o.records)
+returns c = λ s o k m e l. looked-up (qualified_name s.names) e l c.in-Some.is (ap (λ (n : Names). qualified_name n c.in-Some.index) (names-are o) ∙ c.qualified_name.ensures s.names.records o.fit o.sizes o.records)

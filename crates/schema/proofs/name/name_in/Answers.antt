@@ -8,8 +8,8 @@ use Rattle.schema.proofs.name.name_in.Goals as goal
 
 pub returns-in_default : goal.returns-in_default
 unfolding name_in
-returns-in_default c = λ units s o m k l. looked-none (string s.names) (c.index-found.ensures m k) l c.in_default.is (absent-name c.args.payload.now units c.absent.result (ap (λ (n : Name). n.source) c.absent.ensures))
+returns-in_default c = λ units s o m k l. looked-none (string s.names) (c.index.ensures m k) l c.in_default.is (absent-name c.args.payload.now units c.absent.result (ap (λ (n : Name). n.source) c.absent.ensures))
 
 pub returns : goal.returns
 unfolding name_in
-returns c = λ units s o m k l. looked-up (string s.names) (c.index-found.ensures m k) l c.in-At.is (ap (λ (n : Names). string n c.in-At.index) (names-are o) ∙ c.string.ensures units s.names.records o.fit o.sizes o.records)
+returns c = λ units s o m k l. looked-up (string s.names) (c.index.ensures m k) l c.in-Some.is (ap (λ (n : Names). string n c.in-Some.index) (names-are o) ∙ c.string.ensures units s.names.records o.fit o.sizes o.records)

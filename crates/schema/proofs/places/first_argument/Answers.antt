@@ -7,50 +7,50 @@ use Rattle.schema.proofs.ArgumentLaws.{star-is, inline-typed, inline-bytes, inde
 use Rattle.schema.proofs.FoundLaws.{seeking-start, seeking-in, argument-stands, seeking-end, seeking-star, seeking-kept, seeking-on, place_in, place-inline, place-indexed, place-nowhere}
 use Rattle.schema.proofs.places.first_argument.Goals as goal
 
-pub loop-start-init : goal.loop-start-init
-loop-start-init c = seeking-start c.args.payload.now c.args.notes.now c.args.tables c.args.msg.now c.args.base c.args.left c.requires.0
+pub loop-argument-init : goal.loop-argument-init
+loop-argument-init c = seeking-start c.args.payload.now c.args.notes.now c.args.tables c.args.msg.now c.args.base c.args.left c.requires.0
 
-pub returns-in_default : goal.returns-in_default
-returns-in_default c = seeking-end c.args.payload.now c.args.notes.now c.args.tables c.args.msg.now c.args.base c.args.left c.requires.0 c.loop-start.at c.loop-start.invariant c.next_body-piece.ensures c.in_default.is
+pub returns-in_err-argument : goal.returns-in_err-argument
+returns-in_err-argument c = rw c.from_residual.ensures (seeking-end c.args.payload.now c.args.notes.now c.args.tables c.args.msg.now c.args.base c.args.left c.requires.0 c.loop-argument.at c.loop-argument.invariant c.next_body.ensures c.in_err-argument.was)
 
 pub overflow_cast-first : goal.overflow_cast-first
-overflow_cast-first c = let h = seeking-in c.args.payload.now c.args.notes.now c.args.tables c.args.msg.now c.args.base c.args.left c.requires.0 c.loop-start.at c.loop-start.invariant c.next_body-piece.ensures c.in-Body.is in omega (arith, c.requires.0.inside, c.requires.1)
+overflow_cast-first c = let h = seeking-in c.args.payload.now c.args.notes.now c.args.tables c.args.msg.now c.args.base c.args.left c.requires.0 c.loop-argument.at c.loop-argument.invariant c.next_body.ensures c.in_ok-argument.was in omega (arith, c.requires.0.inside, c.requires.1)
 
 pub overflow_add-first : goal.overflow_add-first
-overflow_add-first c = let h = seeking-in c.args.payload.now c.args.notes.now c.args.tables c.args.msg.now c.args.base c.args.left c.requires.0 c.loop-start.at c.loop-start.invariant c.next_body-piece.ensures c.in-Body.is in omega (arith, c.requires.0.inside, c.requires.1)
+overflow_add-first c = let h = seeking-in c.args.payload.now c.args.notes.now c.args.tables c.args.msg.now c.args.base c.args.left c.requires.0 c.loop-argument.at c.loop-argument.invariant c.next_body.ensures c.in_ok-argument.was in omega (arith, c.requires.0.inside, c.requires.1)
 
 pub slice_bounds-argument_head-count : goal.slice_bounds-argument_head-count
-slice_bounds-argument_head-count c = let h = seeking-in c.args.payload.now c.args.notes.now c.args.tables c.args.msg.now c.args.base c.args.left c.requires.0 c.loop-start.at c.loop-start.invariant c.next_body-piece.ensures c.in-Body.is in omega arith
+slice_bounds-argument_head-count c = let h = seeking-in c.args.payload.now c.args.notes.now c.args.tables c.args.msg.now c.args.base c.args.left c.requires.0 c.loop-argument.at c.loop-argument.invariant c.next_body.ensures c.in_ok-argument.was in omega arith
 
 pub slice_bounds-argument_head-start : goal.slice_bounds-argument_head-start
-slice_bounds-argument_head-start c = let h = seeking-in c.args.payload.now c.args.notes.now c.args.tables c.args.msg.now c.args.base c.args.left c.requires.0 c.loop-start.at c.loop-start.invariant c.next_body-piece.ensures c.in-Body.is in omega arith
+slice_bounds-argument_head-start c = let h = seeking-in c.args.payload.now c.args.notes.now c.args.tables c.args.msg.now c.args.base c.args.left c.requires.0 c.loop-argument.at c.loop-argument.invariant c.next_body.ensures c.in_ok-argument.was in omega arith
 
 pub slice_bounds-argument_head-end : goal.slice_bounds-argument_head-end
-slice_bounds-argument_head-end c = let h = seeking-in c.args.payload.now c.args.notes.now c.args.tables c.args.msg.now c.args.base c.args.left c.requires.0 c.loop-start.at c.loop-start.invariant c.next_body-piece.ensures c.in-Body.is in omega arith
+slice_bounds-argument_head-end c = let h = seeking-in c.args.payload.now c.args.notes.now c.args.tables c.args.msg.now c.args.base c.args.left c.requires.0 c.loop-argument.at c.loop-argument.invariant c.next_body.ensures c.in_ok-argument.was in omega arith
 
 pub returns-in-Star : goal.returns-in-Star
-returns-in-Star c = seeking-star c.args.payload.now c.args.notes.now c.args.tables c.args.msg.now c.args.base c.args.left c.requires.0 c.loop-start.at c.loop-start.invariant c.next_body-piece.ensures c.in-Body.is (star-is (c.args.base + c.in-Body.start) (take (c.in-Body.end - c.in-Body.start) (drop c.in-Body.start c.args.msg.now)) c.argument_head-head.ensures c.in-Star.is)
+returns-in-Star c = seeking-star c.args.payload.now c.args.notes.now c.args.tables c.args.msg.now c.args.base c.args.left c.requires.0 c.loop-argument.at c.loop-argument.invariant c.next_body.ensures c.in_ok-argument.was (star-is (c.args.base + c.in_ok-argument.argument.start) (take (c.in_ok-argument.argument.end - c.in_ok-argument.argument.start) (drop c.in_ok-argument.argument.start c.args.msg.now)) c.argument_head.ensures c.in-Star.is)
 
 pub inline_place-requires : goal.inline_place-requires
-inline_place-requires c = let h = place_in c.args.payload.now c.args.notes.now c.args.tables (take (c.in-Body.end - c.in-Body.start) (drop c.in-Body.start c.args.msg.now)) (c.args.base + c.in-Body.start) Type-Argument-type Type-Argument-type_id c.args.left (argument-stands c.args.payload.now c.args.notes.now c.args.tables c.args.msg.now c.args.base c.args.left c.requires.0 c.loop-start.at c.loop-start.invariant c.next_body-piece.ensures c.in-Body.is) (inline-bytes (c.args.base + c.in-Body.start) (take (c.in-Body.end - c.in-Body.start) (drop c.in-Body.start c.args.msg.now)) c.argument_head-head.ensures c.in-Inline.is) refl in let k = argument-stands c.args.payload.now c.args.notes.now c.args.tables c.args.msg.now c.args.base c.args.left c.requires.0 c.loop-start.at c.loop-start.invariant c.next_body-piece.ensures c.in-Body.is in (h.0, omega (arith, k.inside, c.requires.1))
+inline_place-requires c = let h = place_in c.args.payload.now c.args.notes.now c.args.tables (take (c.in_ok-argument.argument.end - c.in_ok-argument.argument.start) (drop c.in_ok-argument.argument.start c.args.msg.now)) (c.args.base + c.in_ok-argument.argument.start) Type-Argument-type Type-Argument-type_id c.args.left (argument-stands c.args.payload.now c.args.notes.now c.args.tables c.args.msg.now c.args.base c.args.left c.requires.0 c.loop-argument.at c.loop-argument.invariant c.next_body.ensures c.in_ok-argument.was) (inline-bytes (c.args.base + c.in_ok-argument.argument.start) (take (c.in_ok-argument.argument.end - c.in_ok-argument.argument.start) (drop c.in_ok-argument.argument.start c.args.msg.now)) c.argument_head.ensures c.in-Inline.is) refl in let k = argument-stands c.args.payload.now c.args.notes.now c.args.tables c.args.msg.now c.args.base c.args.left c.requires.0 c.loop-argument.at c.loop-argument.invariant c.next_body.ensures c.in_ok-argument.was in (h.0, omega (arith, k.inside, c.requires.1))
 
 pub returns-in-Inline : goal.returns-in-Inline
-returns-in-Inline c = seeking-kept c.args.payload.now c.args.notes.now c.args.tables c.args.msg.now c.args.base c.args.left c.requires.0 c.loop-start.at c.loop-start.invariant c.next_body-piece.ensures c.in-Body.is (λ m k. (_, inline-typed (c.args.base + c.in-Body.start) (take (c.in-Body.end - c.in-Body.start) (drop c.in-Body.start c.args.msg.now)) c.argument_head-head.ensures c.in-Inline.is m k)) (place-inline c.args.payload.now c.args.notes.now c.args.tables (take (c.in-Body.end - c.in-Body.start) (drop c.in-Body.start c.args.msg.now)) (c.args.base + c.in-Body.start) Type-Argument-type Type-Argument-type_id c.args.left (argument-stands c.args.payload.now c.args.notes.now c.args.tables c.args.msg.now c.args.base c.args.left c.requires.0 c.loop-start.at c.loop-start.invariant c.next_body-piece.ensures c.in-Body.is) (inline-bytes (c.args.base + c.in-Body.start) (take (c.in-Body.end - c.in-Body.start) (drop c.in-Body.start c.args.msg.now)) c.argument_head-head.ensures c.in-Inline.is) refl c.inline_place.ensures) c.inline_place.ensures
+returns-in-Inline c = seeking-kept c.args.payload.now c.args.notes.now c.args.tables c.args.msg.now c.args.base c.args.left c.requires.0 c.loop-argument.at c.loop-argument.invariant c.next_body.ensures c.in_ok-argument.was (λ m k. (_, inline-typed (c.args.base + c.in_ok-argument.argument.start) (take (c.in_ok-argument.argument.end - c.in_ok-argument.argument.start) (drop c.in_ok-argument.argument.start c.args.msg.now)) c.argument_head.ensures c.in-Inline.is m k)) (place-inline c.args.payload.now c.args.notes.now c.args.tables (take (c.in_ok-argument.argument.end - c.in_ok-argument.argument.start) (drop c.in_ok-argument.argument.start c.args.msg.now)) (c.args.base + c.in_ok-argument.argument.start) Type-Argument-type Type-Argument-type_id c.args.left (argument-stands c.args.payload.now c.args.notes.now c.args.tables c.args.msg.now c.args.base c.args.left c.requires.0 c.loop-argument.at c.loop-argument.invariant c.next_body.ensures c.in_ok-argument.was) (inline-bytes (c.args.base + c.in_ok-argument.argument.start) (take (c.in_ok-argument.argument.end - c.in_ok-argument.argument.start) (drop c.in_ok-argument.argument.start c.args.msg.now)) c.argument_head.ensures c.in-Inline.is) refl c.inline_place.ensures) refl
 
-pub entry_place-found-requires : goal.entry_place-found-requires
-entry_place-found-requires c = c.requires.1
+pub entry_place-requires : goal.entry_place-requires
+entry_place-requires c = c.requires.1
 
-pub returns-in_default-found : goal.returns-in_default-found
-returns-in_default-found c = seeking-kept c.args.payload.now c.args.notes.now c.args.tables c.args.msg.now c.args.base c.args.left c.requires.0 c.loop-start.at c.loop-start.invariant c.next_body-piece.ensures c.in-Body.is (λ m k. (_, indexed-typed (c.args.base + c.in-Body.start) (take (c.in-Body.end - c.in-Body.start) (drop c.in-Body.start c.args.msg.now)) c.argument_head-head.ensures c.in-ByIndex.is m k)) (place-indexed c.args.payload.now c.args.notes.now c.args.tables (take (c.in-Body.end - c.in-Body.start) (drop c.in-Body.start c.args.msg.now)) (c.args.base + c.in-Body.start) Type-Argument-type Type-Argument-type_id c.args.left (argument-stands c.args.payload.now c.args.notes.now c.args.tables c.args.msg.now c.args.base c.args.left c.requires.0 c.loop-start.at c.loop-start.invariant c.next_body-piece.ensures c.in-Body.is) (indexed-bytes (c.args.base + c.in-Body.start) (take (c.in-Body.end - c.in-Body.start) (drop c.in-Body.start c.args.msg.now)) c.argument_head-head.ensures c.in-ByIndex.is) refl (indexed-index (c.args.base + c.in-Body.start) (take (c.in-Body.end - c.in-Body.start) (drop c.in-Body.start c.args.msg.now)) c.argument_head-head.ensures c.in-ByIndex.is) refl c.entry_place-found.ensures) c.in_default-found.is
+pub returns-in-Some : goal.returns-in-Some
+returns-in-Some c = rw (← c.in-Some.is) (seeking-kept c.args.payload.now c.args.notes.now c.args.tables c.args.msg.now c.args.base c.args.left c.requires.0 c.loop-argument.at c.loop-argument.invariant c.next_body.ensures c.in_ok-argument.was (λ m k. (_, indexed-typed (c.args.base + c.in_ok-argument.argument.start) (take (c.in_ok-argument.argument.end - c.in_ok-argument.argument.start) (drop c.in_ok-argument.argument.start c.args.msg.now)) c.argument_head.ensures c.in-ByIndex.is m k)) (place-indexed c.args.payload.now c.args.notes.now c.args.tables (take (c.in_ok-argument.argument.end - c.in_ok-argument.argument.start) (drop c.in_ok-argument.argument.start c.args.msg.now)) (c.args.base + c.in_ok-argument.argument.start) Type-Argument-type Type-Argument-type_id c.args.left (argument-stands c.args.payload.now c.args.notes.now c.args.tables c.args.msg.now c.args.base c.args.left c.requires.0 c.loop-argument.at c.loop-argument.invariant c.next_body.ensures c.in_ok-argument.was) (indexed-bytes (c.args.base + c.in_ok-argument.argument.start) (take (c.in_ok-argument.argument.end - c.in_ok-argument.argument.start) (drop c.in_ok-argument.argument.start c.args.msg.now)) c.argument_head.ensures c.in-ByIndex.is) refl (indexed-index (c.args.base + c.in_ok-argument.argument.start) (take (c.in_ok-argument.argument.end - c.in_ok-argument.argument.start) (drop c.in_ok-argument.argument.start c.args.msg.now)) c.argument_head.ensures c.in-ByIndex.is) refl c.entry_place.ensures) c.in-Some.is)
 
-pub loop-start-smaller-in-Nothing-found : goal.loop-start-smaller-in-Nothing-found
-loop-start-smaller-in-Nothing-found c = let h = seeking-in c.args.payload.now c.args.notes.now c.args.tables c.args.msg.now c.args.base c.args.left c.requires.0 c.loop-start.at c.loop-start.invariant c.next_body-piece.ensures c.in-Body.is in omega arith
+pub loop-argument-smaller-in_default : goal.loop-argument-smaller-in_default
+loop-argument-smaller-in_default c = let h = seeking-in c.args.payload.now c.args.notes.now c.args.tables c.args.msg.now c.args.base c.args.left c.requires.0 c.loop-argument.at c.loop-argument.invariant c.next_body.ensures c.in_ok-argument.was in omega arith
 
-pub loop-start-preserved-in-Nothing-found : goal.loop-start-preserved-in-Nothing-found
-loop-start-preserved-in-Nothing-found c = seeking-on c.args.payload.now c.args.notes.now c.args.tables c.args.msg.now c.args.base c.args.left c.requires.0 c.loop-start.at c.loop-start.invariant c.next_body-piece.ensures c.in-Body.is (λ m k. (_, indexed-typed (c.args.base + c.in-Body.start) (take (c.in-Body.end - c.in-Body.start) (drop c.in-Body.start c.args.msg.now)) c.argument_head-head.ensures c.in-ByIndex.is m k)) (place-indexed c.args.payload.now c.args.notes.now c.args.tables (take (c.in-Body.end - c.in-Body.start) (drop c.in-Body.start c.args.msg.now)) (c.args.base + c.in-Body.start) Type-Argument-type Type-Argument-type_id c.args.left (argument-stands c.args.payload.now c.args.notes.now c.args.tables c.args.msg.now c.args.base c.args.left c.requires.0 c.loop-start.at c.loop-start.invariant c.next_body-piece.ensures c.in-Body.is) (indexed-bytes (c.args.base + c.in-Body.start) (take (c.in-Body.end - c.in-Body.start) (drop c.in-Body.start c.args.msg.now)) c.argument_head-head.ensures c.in-ByIndex.is) refl (indexed-index (c.args.base + c.in-Body.start) (take (c.in-Body.end - c.in-Body.start) (drop c.in-Body.start c.args.msg.now)) c.argument_head-head.ensures c.in-ByIndex.is) refl c.entry_place-found.ensures) c.in-Nothing-found.is
+pub loop-argument-preserved-in_default : goal.loop-argument-preserved-in_default
+loop-argument-preserved-in_default c = seeking-on c.args.payload.now c.args.notes.now c.args.tables c.args.msg.now c.args.base c.args.left c.requires.0 c.loop-argument.at c.loop-argument.invariant c.next_body.ensures c.in_ok-argument.was (λ m k. (_, indexed-typed (c.args.base + c.in_ok-argument.argument.start) (take (c.in_ok-argument.argument.end - c.in_ok-argument.argument.start) (drop c.in_ok-argument.argument.start c.args.msg.now)) c.argument_head.ensures c.in-ByIndex.is m k)) (place-indexed c.args.payload.now c.args.notes.now c.args.tables (take (c.in_ok-argument.argument.end - c.in_ok-argument.argument.start) (drop c.in_ok-argument.argument.start c.args.msg.now)) (c.args.base + c.in_ok-argument.argument.start) Type-Argument-type Type-Argument-type_id c.args.left (argument-stands c.args.payload.now c.args.notes.now c.args.tables c.args.msg.now c.args.base c.args.left c.requires.0 c.loop-argument.at c.loop-argument.invariant c.next_body.ensures c.in_ok-argument.was) (indexed-bytes (c.args.base + c.in_ok-argument.argument.start) (take (c.in_ok-argument.argument.end - c.in_ok-argument.argument.start) (drop c.in_ok-argument.argument.start c.args.msg.now)) c.argument_head.ensures c.in-ByIndex.is) refl (indexed-index (c.args.base + c.in_ok-argument.argument.start) (take (c.in_ok-argument.argument.end - c.in_ok-argument.argument.start) (drop c.in_ok-argument.argument.start c.args.msg.now)) c.argument_head.ensures c.in-ByIndex.is) refl c.entry_place.ensures) c.in_default.is
 
-pub loop-start-smaller : goal.loop-start-smaller
-loop-start-smaller c = let h = seeking-in c.args.payload.now c.args.notes.now c.args.tables c.args.msg.now c.args.base c.args.left c.requires.0 c.loop-start.at c.loop-start.invariant c.next_body-piece.ensures c.in-Body.is in omega arith
+pub loop-argument-smaller : goal.loop-argument-smaller
+loop-argument-smaller c = let h = seeking-in c.args.payload.now c.args.notes.now c.args.tables c.args.msg.now c.args.base c.args.left c.requires.0 c.loop-argument.at c.loop-argument.invariant c.next_body.ensures c.in_ok-argument.was in omega arith
 
-pub loop-start-preserved : goal.loop-start-preserved
-loop-start-preserved c = seeking-on c.args.payload.now c.args.notes.now c.args.tables c.args.msg.now c.args.base c.args.left c.requires.0 c.loop-start.at c.loop-start.invariant c.next_body-piece.ensures c.in-Body.is (nothing-typed (c.args.base + c.in-Body.start) (take (c.in-Body.end - c.in-Body.start) (drop c.in-Body.start c.args.msg.now)) c.argument_head-head.ensures c.in-Nothing.is) (place-nowhere c.args.payload.now c.args.notes.now c.args.tables (take (c.in-Body.end - c.in-Body.start) (drop c.in-Body.start c.args.msg.now)) (c.args.base + c.in-Body.start) Type-Argument-type Type-Argument-type_id c.args.left (argument-stands c.args.payload.now c.args.notes.now c.args.tables c.args.msg.now c.args.base c.args.left c.requires.0 c.loop-start.at c.loop-start.invariant c.next_body-piece.ensures c.in-Body.is) (nothing-bytes (c.args.base + c.in-Body.start) (take (c.in-Body.end - c.in-Body.start) (drop c.in-Body.start c.args.msg.now)) c.argument_head-head.ensures c.in-Nothing.is) refl (nothing-index (c.args.base + c.in-Body.start) (take (c.in-Body.end - c.in-Body.start) (drop c.in-Body.start c.args.msg.now)) c.argument_head-head.ensures c.in-Nothing.is) refl) refl
+pub loop-argument-preserved : goal.loop-argument-preserved
+loop-argument-preserved c = seeking-on c.args.payload.now c.args.notes.now c.args.tables c.args.msg.now c.args.base c.args.left c.requires.0 c.loop-argument.at c.loop-argument.invariant c.next_body.ensures c.in_ok-argument.was (nothing-typed (c.args.base + c.in_ok-argument.argument.start) (take (c.in_ok-argument.argument.end - c.in_ok-argument.argument.start) (drop c.in_ok-argument.argument.start c.args.msg.now)) c.argument_head.ensures c.in-Nothing.is) (place-nowhere c.args.payload.now c.args.notes.now c.args.tables (take (c.in_ok-argument.argument.end - c.in_ok-argument.argument.start) (drop c.in_ok-argument.argument.start c.args.msg.now)) (c.args.base + c.in_ok-argument.argument.start) Type-Argument-type Type-Argument-type_id c.args.left (argument-stands c.args.payload.now c.args.notes.now c.args.tables c.args.msg.now c.args.base c.args.left c.requires.0 c.loop-argument.at c.loop-argument.invariant c.next_body.ensures c.in_ok-argument.was) (nothing-bytes (c.args.base + c.in_ok-argument.argument.start) (take (c.in_ok-argument.argument.end - c.in_ok-argument.argument.start) (drop c.in_ok-argument.argument.start c.args.msg.now)) c.argument_head.ensures c.in-Nothing.is) refl (nothing-index (c.args.base + c.in_ok-argument.argument.start) (take (c.in_ok-argument.argument.end - c.in_ok-argument.argument.start) (drop c.in_ok-argument.argument.start c.args.msg.now)) c.argument_head.ensures c.in-Nothing.is) refl) refl

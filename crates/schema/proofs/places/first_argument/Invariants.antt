@@ -3,8 +3,8 @@ use lib.ListN.{length}
 use Rattle.schema.proofs.FoundLaws.{Seeking}
 use Rattle.schema.proofs.places.first_argument.Given as goal
 
-abbrev pub invariant-loop-start : goal.invariant-loop-start
-invariant-loop-start l = Seeking l.payload l.notes l.tables l.msg l.base l.left l.at
+abbrev pub invariant-loop-argument : goal.invariant-loop-argument
+invariant-loop-argument l = Seeking l.payload l.notes l.tables l.msg l.base l.left l.at
 
-abbrev pub decreases-loop-start : goal.decreases-loop-start
-decreases-loop-start l = length l.msg - l.at
+abbrev pub decreases-loop-argument : goal.decreases-loop-argument
+decreases-loop-argument l = length l.msg - l.at

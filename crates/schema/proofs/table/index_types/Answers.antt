@@ -1,21 +1,24 @@
+use mathlib.Core.Path.{ap, ◌∙◌}
 use native.Mathlib.Omega.{arith}
+use Rattle.std.specs.declared.result.Result.TheVariants.{Ok}
+use Rattle.schema.proofs.AnswerLaws.{handed_on}
 use Rattle.schema.proofs.TableLaws.{table-place, index_none, index-refused, index-inline}
 use Rattle.schema.proofs.table.index_types.Goals as goal
 
-pub overflow_add-at : goal.overflow_add-at
-overflow_add-at c = let h = table-place c.args.payload.now c.args.at c.args.number c.message-table.ensures c.in-Inline.is in omega arith
+pub returns-in_err-table : goal.returns-in_err-table
+returns-in_err-table c = rw (handed_on _ c.from_residual.ensures.1) λ m k. index-refused c.args.payload.now c.args.at c.args.number c.args.notes.now m k c.message.ensures c.in_err-table.was
 
-pub overflow_add-at-in-Inline : goal.overflow_add-at-in-Inline
-overflow_add-at-in-Inline c = let h = table-place c.args.payload.now c.args.at c.args.number c.message-table.ensures c.in-Inline.is in omega arith
+pub returns-in_default : goal.returns-in_default
+returns-in_default c = λ m k. index_none c.args.payload.now c.args.at c.args.number c.args.notes.now m k c.message.ensures (c.in_ok-table.was ∙ ap Ok c.in_default.is)
+
+pub overflow_add-at : goal.overflow_add-at
+overflow_add-at c = let h = table-place c.args.payload.now c.args.at c.args.number c.message.ensures (c.in_ok-table.was ∙ ap Ok c.in-Some.is) in omega arith
+
+pub overflow_add-at-2 : goal.overflow_add-at-2
+overflow_add-at-2 c = let h = table-place c.args.payload.now c.args.at c.args.number c.message.ensures (c.in_ok-table.was ∙ ap Ok c.in-Some.is) in omega arith
 
 pub note_table-requires : goal.note_table-requires
-note_table-requires c = let h = table-place c.args.payload.now c.args.at c.args.number c.message-table.ensures c.in-Inline.is in (omega arith, omega arith, omega arith)
+note_table-requires c = let h = table-place c.args.payload.now c.args.at c.args.number c.message.ensures (c.in_ok-table.was ∙ ap Ok c.in-Some.is) in (omega arith, omega arith, omega arith)
 
-pub returns-in-Inline : goal.returns-in-Inline
-returns-in-Inline c = λ m k. index-inline c.args.payload.now c.args.at c.args.number c.note_table.new.notes m k c.message-table.ensures c.in-Inline.is c.note_table.result c.note_table.ensures
-
-pub returns-in-Refused : goal.returns-in-Refused
-returns-in-Refused c = λ m k. index-refused c.args.payload.now c.args.at c.args.number c.args.notes.now m k c.message-table.ensures c.in-Refused.is
-
-pub returns-in-Nothing : goal.returns-in-Nothing
-returns-in-Nothing c = λ m k. index_none c.args.payload.now c.args.at c.args.number c.args.notes.now m k c.message-table.ensures c.in-Nothing.is
+pub returns : goal.returns
+returns c = λ m k. index-inline c.args.payload.now c.args.at c.args.number c.note_table.new.notes m k c.message.ensures (c.in_ok-table.was ∙ ap Ok c.in-Some.is) c.note_table.result c.note_table.ensures

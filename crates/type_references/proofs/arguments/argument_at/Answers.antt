@@ -1,29 +1,25 @@
+use mathlib.Core.Path.{refl}
 use native.Mathlib.Omega.{arith}
 use lib.ListN.{length-take}
 use Rattle.messages.proofs.BodyLaws.{checked_part}
-use Rattle.type_references.proofs.ArgumentLaws.{argument-starred, inline_in, argument-inline, argument-refused, argument-by-index, argument-absent}
+use Rattle.schema.proofs.AnswerLaws.{handed_on}
+use Rattle.type_references.proofs.ArgumentLaws.{inline_in, argument-inline, argument-refused, argument-other}
 use Rattle.type_references.proofs.arguments.argument_at.Goals as goal
 
-pub overflow_add-start : goal.overflow_add-start
-overflow_add-start c = let h = inline_in c.args.base c.args.msg.now c.args.from c.args.to c.requires.0 c.argument_head-head.ensures c.in-Inline.is in omega (arith, c.requires.1, c.requires.2)
+pub returns-in_default : goal.returns-in_default
+returns-in_default c = argument-other c.args.base c.args.msg.now c.args.part.start c.args.part.end c.requires.0 c.argument_head-head.ensures _ refl c.in_default.not-Inline
 
-pub overflow_add-end : goal.overflow_add-end
-overflow_add-end c = let h = inline_in c.args.base c.args.msg.now c.args.from c.args.to c.requires.0 c.argument_head-head.ensures c.in-Inline.is in omega (arith, c.requires.1, c.requires.2)
+pub overflow_add-inner : goal.overflow_add-inner
+overflow_add-inner c = let h = inline_in c.args.base c.args.msg.now c.args.part.start c.args.part.end c.requires.0 c.argument_head-head.ensures c.in-Inline.is in omega (arith, c.requires.1, c.requires.2)
+
+pub overflow_add-inner-2 : goal.overflow_add-inner-2
+overflow_add-inner-2 c = let h = inline_in c.args.base c.args.msg.now c.args.part.start c.args.part.end c.requires.0 c.argument_head-head.ensures c.in-Inline.is in omega (arith, c.requires.1, c.requires.2)
 
 pub slice_bounds-check_from-end : goal.slice_bounds-check_from-end
-slice_bounds-check_from-end c = let h = inline_in c.args.base c.args.msg.now c.args.from c.args.to c.requires.0 c.argument_head-head.ensures c.in-Inline.is in simp length-take (omega (arith, c.requires.1))
+slice_bounds-check_from-end c = let h = inline_in c.args.base c.args.msg.now c.args.part.start c.args.part.end c.requires.0 c.argument_head-head.ensures c.in-Inline.is in simp length-take (omega (arith, c.requires.1))
 
-pub returns-in_default : goal.returns-in_default
-returns-in_default c = let h = inline_in c.args.base c.args.msg.now c.args.from c.args.to c.requires.0 c.argument_head-head.ensures c.in-Inline.is in argument-refused c.args.base c.args.msg.now c.args.from c.args.to c.requires.0 c.argument_head-head.ensures c.in-Inline.is c.check_from-checked.result (checked_part c.args.base c.args.msg.now _ _ c.check_from-checked.result (omega arith) c.check_from-checked.ensures) c.in_default.is (c.error.ensures _ c.in_default.is)
+pub returns-in_err-check_from : goal.returns-in_err-check_from
+returns-in_err-check_from c = let h = inline_in c.args.base c.args.msg.now c.args.part.start c.args.part.end c.requires.0 c.argument_head-head.ensures c.in-Inline.is in rw (handed_on _ c.from_residual.ensures.1) (argument-refused c.args.base c.args.msg.now c.args.part.start c.args.part.end c.requires.0 c.argument_head-head.ensures c.in-Inline.is c.check_from.result (checked_part c.args.base c.args.msg.now _ _ c.check_from.result (omega arith) c.check_from.ensures) c.in_err-check_from.was)
 
-pub returns-in-Star : goal.returns-in-Star
-returns-in-Star c = argument-starred c.args.base c.args.msg.now c.args.from c.args.to c.requires.0 c.argument_head-head.ensures c.in-Star.is
-
-pub returns-in-Whole : goal.returns-in-Whole
-returns-in-Whole c = let h = inline_in c.args.base c.args.msg.now c.args.from c.args.to c.requires.0 c.argument_head-head.ensures c.in-Inline.is in argument-inline c.args.base c.args.msg.now c.args.from c.args.to c.requires.0 c.argument_head-head.ensures c.in-Inline.is c.check_from-checked.result (checked_part c.args.base c.args.msg.now _ _ c.check_from-checked.result (omega arith) c.check_from-checked.ensures) c.in-Whole.is
-
-pub returns-in-ByIndex : goal.returns-in-ByIndex
-returns-in-ByIndex c = argument-by-index c.args.base c.args.msg.now c.args.from c.args.to c.requires.0 c.argument_head-head.ensures c.in-ByIndex.is
-
-pub returns-in-Nothing : goal.returns-in-Nothing
-returns-in-Nothing c = argument-absent c.args.base c.args.msg.now c.args.from c.args.to c.requires.0 c.argument_head-head.ensures c.in-Nothing.is
+pub returns : goal.returns
+returns c = let h = inline_in c.args.base c.args.msg.now c.args.part.start c.args.part.end c.requires.0 c.argument_head-head.ensures c.in-Inline.is in argument-inline c.args.base c.args.msg.now c.args.part.start c.args.part.end c.requires.0 c.argument_head-head.ensures c.in-Inline.is c.check_from.result (checked_part c.args.base c.args.msg.now _ _ c.check_from.result (omega arith) c.check_from.ensures) c.in_ok-check_from.was

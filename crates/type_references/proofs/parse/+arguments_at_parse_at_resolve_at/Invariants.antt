@@ -15,8 +15,8 @@ decreases-parse_at l = 3 * remaining l.place.left (length l.msg.now) + 2
 abbrev pub decreases-resolve_at : goal.decreases-resolve_at
 decreases-resolve_at l = 3 * remaining l.left 0
 
-abbrev pub invariant-arguments_at-loop-from : goal.invariant-arguments_at-loop-from
-invariant-arguments_at-loop-from l = Looping (lent l.payload l.d2 l.ends l.notes l.tables) l.msg l.base l.left l.initial.next l.initial.sheet l.initial.text l.at l.end l.deep l.height l.next l.sheet l.text l.nest × (length l.nest ≡ length l.initial.nest) × (length l.sheet ≡ length l.initial.sheet) × (length l.text ≡ length l.initial.text)
+abbrev pub invariant-arguments_at-loop-part : goal.invariant-arguments_at-loop-part
+invariant-arguments_at-loop-part l = Looping (lent l.payload l.d2 l.ends l.notes l.tables) l.msg l.base l.left l.initial.next l.initial.sheet l.initial.text l.at l.end l.deep l.height l.next l.sheet l.text l.nest × (length l.nest ≡ length l.initial.nest) × (length l.sheet ≡ length l.initial.sheet) × (length l.text ≡ length l.initial.text)
 
-abbrev pub decreases-arguments_at-loop-from : goal.decreases-arguments_at-loop-from
-decreases-arguments_at-loop-from l = turns l.nest l.height l.at l.end
+abbrev pub decreases-arguments_at-loop-part : goal.decreases-arguments_at-loop-part
+decreases-arguments_at-loop-part l = turns l.nest l.height l.at l.end

@@ -1,9 +1,10 @@
-use mathlib.Core.Path.{sym, ◌∙◌}
+use mathlib.Core.Path.{ap, sym, ◌∙◌}
+use Rattle.schema.specs.told.HeadTold.{is_body}
 use Rattle.schema.proofs.HeadLaws.{known-no-body, known-argument}
 use Rattle.schema.proofs.head.Seen.with_argument.Goals as goal
 
-pub returns-then-not-is_body : goal.returns-then-not-is_body
-returns-then-not-is_body c = λ base s m rest k. known-no-body c.args.self c.args.value base s m rest k (sym c.is_body.ensures ∙ c.if-not-is_body.true)
+pub returns-in_default : goal.returns-in_default
+returns-in_default c = λ base s m rest k. known-no-body c.args.self c.args.value base s m rest k (ap is_body (sym c.bytes.ensures ∙ c.in_default.is))
 
 pub returns : goal.returns
-returns c = λ base s m rest k. known-argument c.args.self c.args.value base s m rest k (sym c.is_body.ensures ∙ c.if-not-is_body.false)
+returns c = λ base s m rest k. known-argument c.args.self c.args.value base s m rest k (ap is_body (sym c.bytes.ensures ∙ c.in-Some.is))

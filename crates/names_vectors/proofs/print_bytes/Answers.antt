@@ -1,7 +1,0 @@
-use Rattle.std.proofs.Common.{arith, sym, ◌∙◌}
-use Rattle.characters.proofs.CharacterLaws.{utf8-inside}
-use Rattle.names_vectors.proofs.print_bytes.Goals as goal
-
--- a character ends after its place, and inside the text
-pub loop-code-smaller : goal.loop-code-smaller
-loop-code-smaller g c = let i = utf8-inside _ _ (sym c.utf8_at-character.ensures ∙ c.in-Read.is) in omega arith

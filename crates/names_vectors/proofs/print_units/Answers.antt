@@ -1,7 +1,0 @@
-use Rattle.std.proofs.Common.{arith, sym, ◌∙◌}
-use Rattle.characters.proofs.UnitLaws.{utf16-inside}
-use Rattle.names_vectors.proofs.print_units.Goals as goal
-
--- a character ends after its place, and inside the units
-pub loop-code-smaller : goal.loop-code-smaller
-loop-code-smaller g c = let i = utf16-inside _ _ _ (sym c.utf16_at-character.ensures ∙ c.in-Read.is) in omega arith
