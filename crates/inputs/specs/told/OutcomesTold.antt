@@ -1,11 +1,14 @@
 -- What the code's outcomes tell, in the definitions' words.
 -- Assumes nothing.
 use Rattle.std.proofs.Math.Option.{Option, none, some}
-use Rattle.foundation.specs.Results.{Cause, d1_too_long, d2_too_long, string_ends, newer_version}
+use Rattle.foundation.specs.Results.{Cause, d1_too_long, d2_too_long, string_ends, newer_version, empty_payload, not_a_byte, text_too_long, sheet_too_long}
+use Rattle.schema.specs.told.SchemaTold.{stop_cause, stop_place}
 use Rattle.inputs.specs.declared.Fault.{Fault}
 use Rattle.inputs.specs.declared.Fault.TheVariants as fault
 use Rattle.std.specs.Prelude.{◌≡◌, List, ℕ, Result, Ok, Err}
-use Rattle.inputs.specs.declared.outcome.Outcome.{Outcome}
+use Rattle.inputs.specs.declared.outcome.Sizes.{Sizes}
+use Rattle.inputs.specs.declared.outcome.Refusal.{Refusal}
+use Rattle.inputs.specs.declared.outcome.Refusal.TheVariants as why
 use Rattle.inputs.specs.Outcomes.{Answer, refusal}
 
 -- document 01's cause of each, 1 to 4
@@ -19,18 +22,29 @@ abbrev pub fault_told : Result (Unit {0}) Fault → Option Cause
 fault_told (Err f) = some (fault_cause f)
 fault_told (Ok u) = none
 
--- an answer, and what both areas hold afterwards
-abbrev pub told : Outcome → List ℕ → List ℕ → Answer
-told r sheet text = record {
-  number = r.number;
-  detail = r.detail;
-  sheet_length = r.sheet;
-  text_length = r.text;
-  types = r.types;
-  sheet = sheet;
-  text = text;
-}
+-- the cause of a refusal, and where it is due
+abbrev pub refusal_cause : Refusal → Cause
+refusal_cause (why.Fault fault) = fault_cause fault
+refusal_cause why.EmptyPayload = empty_payload
+refusal_cause (why.NotAByte unit) = not_a_byte unit
+refusal_cause (why.Stop stop) = stop_cause stop
+refusal_cause why.TextTooLong = text_too_long
+refusal_cause why.SheetTooLong = sheet_too_long
+
+abbrev pub refusal_place : Refusal → ℕ
+refusal_place (why.Fault fault) = 0
+refusal_place why.EmptyPayload = 0
+refusal_place (why.NotAByte unit) = 0
+refusal_place (why.Stop stop) = stop_place stop
+refusal_place why.TextTooLong = 0
+refusal_place why.SheetTooLong = 0
+
+-- an outcome, and what both areas hold afterwards
+abbrev pub told : Result Sizes Refusal → List ℕ → List ℕ → Answer
+told (Ok r) sheet text =
+    record { number = 0; detail = 0; sheet_length = r.sheet; text_length = r.text; types = r.types; sheet = sheet; text = text }
+told (Err r) sheet text = refusal sheet text (refusal_cause r) (refusal_place r)
 
 -- The refusal of a cause at a place, which leaves both areas as they are.
-abbrev pub RefusedAs : Cause → ℕ → Outcome → Type 0
+abbrev pub RefusedAs : Cause → ℕ → Result Sizes Refusal → Type 0
 RefusedAs c place r = (sheet text : List ℕ) → refusal sheet text c place ≡ told r sheet text

@@ -1,6 +1,5 @@
 use mathlib.Core.Path.{sym}
 use native.Mathlib.Omega.{arith}
-use borrow.Author.Tests.{eqb-false}
 use Rattle.wire.proofs.SkipLaws.{skip_none, skip-field, skip-then}
 use Rattle.wire.proofs.skip_fields.Goals as goal
 
@@ -12,4 +11,4 @@ loop-read-preserved g c =
     let s = c.args.s.now in
     let x = c.in-Some.read in
     skip-then s c.args.numbers c.loop-read.invariant
-    (skip-field s c.args.numbers c.loop-read.next c.in-Some.ensures λ i h e. eqb-false _ x.value.number (c.if-contains.ensures.cases i 0 (omega arith) h) (sym e))
+    (skip-field s c.args.numbers c.loop-read.next c.in-Some.ensures λ i h e. c.is_among.ensures c.if-is_among.false i (omega arith) (sym e))

@@ -1,7 +1,7 @@
 use Prim.Native.Nat.{◌-◌, ◌≤◌}
 use lib.ListN.{length}
 use Rattle.messages.proofs.BodyLaws.{Bodies}
-use Rattle.messages.proofs.long_next_body.Given as goal
+use Rattle.messages.proofs.next_body.Given as goal
 
 abbrev pub invariant-loop-i : goal.invariant-loop-i
 invariant-loop-i l = (l.at ≤ l.i) × Bodies l.number l.base l.s l.at l.i
