@@ -6,6 +6,7 @@ use mathlib.Core.Option.{some}
 use Prim.Native.Nat.{ℕ, ◌≤◌}
 use native.Mathlib.Omega.{arith}
 use lib.ListN.{length, take}
+use Rattle.inputs.specs.told.KindTold.{kind_number}
 use Rattle.foundation.specs.Results as Results
 use Rattle.foundation.specs.Results.{Res, ok, refused, Cause}
 use Rattle.foundation.proofs.ResultLaws.{gives-ok}
@@ -53,10 +54,10 @@ module _ (asked : Asked) (d1 d2 ends before after : List ℕ) (answer : Decoded)
     bytes-kept = record { bytes-short = omega (arith, bytes-few, k.bytes-short); d2-short = k.d2-short; fit = k.fit }
 
     pub bytes_read_lem : (notes : List ℕ) (y : Option Reply) (S S' T T' : List ℕ)
-        → PassedTold asked (payload asked.kind (strings d2 ends) (take n after)) (LentRoom (take n after) notes) y S S' T T'
-        → PassedTold asked (reading_of asked.kind d1 d2 ends) (FrameRoom d1 after notes) y S S' T T'
+        → PassedTold asked (payload (kind_number asked.kind) (strings d2 ends) (take n after)) (LentRoom (take n after) notes) y S S' T T'
+        → PassedTold asked (reading_of (kind_number asked.kind) d1 d2 ends) (FrameRoom d1 after notes) y S S' T T'
     bytes_read_lem notes (Some r) S S' T T' h =
-        subst (λ (x : Res (List ℕ)). TaskTold asked (Results.◌>>=◌ x (payload asked.kind (strings d2 ends))) r S S' T T') (sym bytes-are) h
+        subst (λ (x : Res (List ℕ)). TaskTold asked (Results.◌>>=◌ x (payload (kind_number asked.kind) (strings d2 ends))) r S S' T T') (sym bytes-are) h
     bytes_read_lem notes None S S' T T' (h, p, q) = (
       (λ room.
           let few = bytes-few in
@@ -67,13 +68,13 @@ module _ (asked : Asked) (d1 d2 ends before after : List ℕ) (answer : Decoded)
     )
 
   pub decode-refused : (c : Cause) (arm : Decoded) → answer ≡ arm → encoding.tells arm after ≡ some (refused c 0) → (S T : List ℕ) (r : Reply) {o : Outcome} → RefusedAs c 0 o
-      → r.outcome ≡ o → TaskTold asked (reading_of asked.kind d1 d2 ends) r S S T T
+      → r.outcome ≡ o → TaskTold asked (reading_of (kind_number asked.kind) d1 d2 ends) r S S T T
   decode-refused c arm e f S T r h g =
-      subst (λ (x : Res (List ℕ)). TaskTold asked (Results.◌>>=◌ x (payload asked.kind (strings d2 ends))) r S S T T) (sym (arm_is arm e f))
-      (reply_refused asked (refused c 0) c 0 S T r refl h g)
+      subst (λ (x : Res (List ℕ)). TaskTold asked (Results.◌>>=◌ x (payload (kind_number asked.kind) (strings d2 ends))) r S S T T) (sym (arm_is arm e f))
+      (reply_refused asked.task (kind_number asked.kind) (refused c 0) c 0 S T r refl h g)
 
   pub decode-no-room : answer ≡ Err not_decoded.NoRoom → length after ≡ length before → (notes S T : List ℕ)
-      → PassedTold asked (reading_of asked.kind d1 d2 ends) (FrameRoom d1 after notes) None S S T T
+      → PassedTold asked (reading_of (kind_number asked.kind) d1 d2 ends) (FrameRoom d1 after notes) None S S T T
   decode-no-room e l notes S T =
       ((λ room. told-room d1 before after answer t (omega (arith, room.bytes-long)) e), refl, refl)
 

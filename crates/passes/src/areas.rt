@@ -1,12 +1,14 @@
 // What was measured, written into both areas: refusals 11 and 12 first; only then are the areas touched, copied from the scratch areas
 // if these hold the whole, else walked again. What the functions tell: specs/told/AreaTold.antt.
 ghost use Rattle.std.specs.Prelude.{◌≡◌, ◌≤◌, length};
+ghost use Rattle.inputs.specs.told.KindTold.{kind_number};
 ghost use Rattle.inputs.specs.told.OutcomesTold.{told};
 ghost use Rattle.declarations.specs.Payload.{payload};
 ghost use Rattle.passes.specs.Answered.{answered};
 ghost use Rattle.passes.specs.told.AreaTold.{strings, InLimits, last_of, MeasuredAt, WrittenOut};
 
 use crate::{Measured, walk};
+use inputs::Kind;
 use inputs::outcome::{Outcome, refused};
 use schema::ALLOWANCE;
 use sheet::put_all;
@@ -16,7 +18,7 @@ const TEXT_LIMIT: usize = 65534;
 
 // What was measured fits both areas: copied from the scratch areas if these hold the whole, else walked again.
 fn write_out(
-    kind: u8,
+    kind: Kind,
     measured: Measured,
     bytes: &[u8],
     d2: &[u16],
@@ -27,8 +29,8 @@ fn write_out(
     sheet: &mut [u8],
     text: &mut [u8],
 )
-    requires { InLimits bytes.now d2.now ends.now × ((last_of measured).sheet ≤ length sheet.old) × ((last_of measured).text ≤ length text.old) × MeasuredAt kind bytes.now d2.now ends.now notes.now measured scratch_sheet.now scratch_text.now }
-    ensures { WrittenOut kind (payload kind (strings d2.now ends.now) bytes.now) sheet.old sheet.new text.old text.new }
+    requires { InLimits bytes.now d2.now ends.now × ((last_of measured).sheet ≤ length sheet.old) × ((last_of measured).text ≤ length text.old) × MeasuredAt (kind_number kind) bytes.now d2.now ends.now notes.now measured scratch_sheet.now scratch_text.now }
+    ensures { WrittenOut (kind_number kind) (payload (kind_number kind) (strings d2.now ends.now) bytes.now) sheet.old sheet.new text.old text.new }
 {
     let end = measured.sections.aliases.state;
     let size = end.sheet;
@@ -53,7 +55,7 @@ fn write_out(
 
 // 11, 12, or both areas written.
 pub(crate) fn write_in(
-    kind: u8,
+    kind: Kind,
     measured: Measured,
     bytes: &[u8],
     d2: &[u16],
@@ -64,8 +66,8 @@ pub(crate) fn write_in(
     sheet: &mut [u8],
     text: &mut [u8],
 ) -> Outcome
-    requires { InLimits bytes.now d2.now ends.now × MeasuredAt kind bytes.now d2.now ends.now notes.now measured scratch_sheet.now scratch_text.now }
-    ensures { answered sheet.old text.old kind (payload kind (strings d2.now ends.now) bytes.now) ≡ told result sheet.new text.new }
+    requires { InLimits bytes.now d2.now ends.now × MeasuredAt (kind_number kind) bytes.now d2.now ends.now notes.now measured scratch_sheet.now scratch_text.now }
+    ensures { answered sheet.old text.old (kind_number kind) (payload (kind_number kind) (strings d2.now ends.now) bytes.now) ≡ told result sheet.new text.new }
 {
     let end = measured.sections.aliases.state;
     let size = end.sheet;

@@ -5,6 +5,7 @@
 
 ghost use Rattle.std.specs.Prelude.{◌≡◌, ◌-◌, ◌≤◌};
 ghost use Rattle.schema.specs.Reading.{allowance};
+ghost use Rattle.inputs.specs.told.KindTold.{kind_number};
 ghost use Rattle.declarations.specs.Payload.{payload};
 ghost use Rattle.declarations.specs.told.PayloadTold.{LentAt, LentRoom};
 ghost use Rattle.declarations.specs.told.BodyTold.{BodyTold};
@@ -18,6 +19,7 @@ use areas::write_in;
 use declarations::body::{Sections, body_in};
 use declarations::payload::open_lent;
 use encoding::{DecodeError, decode};
+use inputs::Kind;
 use inputs::outcome::{Outcome, refused, stop_refusal};
 use names::records::IndexError;
 use schema::{ALLOWANCE, Section, Stop, Tables};
@@ -70,7 +72,7 @@ pub enum Task {
 #[derive(Clone, Copy)]
 pub struct Asked {
     pub task: Task,
-    pub kind: u8,
+    pub kind: Kind,
 }
 
 // Number, detail, both lengths and the types; and, where a room is told, how far both areas reach after each list and how many it has.
@@ -133,7 +135,7 @@ fn told_room(measured: Measured) -> Reply
 
 // The body of the decoded bytes, from the start of two areas.
 fn walk(
-    kind: u8,
+    kind: Kind,
     at: usize,
     tables: Tables,
     bytes: &[u8],
@@ -144,7 +146,7 @@ fn walk(
     text: &mut [u8],
 ) -> Result<Sections, Stop>
     requires { InLimits bytes.now d2.now ends.now × LentAt bytes.now d2.now ends.now notes.now at tables }
-    ensures { BodyTold kind (payload kind (strings d2.now ends.now) bytes.now) definition.start result sheet.old sheet.new text.old text.new }
+    ensures { BodyTold (kind_number kind) (payload (kind_number kind) (strings d2.now ends.now) bytes.now) definition.start result sheet.old sheet.new text.old text.new }
 {
     body_in(
         kind,
@@ -163,7 +165,7 @@ fn walk(
 
 // Refusals 7 to 10, both lengths and the types, with no area touched but the scratch.
 fn measure(
-    kind: u8,
+    kind: Kind,
     bytes: &[u8],
     d2: &[u16],
     ends: &[u32],
@@ -172,7 +174,7 @@ fn measure(
     scratch_text: &mut [u8],
 ) -> Result<Measured, PassError>
     requires { InLimits bytes.now d2.now ends.now }
-    ensures { FirstTold kind bytes.now d2.now ends.now notes.new result scratch_sheet.new scratch_text.new }
+    ensures { FirstTold (kind_number kind) bytes.now d2.now ends.now notes.new result scratch_sheet.new scratch_text.new }
 {
     let opened = open_lent(bytes, d2, ends, notes)?;
     let sections = walk(
@@ -206,7 +208,7 @@ fn read_in(
     text: &mut [u8],
 ) -> Option<Reply>
     requires { InLimits bytes.now d2.now ends.now }
-    ensures { PassedTold asked (payload asked.kind (strings d2.now ends.now) bytes.now) (LentRoom bytes.now notes.new) result sheet.old sheet.new text.old text.new }
+    ensures { PassedTold asked (payload (kind_number asked.kind) (strings d2.now ends.now) bytes.now) (LentRoom bytes.now notes.new) result sheet.old sheet.new text.old text.new }
 {
     let first = measure(
         asked.kind,
@@ -255,7 +257,7 @@ pub fn decode_in(
     text: &mut [u8],
 ) -> Option<Reply>
     requires { InLimits d1.now d2.now ends.now }
-    ensures { PassedTold asked (reading_of asked.kind d1.now d2.now ends.now) (FrameRoom d1.now bytes.new notes.new) result sheet.old sheet.new text.old text.new }
+    ensures { PassedTold asked (reading_of (kind_number asked.kind) d1.now d2.now ends.now) (FrameRoom d1.now bytes.new notes.new) result sheet.old sheet.new text.old text.new }
 {
     match decode(d1, bytes) {
         Ok(length) => read_in(
