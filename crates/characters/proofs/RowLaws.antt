@@ -5,8 +5,8 @@ use mathlib.Core.Bool.{Bool, true, false, ◌||◌}
 use mathlib.Core.List.{List, [], ◌∷◌, Memᴰ}
 use mathlib.Core.Option.{Option, none, some}
 use Prim.Native.Nat.{ℕ, zero, suc, ◌+◌, ◌-◌, ◌*◌, ◌%◌, ◌^◌, ◌≤◌, ◌<◌}
-use native.Mathlib.Nat.{le_trans, mod-lt, add-zero, pow-suc, one-le-pow, mul-le-mul_right, mul-le-mul_left}
-use native.Mathlib.Numerals.{add-one, sub-one}
+use native.Mathlib.Nat.{le_trans, pow-le-pow_right, mod-lt, add-zero, pow-suc, one-le-pow, mul-le-mul_right, mul-le-mul_left}
+use native.Mathlib.Numerals.{add-one}
 use native.Mathlib.Omega.{arith}
 use borrow.Author.Tests.{ltb-true}
 use lib.Dec.{T, eqb, leb, ltb, ltb→lt, leb→le, eqb-zero-suc, eqb-suc-suc}
@@ -17,7 +17,7 @@ use Rattle.foundation.specs.Choices.{All, IfSome, map_option, if_some}
 use Rattle.characters.specs.Characters.{between, Range, ◌to◌, in_range, trail, Lead, ◌then◌, leads, lead_of, run, leading, step, step_by, replacement}
 use Rattle.characters.specs.told.CharactersTold.{character_read, LeadByte, lead_byte, lead_byte_of, ranges, go_on, utf8_at}
 use Rattle.std.specs.declared.option.Option.TheVariants.{None}
-use Rattle.characters.proofs.TestLaws.{in_between, bounds, above, under}
+use Rattle.characters.proofs.TestLaws.{below, in_between, bounds, above, under}
 use Rattle.foundation.proofs.EveryLaws.{every, every_all, some_map}
 use Rattle.characters.proofs.Utf8Laws.{lead_of_lem}
 use Rattle.characters.proofs.StepLaws.{alone, lead_found}
@@ -155,22 +155,27 @@ module _ (s : List ℕ) (i code : ℕ) where
     goes-wrong zero low high l p = absurd (omega arith)
     goes-wrong (suc k) low high l p = rw (drop-cons s i 0 h, ← e, p, eqb-zero-suc (length (replicate k trail))) (ap (character_read replacement) (add-zero i))
 
-    pub goes_on_lem : (k low high : ℕ) → 0 < k → between low high b ≡ true
-        → go_on (ranges k low high) code i (drop i s) ≡ go_on (ranges (k - 1) 0x80 0xbf) (code * 64 + b % 64) (i + 1) (drop (i + 1) s)
+    pub goes_on_lem : (k less low high : ℕ) → k ≡ suc less → between low high b ≡ true
+        → go_on (ranges k low high) code i (drop i s) ≡ go_on (ranges less 0x80 0xbf) (code * 64 + b % 64) (i + 1) (drop (i + 1) s)
     unfolding go_on run
-    goes_on_lem zero low high l p = absurd (omega arith)
-    goes_on_lem (suc k) low high l p =
-        let n = run (replicate k trail) (drop (suc i) s) in
+    goes_on_lem k less low high l p =
+        let n = run (replicate less trail) (drop (suc i) s) in
         let j : i + suc n ≡ suc i + n = omega arith in
-        rw (drop-cons s i 0 h, ← e, p, sub-one, add-one i, ranges-trail k, eqb-suc-suc n (length (replicate k trail)), j)
+        rw (l, drop-cons s i 0 h, ← e, p, add-one i, ranges-trail less, eqb-suc-suc n (length (replicate less trail)), j)
 
 -- The number stays below 2^24.
-pub code_grows : (code b k : ℕ) → 0 < k → (code + 1) * 64 ^ k ≤ 2 ^ 24 → (code * 64 + b % 64 + 1) * 64 ^ (k - 1) ≤ 2 ^ 24
-code_grows code b zero l h = absurd (omega arith)
-code_grows code b (suc k) l h =
-    let g : (code + 1) * (64 ^ k * 64) ≤ 2 ^ 24 = rw (pow-suc 64 k) at h in
+pub code_grows : (code b k less : ℕ) → k ≡ suc less → (code + 1) * 64 ^ k ≤ 2 ^ 24 → (code * 64 + b % 64 + 1) * 64 ^ less ≤ 2 ^ 24
+code_grows code b k less l h =
+    let g : (code + 1) * (64 ^ less * 64) ≤ 2 ^ 24 = rw (l, pow-suc 64 less) at h in
     let m : code * 64 + b % 64 + 1 ≤ (code + 1) * 64 = omega arith in
-    rw sub-one (omega (arith, mul-le-mul_right (64 ^ k) m))
+    omega (arith, mul-le-mul_right (64 ^ less) m)
 
 pub code_bound : (code k : ℕ) → (code + 1) * 64 ^ k ≤ 2 ^ 24 → code < 2 ^ 24
 code_bound code k h = omega (arith, mul-le-mul_left (code + 1) (one-le-pow k 64 (omega arith)))
+
+-- so few bytes follow
+pub code_few : (code k : ℕ) → (code + 1) * 64 ^ k ≤ 2 ^ 24 → k ≤ 4
+code_few code k h = below 5 k (λ l. omega arith) λ l. absurd (omega (arith, pow-le-pow_right {n = 64} (omega arith) l, mul-le-mul_right (64 ^ k) (one_more code)))
+  where
+    one_more : (n : ℕ) → 1 ≤ n + 1
+    one_more n = omega arith

@@ -17,6 +17,7 @@ use Rattle.characters.specs.told.Sizes.{unit_size, units_size}
 use Rattle.characters.proofs.TestLaws.{below, bounds, under, above, within}
 use Rattle.characters.proofs.Utf8Laws.{by_width}
 use Rattle.characters.proofs.LengthLaws.{bytes_cons}
+use Rattle.characters.proofs.PartLaws.{rest-is}
 use Rattle.characters.proofs.UnitLaws.{units-cons, units-ended}
 
 -- Widths of characters by where they lie.
@@ -162,29 +163,30 @@ module _ {s : List ℕ} {from to i size : ℕ} (g : Summing s from to i size) wh
     }
 
 -- The same up to a text's last unit.
-pub record Measuring (s : List ℕ) (start end i size : ℕ) : Type 0 where
-  pub inside : i < end
-  pub sums : size + units_size (part_from i end s) ≡ units_size (part_from start end s)
+pub record Measuring (s : List ℕ) (i size : ℕ) : Type 0 where
+  pub inside : i < length s
+  pub sums : size + units_size (part_from i (length s) s) ≡ units_size s
 
-pub measuring_start : (s : List ℕ) (start end : ℕ) → start < end → Measuring s start end start 0
-measuring_start s start end h = record { inside = h; sums = zero-add (units_size (part_from start end s)) }
+pub measuring_start : (s : List ℕ) → 0 < length s → Measuring s 0 0
+measuring_start s h = record { inside = h; sums = zero-add (units_size (part_from 0 (length s) s)) ∙ ap units_size (rest-is s 0) }
 
-module _ {s : List ℕ} {start end i size : ℕ} (g : Measuring s start end i size) where
-  module _ (to r : ℕ) {w : ℕ} (h : to < end) (l : end ≤ length s)
+module _ {s : List ℕ} {i size : ℕ} (g : Measuring s i size) where
+  module _ (to r : ℕ) {w : ℕ} (h : to < length s)
       (a : (e : ℕ) → to < e → e ≤ length s → r + units_size (part_from to e s) ≡ units_size (part_from i e s)) (b : w ≡ r) where
-    pub measuring-next : Measuring s start end to (size + w)
-    measuring-next = record { inside = h; sums = let f = a end h l in omega (arith, g.sums) }
+    pub measuring-next : Measuring s to (size + w)
+    measuring-next = record { inside = h; sums = let f = a (length s) h (le_refl (length s)) in omega (arith, g.sums) }
 
-  pub measuring-fits : (K : ℕ) → length (utf8 (from_utf16 (part_from start end s))) < K → size < K
-  measuring-fits K h = let f = size_is (part_from start end s) in omega (arith, g.sums)
+  pub measuring-fits : (K : ℕ) → length (utf8 (from_utf16 s)) < K → size < K
+  measuring-fits K h = let f = size_is s in omega (arith, g.sums)
 
-  module _ (r : ℕ) {w : ℕ} (h : i + 1 ≡ end) (l : end ≤ length s) (a : (r ≡ unit_size (get_or s i 0) 0) × (r ≤ 3)) (b : w ≡ r) where
-    pub measuring-end : size + w ≡ length (utf8 (from_utf16 (part_from start end s)))
-    measuring-end = let f = size-last s i end h l in omega (arith, g.sums, size_is (part_from start end s), a.0)
+  module _ (r : ℕ) {w : ℕ} (h : i + 1 ≡ length s) (a : (r ≡ unit_size (get_or s i 0) 0) × (r ≤ 3)) (b : w ≡ r) where
+    pub measuring-end : size + w ≡ length (utf8 (from_utf16 s))
+    measuring-end = let f = size-last s i (length s) h (le_refl (length s)) in omega (arith, g.sums, size_is s, a.0)
 
-    pub measuring-whole : (K : ℕ) → length (utf8 (from_utf16 (part_from start end s))) < K → size + w < K
+    pub measuring-whole : (K : ℕ) → length (utf8 (from_utf16 s)) < K → size + w < K
     measuring-whole K k = omega (arith, measuring-end)
 
-pub measuring_none : (s : List ℕ) (start end : ℕ) → end ≤ start → 0 ≡ length (utf8 (from_utf16 (part_from start end s)))
+pub measuring_none : (s : List ℕ) → length s ≡ 0 → 0 ≡ length (utf8 (from_utf16 s))
 unfolding from_utf16 utf8
-measuring_none s start end h = rw (units-ended s start end h)
+measuring_none [] h = refl
+measuring_none (u ∷ s) h = absurd (omega arith)

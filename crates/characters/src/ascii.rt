@@ -14,7 +14,7 @@ pub fn ascii_units(units: &[u16]) -> bool
     all < 128
 }
 
-// Is every byte? A loop of its own: sixteen bits a byte would halve its speed.
+// Is every byte? A loop of its own: one for both would need laws of `|` on any number, for three lines.
 pub fn ascii_bytes(s: &[u8]) -> bool
     ensures { result ≡ is_ascii s.now }
 {
@@ -25,6 +25,7 @@ pub fn ascii_bytes(s: &[u8]) -> bool
     all < 128
 }
 
+// This and the next two are names::name's of 32-bit numbers: for both at once they would need a trait of their literals.
 fn instead(from: u8, to: u8, c: u8) -> u8
     ensures { result ≡ instead from to c }
 {

@@ -72,9 +72,8 @@ fn go_on(s: &[u8], at: usize, first: FirstByte) -> Option<Read<u32>>
     let mut code = first.bits;
     let mut low = first.low;
     let mut high = first.high;
-    let mut left = first.following;
-    let mut i = at;
-    while 0 < left {
+    let next = at + first.following;
+    for i in at..next {
         if s.len() <= i {
             return replaced(i);
         }
@@ -85,13 +84,8 @@ fn go_on(s: &[u8], at: usize, first: FirstByte) -> Option<Read<u32>>
         code = code * 64 + byte % 64;
         low = 0x80;
         high = 0xbf;
-        left -= 1;
-        i += 1;
     }
-    Some(Read {
-        value: code,
-        next: i,
-    })
+    Some(Read { value: code, next })
 }
 
 // The character at a place. Most have one byte.

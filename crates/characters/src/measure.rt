@@ -40,18 +40,18 @@ fn block_size(units: &[u16], from: usize, to: usize) -> u16
     size
 }
 
-// How many bytes UTF-8 gives the text of the units from `start` to `end`.
-// Callers show that `end` isn't past the units, by a test, and that the number fits 64 bits: names::stream and lookup::strings by what they require.
-pub fn utf8_size(units: &[u16], start: usize, end: usize) -> usize
-    requires { (end ≤ length units.now) × (length (utf8 (from_utf16 (part_from start end units.now))) < 2 ^ 64) }
-    ensures { result ≡ length (utf8 (from_utf16 (part_from start end units.now))) }
+// How many bytes UTF-8 gives the text of some units.
+// Callers show that the number fits 64 bits: names::stream and lookup::strings by what they require.
+pub fn utf8_size(units: &[u16]) -> usize
+    requires { length (utf8 (from_utf16 units.now)) < 2 ^ 64 }
+    ensures { result ≡ length (utf8 (from_utf16 units.now)) }
 {
-    if end <= start {
+    if units.is_empty() {
         return 0;
     }
-    let last = end - 1;
-    let mut size: usize = 0;
-    let mut i = start;
+    let last = units.len() - 1;
+    let mut size = 0;
+    let mut i = 0;
     while 16384 < last - i {
         size += usize::from(block_size(units, i, i + 16384));
         i += 16384;

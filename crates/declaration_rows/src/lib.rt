@@ -11,7 +11,7 @@ ghost use Rattle.names.specs.told.Name.{name_text};
 ghost use Rattle.sheet.specs.Rows.{num, ref, bit, row, body_bytes};
 ghost use Rattle.sheet.specs.told.Put.{PutCells, PutHead, PutRows};
 ghost use Rattle.declaration_rows.specs.Rows.{name_cell, signature_cells};
-ghost use Rattle.declaration_rows.specs.told.Written.{RecordRoom, signature_by, init_by, head_cells, head_counts, constructor_cells, function_cells, property_flags, property_signatures, property_cells, parameter_cells, alias_cells};
+ghost use Rattle.declaration_rows.specs.told.Written.{RecordRoom, kind_told, signature_by, init_by, head_cells, head_counts, constructor_cells, function_cells, property_flags, property_signatures, property_cells, parameter_cells, alias_cells};
 
 use names::name::{Name, is_there};
 use names::stream::put_name;
@@ -32,6 +32,19 @@ pub const ARGUMENT_ROLE: u8 = 5;
 pub const UNDERLYING_ROLE: u8 = 6;
 
 pub const EXPANDED_ROLE: u8 = 7;
+
+// The kinds of records that are written here.
+#[derive(Clone, Copy)]
+enum Record {
+    Head = 1,
+    Constructor = 2,
+    Function = 3,
+    Property = 4,
+    Parameter = 5,
+    Default = 7,
+    Alias = 8,
+    Aliases = 9,
+}
 
 // The two names of a signature. It is there if both are.
 #[derive(Clone, Copy)]
@@ -68,30 +81,34 @@ pub fn put_named(
         put_absent(sheet, at);
         return State {
             sheet: at + 4,
-            text: offset,
-            types: state.types,
+            ..state
         };
     }
-    let next = put_name(&*payload, &*d2, name, false, text, offset);
+    let next = put_name(payload, d2, name, false, text, offset);
     put_ref(sheet, at, offset as u64, (next - offset) as u64);
     State {
         sheet: at + 4,
         text: next,
-        types: state.types,
+        ..state
     }
 }
 
+fn number_of(kind: Record) -> u8
+    ensures { result ≡ kind_told kind }
+{
+    kind as u8
+}
+
 // A record begins: its kind.
-fn put_kind(kind: u8, state: State, sheet: &mut [u8]) -> State
+fn put_kind(kind: Record, state: State, sheet: &mut [u8]) -> State
     requires { state.sheet ≤ 2 ^ 63 }
-    ensures { (T : List ℕ) → PutHead kind [] state.types state result sheet.old sheet.new T T }
+    ensures { (T : List ℕ) → PutHead (kind_told kind) [] state.types state result sheet.old sheet.new T T }
 {
     let at = state.sheet;
-    put(sheet, at, kind);
+    put(sheet, at, number_of(kind));
     State {
         sheet: at + 1,
-        text: state.text,
-        types: state.types,
+        ..state
     }
 }
 
@@ -104,12 +121,11 @@ fn put_wide(width: usize, n: u64, state: State, sheet: &mut [u8]) -> State
     put_number(sheet, at, width, n);
     State {
         sheet: at + width,
-        text: state.text,
-        types: state.types,
+        ..state
     }
 }
 
-// 0 or 1.
+// 0 or 1: a cell of a record, where `put_kind` begins one.
 fn put_flag(on: bool, state: State, sheet: &mut [u8]) -> State
     requires { state.sheet ≤ 2 ^ 63 }
     ensures { (T : List ℕ) → PutCells (bit on ∷ []) state.types state result sheet.old sheet.new T T }
@@ -118,8 +134,7 @@ fn put_flag(on: bool, state: State, sheet: &mut [u8]) -> State
     put_bit(sheet, at, on);
     State {
         sheet: at + 1,
-        text: state.text,
-        types: state.types,
+        ..state
     }
 }
 
@@ -133,8 +148,7 @@ fn put_unsigned(state: State, sheet: &mut [u8]) -> State
     put_absent(sheet, at + 4);
     State {
         sheet: at + 8,
-        text: state.text,
-        types: state.types,
+        ..state
     }
 }
 
@@ -158,8 +172,8 @@ fn put_signature(
     if !is_there(descriptor) {
         return put_unsigned(state, sheet);
     }
-    let next = put_named(&*payload, &*d2, name, state, sheet, text);
-    put_named(&*payload, &*d2, descriptor, next, sheet, text)
+    let next = put_named(payload, d2, name, state, sheet, text);
+    put_named(payload, d2, descriptor, next, sheet, text)
 }
 
 // The name of a constructor whose signature has none.
@@ -174,7 +188,7 @@ fn put_init(state: State, sheet: &mut [u8], text: &mut [u8]) -> State
     State {
         sheet: at + 4,
         text: offset + 6,
-        types: state.types,
+        ..state
     }
 }
 
@@ -193,13 +207,13 @@ fn put_init_signature(
     let name = signature.name;
     let descriptor = signature.descriptor;
     if is_there(name) {
-        return put_signature(&*payload, &*d2, signature, state, sheet, text);
+        return put_signature(payload, d2, signature, state, sheet, text);
     }
     if !is_there(descriptor) {
         return put_unsigned(state, sheet);
     }
     let next = put_init(state, sheet, text);
-    put_named(&*payload, &*d2, descriptor, next, sheet, text)
+    put_named(payload, d2, descriptor, next, sheet, text)
 }
 
 // Kind 2, up to the parameter count.
@@ -216,9 +230,9 @@ pub fn put_constructor(
     requires { RecordRoom (2 ^ 61) payload.now d2.now state }
     ensures { PutHead 2 (constructor_cells flags (init_by payload.now d2.now signature)) state.types state result sheet.old sheet.new text.old text.new }
 {
-    let begun = put_kind(2, state, sheet);
+    let begun = put_kind(Record::Constructor, state, sheet);
     let flagged = put_wide(8, flags, begun, sheet);
-    put_init_signature(&*payload, &*d2, signature, flagged, sheet, text)
+    put_init_signature(payload, d2, signature, flagged, sheet, text)
 }
 
 // Kind 3, up to the parameter count.
@@ -237,10 +251,10 @@ pub fn put_function(
     requires { RecordRoom (2 ^ 61) payload.now d2.now state }
     ensures { PutHead 3 (function_cells (name_text payload.now d2.now name) flags (signature_by payload.now d2.now signature) receiver) state.types state result sheet.old sheet.new text.old text.new }
 {
-    let begun = put_kind(3, state, sheet);
-    let named = put_named(&*payload, &*d2, name, begun, sheet, text);
+    let begun = put_kind(Record::Function, state, sheet);
+    let named = put_named(payload, d2, name, begun, sheet, text);
     let flagged = put_wide(8, flags, named, sheet);
-    let signed = put_signature(&*payload, &*d2, signature, flagged, sheet, text);
+    let signed = put_signature(payload, d2, signature, flagged, sheet, text);
     put_flag(receiver, signed, sheet)
 }
 
@@ -269,9 +283,9 @@ fn put_property_signatures(
     requires { RecordRoom (2 ^ 61 + 2 ^ 60) payload.now d2.now state }
     ensures { PutCells (property_signatures (signature_by payload.now d2.now field) (signature_by payload.now d2.now getter) (signature_by payload.now d2.now setter)) state.types state result sheet.old sheet.new text.old text.new }
 {
-    let first = put_signature(&*payload, &*d2, field, state, sheet, text);
-    let second = put_signature(&*payload, &*d2, getter, first, sheet, text);
-    put_signature(&*payload, &*d2, setter, second, sheet, text)
+    let first = put_signature(payload, d2, field, state, sheet, text);
+    let second = put_signature(payload, d2, getter, first, sheet, text);
+    put_signature(payload, d2, setter, second, sheet, text)
 }
 
 // Kind 4, whole.
@@ -291,10 +305,10 @@ pub fn put_property(
     requires { RecordRoom (2 ^ 61) payload.now d2.now state }
     ensures { PutRows (row 4 (property_cells (name_text payload.now d2.now name) flags.word flags.receiver flags.getter flags.setter (signature_by payload.now d2.now field) (signature_by payload.now d2.now getter) (signature_by payload.now d2.now setter)) ∷ []) state.types state result sheet.old sheet.new text.old text.new }
 {
-    let begun = put_kind(4, state, sheet);
-    let named = put_named(&*payload, &*d2, name, begun, sheet, text);
+    let begun = put_kind(Record::Property, state, sheet);
+    let named = put_named(payload, d2, name, begun, sheet, text);
     let flagged = put_property_flags(flags, named, sheet);
-    put_property_signatures(&*payload, &*d2, field, getter, setter, flagged, sheet, text)
+    put_property_signatures(payload, d2, field, getter, setter, flagged, sheet, text)
 }
 
 // Kind 5, whole.
@@ -311,8 +325,8 @@ pub fn put_parameter(
     requires { RecordRoom (2 ^ 61) payload.now d2.now state }
     ensures { PutRows (row 5 (parameter_cells (name_text payload.now d2.now name) default) ∷ []) state.types state result sheet.old sheet.new text.old text.new }
 {
-    let begun = put_kind(5, state, sheet);
-    let named = put_named(&*payload, &*d2, name, begun, sheet, text);
+    let begun = put_kind(Record::Parameter, state, sheet);
+    let named = put_named(payload, d2, name, begun, sheet, text);
     put_flag(default, named, sheet)
 }
 
@@ -330,8 +344,8 @@ pub fn put_alias(
     requires { RecordRoom (2 ^ 61) payload.now d2.now state }
     ensures { PutRows (row 8 (alias_cells (name_text payload.now d2.now name) flags) ∷ []) state.types state result sheet.old sheet.new text.old text.new }
 {
-    let begun = put_kind(8, state, sheet);
-    let named = put_named(&*payload, &*d2, name, begun, sheet, text);
+    let begun = put_kind(Record::Alias, state, sheet);
+    let named = put_named(payload, d2, name, begun, sheet, text);
     put_wide(8, flags, named, sheet)
 }
 
@@ -341,7 +355,7 @@ pub fn put_aliases(state: State, sheet: &mut [u8]) -> State
     requires { state.sheet ≤ 2 ^ 61 }
     ensures { (T : List ℕ) → PutHead 9 [] state.types state result sheet.old sheet.new T T }
 {
-    put_kind(9, state, sheet)
+    put_kind(Record::Aliases, state, sheet)
 }
 
 // Kind 7 for a constructor or function without a default descriptor.
@@ -350,13 +364,12 @@ pub fn put_default_absent(state: State, sheet: &mut [u8]) -> State
     requires { state.sheet ≤ 2 ^ 61 }
     ensures { (T : List ℕ) → PutRows (row 7 (ref none ∷ []) ∷ []) state.types state result sheet.old sheet.new T T }
 {
-    let begun = put_kind(7, state, sheet);
+    let begun = put_kind(Record::Default, state, sheet);
     let at = begun.sheet;
     put_absent(sheet, at);
     State {
         sheet: at + 4,
-        text: state.text,
-        types: state.types,
+        ..state
     }
 }
 
@@ -366,14 +379,14 @@ pub fn put_default(size: usize, state: State, sheet: &mut [u8]) -> State
     requires { state.sheet + state.text + size ≤ 2 ^ 61 }
     ensures { (d T T' : List ℕ) → length d ≡ size → T' ≡ sets T state.text d → PutRows (row 7 (ref (some d) ∷ []) ∷ []) state.types state result sheet.old sheet.new T T' }
 {
-    let begun = put_kind(7, state, sheet);
+    let begun = put_kind(Record::Default, state, sheet);
     let at = begun.sheet;
     let offset = state.text;
     put_ref(sheet, at, offset as u64, size as u64);
     State {
         sheet: at + 4,
         text: offset + size,
-        types: state.types,
+        ..state
     }
 }
 
@@ -392,9 +405,9 @@ pub fn put_head(
     requires { RecordRoom (2 ^ 61) payload.now d2.now state }
     ensures { PutHead 1 (head_cells kind (name_text payload.now d2.now name) flags) state.types state result sheet.old sheet.new text.old text.new }
 {
-    let begun = put_kind(1, state, sheet);
+    let begun = put_kind(Record::Head, state, sheet);
     let told = put_wide(1, kind as u64, begun, sheet);
-    let named = put_named(&*payload, &*d2, name, told, sheet, text);
+    let named = put_named(payload, d2, name, told, sheet, text);
     put_wide(8, flags, named, sheet)
 }
 

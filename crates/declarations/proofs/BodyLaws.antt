@@ -31,7 +31,7 @@ use Rattle.declaration_rows.proofs.RecordLaws.{head-put, aliases-put}
 use Rattle.schema.specs.Reading.{Scope, class_name_in}
 use Rattle.schema.specs.Members.{flags_in, list_in, constructor_in, function_in, property_in, alias_in, head, constructors_in, function_field, property_field, alias_field, lists_in, after_table}
 use Rattle.schema.specs.told.SchemaTold.{Lent, NamesOf, Scoped}
-use Rattle.schema.specs.told.MembersTold.{Listed, section, Affords, Within, ListedTold, ListTold}
+use Rattle.schema.specs.told.MembersTold.{ListWalked, section, Affords, Within, ListedTold, ListTold}
 use Rattle.schema.specs.declared.Section.{Section}
 use Rattle.schema.specs.declared.Stop.{Stop}
 use Rattle.schema.proofs.CountLaws.{within_none, within_less, within_then, past-within, affords-less, affords-after, affords-places, head-within}
@@ -87,7 +87,7 @@ module _ (e : Lent) (msg : List ℕ) (base : ℕ) (class : Bool) (s : State) (S 
     is = λ c w m f. ([], s.types, rw g, refl, put_none s S T);
   }
 
-  pub constructors-class : (r : Listed) {S' T' : List ℕ} → class ≡ true
+  pub constructors-class : (r : ListWalked) {S' T' : List ℕ} → class ≡ true
       → ListTold constructor_in closed_constructor (list_cost (length msg)) e msg base Class-constructor s r S S' T T'
       → ConstructorsTold class e msg base s r S S' T T'
   constructors-class r {S'} {T'} g t = record {
@@ -159,7 +159,7 @@ reached_then rs qs {s} p q = record {
 module _ {payload d2 : List ℕ} (e : Lent) (msg : List ℕ) (base : ℕ) (class : Bool) {s s₁ : State} {S S₁ T : List ℕ}
     (a : Affords payload d2 (aliases_cost (length msg)) s) (p : PutHead 9 [] s.types s s₁ S S₁ T T)
     (F : ℕ) (u : F ≡ alias_field class) where
-  listed-is : {y : Listed} {S₂ T₂ : List ℕ} → ListTold alias_in alias_rows (list_cost (length msg)) e msg base F (past 2 s₁) y S₁ S₂ T T₂
+  listed-is : {y : ListWalked} {S₂ T₂ : List ℕ} → ListTold alias_in alias_rows (list_cost (length msg)) e msg base F (past 2 s₁) y S₁ S₂ T T₂
       → (c : Scope) → Scoped e c → (m : Message) → cut (◌from◌ base msg) ≡ ok m
       → ListedTold (list_in (alias_in c) (alias_field class) m s.types) alias_rows (past 2 s₁) y S₁ S₂ T T₂
   listed-is {y} {S₂} {T₂} t c w m f =
@@ -188,7 +188,7 @@ module _ (e : Lent) (msg : List ℕ) (base : ℕ) (class : Bool) (s : State) {S 
   constructors-refused t c w m f h = rw (t.is c w m f)
 
   module _ {x₁ : Section} (t₁ : ConstructorsTold class e msg base s (Ok x₁) S S₁ T T₁) (F : ℕ) (u : F ≡ function_field class) where
-    called : (c : Scope) (w : Scoped e c) (m : Message) (f : cut (◌from◌ base msg) ≡ ok m) {n : ℕ} {y : Listed} {S₂ T₂ : List ℕ}
+    called : (c : Scope) (w : Scoped e c) (m : Message) (f : cut (◌from◌ base msg) ≡ ok m) {n : ℕ} {y : ListWalked} {S₂ T₂ : List ℕ}
         → ListTold function_in closed_function n e msg base F x₁.state y S₁ S₂ T₁ T₂
         → ListedTold (list_in (function_in c) (function_field class) m (t₁.is c w m f).1) closed_function x₁.state y S₁ S₂ T₁ T₂
     called c w m f {n} {y} {S₂} {T₂} t =
@@ -203,7 +203,7 @@ module _ (e : Lent) (msg : List ℕ) (base : ℕ) (class : Bool) (s : State) {S 
 
     module _ {n : ℕ} {x₂ : Section} {S₂ T₂ : List ℕ} (t₂ : ListTold function_in closed_function n e msg base F x₁.state (Ok x₂) S₁ S₂ T₁ T₂)
         (P : ℕ) (v : P ≡ property_field class) where
-      held : (c : Scope) (w : Scoped e c) (m : Message) (f : cut (◌from◌ base msg) ≡ ok m) {k : ℕ} {y : Listed} {S₃ T₃ : List ℕ}
+      held : (c : Scope) (w : Scoped e c) (m : Message) (f : cut (◌from◌ base msg) ≡ ok m) {k : ℕ} {y : ListWalked} {S₃ T₃ : List ℕ}
           → ListTold property_in property_rows k e msg base P x₂.state y S₂ S₃ T₂ T₃
           → ListedTold (list_in (property_in c) (property_field class) m (called c w m f t₂).1) property_rows x₂.state y S₂ S₃ T₂ T₃
       held c w m f {k} {y} {S₃} {T₃} t =
@@ -217,7 +217,7 @@ module _ (e : Lent) (msg : List ℕ) (base : ℕ) (class : Bool) (s : State) {S 
       properties-refused t c w m f h = rw ((t₁.is c w m f).2, (called c w m f t₂).2, held c w m f t)
 
       module _ {k : ℕ} {x₃ : Section} {S₃ T₃ : List ℕ} (t₃ : ListTold property_in property_rows k e msg base P x₂.state (Ok x₃) S₂ S₃ T₂ T₃) where
-        aliased : (c : Scope) (w : Scoped e c) (m : Message) (f : cut (◌from◌ base msg) ≡ ok m) {y : Listed} {S₄ T₄ : List ℕ}
+        aliased : (c : Scope) (w : Scoped e c) (m : Message) (f : cut (◌from◌ base msg) ≡ ok m) {y : ListWalked} {S₄ T₄ : List ℕ}
             → AliasesTold class e msg base x₃.state y S₃ S₄ T₃ T₄
             → AliasesAre (list_in (alias_in c) (alias_field class) m (held c w m f t₃).1) x₃.state y S₃ S₄ T₃ T₄
         aliased c w m f {y} {S₄} {T₄} t =

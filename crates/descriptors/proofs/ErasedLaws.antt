@@ -47,14 +47,15 @@ use Rattle.schema.proofs.StandsLaws.{stands-cut}
 use Rattle.schema.proofs.FoundLaws.{bind_given, first-same}
 use Rattle.schema.proofs.GivenLaws.{Entered, type_entered}
 use Rattle.erasure.specs.Erasure.{slashed, meaning_of, Erased, class, array_of, first_erased, erased, of_type, erased_return, print, print_returned}
-use Rattle.erasure.specs.told.ErasureTold.{Means, PutSized, PutPart, fixed_part, part_at, printed_told, PrintsAs}
+use Rattle.erasure.specs.told.ErasureTold.{Means, PutSized, PutPart, fixed_told, part_at, printed_told, PrintsAs}
 use Rattle.erasure.specs.declared.Meaning.{Meaning}
 use Rattle.erasure.specs.declared.Meaning.TheVariants.{Other}
 use Rattle.erasure.specs.declared.Position.{Position}
 use Rattle.erasure.specs.declared.Position.TheVariants.{Parameter, Element, Return}
+use Rattle.erasure.specs.declared.Part.{Part}
 use Rattle.erasure.specs.declared.Printed.{Printed}
 use Rattle.erasure.specs.declared.Printed.TheVariants as prints
-use Rattle.erasure.proofs.ListedLaws.{too_long, no_kotlin, means-past}
+use Rattle.erasure.proofs.ListedLaws.{too_long, no_kotlin, means_none}
 use Rattle.erasure.proofs.PartLaws.{first-at, element_at, return_at, part-told, part-short}
 use Rattle.descriptors.specs.told.DefaultsTold.{erased_at}
 use Rattle.descriptors.specs.told.ErasedTold.{TypePartIs, PrintedPut, TypePartTold}
@@ -98,12 +99,12 @@ not_listed payload d2 name s {h} e {code} {rest} f {c} q g =
     ∙ ap (source_bytes name.size h) (source-units payload d2 name s ∙ ap some f) in
     let other : get_or (name_bytes payload d2 name true) 0 0 ≡ 0x6b → ⊥ =
     λ k. g (q ∙ sized-first name.size (changed h code) (map (changed h) rest) (ap (λ (l : List ℕ). get_or l 0 0) (sym bytes) ∙ k)) in
-    means-past (name_bytes payload d2 name true) 36 (no_kotlin other) (omega arith)
+    means_none (name_bytes payload d2 name true) (no_kotlin other)
 
 -- What a name means, by its bytes in an area that holds every listed name.
 module _ (bytes : List ℕ) {before area : List ℕ} {size : ℕ} (p : stream.PutText bytes 0 size before area) where
   pub means-long : 36 < size → Means bytes Other
-  means-long h = means-past bytes 36 (too_long (omega (arith, p.place))) (omega arith)
+  means-long h = means_none bytes (too_long (omega (arith, p.place)))
 
   short-taken : length before ≡ 36 → size ≤ 36 → take size area ≡ bytes
   short-taken f h =
@@ -145,10 +146,10 @@ by_answer : {x y : std.Option Printed} → x ≡ y → (n : Text) (inner : Optio
 by_answer e n inner = ap (λ (y : std.Option Printed). map_option print_returned (printed_told (slashed n) inner y)) e
 
 module _ (payload d2 : List ℕ) (name : Name) {printed : Printed} {at : ℕ} {A A' : List ℕ} where
-  pub printed-fixed : {part r : ℕ} → printed ≡ prints.Fixed part → PutPart part at r A A' → PrintedPut payload d2 name printed at (type_part.Whole r) A A'
+  pub printed-fixed : {part : Part} {r : ℕ} → printed ≡ prints.Fixed part → PutPart part at r A A' → PrintedPut payload d2 name printed at (type_part.Whole r) A A'
   printed-fixed {part} e p = record {
     within = omega (arith, p.size, part-short part);
-    is = λ n g inner. (print_returned (fixed_part part), by_answer (ap Some e) n inner, p);
+    is = λ n g inner. (print_returned (fixed_told part), by_answer (ap Some e) n inner, p);
   }
 
   pub printed-array : printed ≡ prints.ThroughArray → A' ≡ set A at 0x5b → PrintedPut payload d2 name printed at type_part.Bracket A A'

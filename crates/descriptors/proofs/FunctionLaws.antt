@@ -21,8 +21,10 @@ use Rattle.schema.specs.Members.{bit_of, flags_in, receiver_in}
 use Rattle.schema.specs.told.SchemaTold.{Lent, EntryAt, Stands}
 use Rattle.schema.proofs.StandsLaws.{stands-cut}
 use Rattle.erasure.specs.Erasure.{Returned, of_type, erased_return, print, print_returned}
-use Rattle.erasure.specs.told.ErasureTold.{fixed_part, PutSized, PutPart}
+use Rattle.erasure.specs.told.ErasureTold.{fixed_told, PutSized, PutPart}
 use Rattle.erasure.specs.declared.Position.TheVariants as position
+use Rattle.erasure.specs.declared.Class.TheVariants as classes
+use Rattle.erasure.specs.declared.Part.TheVariants as parts
 use Rattle.std.specs.Prelude as std
 use Rattle.std.specs.Prelude.{Some, None}
 use Rattle.erasure.proofs.PartLaws.{part-short}
@@ -137,12 +139,10 @@ module _ {e : Lent} (msg : List ℕ) {base at : ℕ} {r : std.Option ℕ} {A A�
       (part_then receiver_part (λ f. parameters_part f.parameters) before_part before-part (part-answer w u) p))
 
 -- The parts that the code names.
-pub object-part : fixed_part 24 ≡ of_type object
-unfolding fixed_part
+pub object-part : fixed_told (parts.Class classes.Object) ≡ of_type object
 object-part = refl
 
-pub continuation-part : fixed_part 38 ≡ of_type continuation_class
-unfolding fixed_part
+pub continuation-part : fixed_told parts.Continuation ≡ of_type continuation_class
 continuation-part = refl
 
 -- What stands after them.
@@ -152,21 +152,19 @@ suspended = some (print continuation_class ++ (0x29 ∷ print object))
 abbrev returned : Function → Option (List ℕ)
 returned f = map_option (λ r. 0x29 ∷ print_returned r) (if_some f.returned none erased_return)
 
-pub suspended_put : {at first last : ℕ} {A A₁ A₂ A₃ : List ℕ} → PutPart 38 at first A A₁ → A₂ ≡ set A₁ (at + first) 0x29
-    → PutPart 24 (at + first + 1) last A₂ A₃ → PutSized (print continuation_class ++ (0x29 ∷ print object)) at (first + 1 + last) A A₃
+pub suspended_put : {at first last : ℕ} {A A₁ A₂ A₃ : List ℕ} → PutPart parts.Continuation at first A A₁ → A₂ ≡ set A₁ (at + first) 0x29
+    → PutPart (parts.Class classes.Object) (at + first + 1) last A₂ A₃ → PutSized (print continuation_class ++ (0x29 ∷ print object)) at (first + 1 + last) A A₃
 suspended_put {at} {first} {last} {A} {A₁} {A₂} {A₃} p e q =
-    let p' : PutSized (print continuation_class) at first A A₁ = rw continuation-part at p in
-    let q' : PutSized (print object) (at + first + 1) last A₂ A₃ = rw object-part at q in
+    let p' : PutSized (print continuation_class) at first A A₁ = p in
+    let q' : PutSized (print object) (at + first + 1) last A₂ A₃ = q in
     let q'' : PutSized (print object) (at + (first + 1)) last A₂ A₃ = rw add_assoc at q' in
     let all = text_then (text_then p' (text-byte e)) q'' in
     subst (λ (t : List ℕ). PutSized t at (first + 1 + last) A A₃) (append_assoc (print continuation_class) (0x29 ∷ []) (print object)) all
 
 suspended_short : length (print continuation_class ++ (0x29 ∷ print object)) ≤ 67
 suspended_short =
-    let c : length (print_returned (fixed_part 38)) ≤ 33 = part-short 38 in
-    let o : length (print_returned (fixed_part 24)) ≤ 33 = part-short 24 in
-    let c' : length (print continuation_class) ≤ 33 = rw continuation-part at c in
-    let o' : length (print object) ≤ 33 = rw object-part at o in
+    let c : length (print continuation_class) ≤ 33 = part-short parts.Continuation in
+    let o : length (print object) ≤ 33 = part-short (parts.Class classes.Object) in
     omega (arith, length-append (print continuation_class) (0x29 ∷ print object))
 
 returned-text : (o : Option Ty) → both (some (0x29 ∷ [])) (type_part position.Return o) ≡ map_option (λ r. 0x29 ∷ print_returned r) (if_some o none erased_return)

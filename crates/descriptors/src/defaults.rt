@@ -13,7 +13,7 @@ ghost use Rattle.descriptors.specs.told.DefaultsTold.{part_cost, PartWithin, Par
 ghost use Rattle.descriptors.specs.told.PartsTold.{PartRoom, PartOf, TypeGiven, type_part, FunctionGiven, receiver_part, before_part, after_part};
 
 use crate::erased::{Placement, put_erased};
-use erasure::{CONTINUATION, OBJECT, Position, put_part};
+use erasure::{Class, Part, Position, put_part};
 use fields::{
     CONSTRUCTOR_VALUE_PARAMETER, FUNCTION_FLAGS, FUNCTION_RECEIVER_TYPE, FUNCTION_RECEIVER_TYPE_ID,
     FUNCTION_RETURN_TYPE, FUNCTION_RETURN_TYPE_ID, FUNCTION_VALUE_PARAMETER, OMITTED_FLAGS,
@@ -81,10 +81,7 @@ fn parameter_parts(
 {
     let mut from = 0;
     let mut size = 0;
-    loop {
-        let Some(parameter) = next_body(msg, base, number, from) else {
-            return Some(size);
-        };
+    while let Some(parameter) = next_body(msg, base, number, from) {
         from = parameter.end;
         size += type_part(
             &msg[parameter.start..parameter.end],
@@ -104,6 +101,7 @@ fn parameter_parts(
             at + size,
         )?;
     }
+    Some(size)
 }
 
 // The default descriptor of a constructor, which returns V.
@@ -220,9 +218,9 @@ fn put_suspended(area: &mut [u8], at: usize) -> usize
     requires { at ≤ 2 ^ 61 }
     ensures { PutSized (print continuation_class ++ (0x29 ∷ print object)) at result area.old area.new }
 {
-    let first = put_part(area, at, CONTINUATION);
+    let first = put_part(area, at, Part::Continuation);
     put(area, at + first, b')');
-    let last = put_part(area, at + first + 1, OBJECT);
+    let last = put_part(area, at + first + 1, Part::Class(Class::Object));
     first + 1 + last
 }
 

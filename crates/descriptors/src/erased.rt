@@ -90,7 +90,7 @@ fn put_printed(
     ensures { PrintedPut payload.now d2.now name printed at result area.old area.new }
 {
     match printed {
-        Printed::Fixed { part } => TypePart::Whole {
+        Printed::Fixed(part) => TypePart::Whole {
             size: put_part(area, at, part),
         },
         Printed::ThroughArray => {

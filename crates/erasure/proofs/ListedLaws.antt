@@ -1,7 +1,7 @@
 -- Laws of the table's rows.
 -- Assumes nothing.
 use mathlib.Core.Path.{◌≡◌, refl, sym, ap, ◌∙◌, subst}
-use mathlib.Core.Bool.{Bool, true, false}
+use mathlib.Core.Bool.{true, false}
 use mathlib.Core.List.{List, [], ◌∷◌, ◌++◌}
 use Prim.Native.Nat.{ℕ, zero, suc, ◌+◌, ◌*◌, ◌%◌, ◌-◌, ◌≤◌, ◌<◌}
 use native.Mathlib.Omega.{arith}
@@ -9,18 +9,18 @@ use borrow.Author.Tests.{ltb-false}
 use lib.Dec.{T, ltb, eqb}
 use lib.ListN.{length, take, drop, get_or, take-append-drop}
 use Rattle.std.specs.Prelude.{if◌then◌else◌}
-use Rattle.std.specs.Str.{bytes_eq}
+use Rattle.std.specs.Prelude.{Some, None}
 use Rattle.foundation.specs.Texts.{Text, ascii, same}
-use Rattle.foundation.proofs.ChoiceLaws.{same_refl, same_true}
+use Rattle.foundation.proofs.ChoiceLaws.{same_true}
 use Rattle.characters.specs.Characters.{is_scalar, utf8, utf8_of}
 use Rattle.characters.specs.told.CharactersTold.{Characters}
 use Rattle.foundation.proofs.EveryLaws.{every, every_all}
 use Rattle.characters.proofs.Utf8Laws.{utf8_injective}
-use Rattle.erasure.specs.Erasure.{Meaning, nothing, mapped, Entry, ◌means◌, listed, look_up}
-use Rattle.erasure.specs.told.ErasureTold.{row_at, listed_name, listed_meaning, CanBe, Means, MeansRow}
+use Rattle.erasure.specs.Erasure.{nothing, mapped, Entry, ◌means◌, listed, look_up}
+use Rattle.erasure.specs.told.ErasureTold.{row_at, listed_name, listed_meaning, meaning_told, CanBe, Means}
 use Rattle.erasure.specs.declared.Meaning as answer
 use Rattle.erasure.specs.declared.Meaning.TheVariants.{Other}
-use Rattle.erasure.proofs.TextLaws.{never, same_is}
+use Rattle.erasure.proofs.TextLaws.{never}
 use Rattle.erasure.proofs.TableLaws.{tabulate, tabulated}
 
 -- Names are 8 to 36 bytes long.
@@ -39,10 +39,10 @@ name-short : (k : ℕ) → k < 36 → length (listed_name k) ≤ 36
 name-short k h = ltb-false 36 (length (listed_name k)) (tabulated (λ i. ltb 36 (length (listed_name i))) (λ i. false) 36 names-short k h)
 
 module _ {s : List ℕ} where
-  pub too_short : length s < 8 → CanBe s 36
+  pub too_short : length s < 8 → CanBe s None
   too_short h k l e = absurd (omega (arith, name-long k l, ap length e))
 
-  pub too_long : 36 < length s → CanBe s 36
+  pub too_long : 36 < length s → CanBe s None
   too_long h k l e = absurd (omega (arith, name-short k l, ap length e))
 
 -- All names begin with kotlin/.
@@ -62,7 +62,7 @@ name-joined k h =
     ap (λ (l : List ℕ). l ++ drop 7 (listed_name k)) (sym (tabulated (λ i. take 7 (listed_name i)) (λ i. kotlin) 36 names_begin k h))
     ∙ take-append-drop 7 (listed_name k)
 
-pub no_kotlin : {s : List ℕ} → (get_or s 0 0 ≡ 0x6b → ⊥) → CanBe s 36
+pub no_kotlin : {s : List ℕ} → (get_or s 0 0 ≡ 0x6b → ⊥) → CanBe s None
 unfolding after_kotlin
 no_kotlin h k l e = absurd (h (ap (λ (x : List ℕ). get_or x 0 0) (e ∙ sym (name-joined k l))))
 
@@ -83,16 +83,12 @@ unfolding hashed row_with row_at listed_name utf8 utf8_of
 hashed_right = refl
 
 -- The hashes of the rows differ.
-pub can_be : (s : List ℕ) {a b r : ℕ} → a ≡ get_or s 7 0 → b ≡ get_or s (length s - 1) 0 → r ≡ get_or hashed ((length s + a + 3 * b) % 128) 0 → CanBe s r
-can_be s p q e k l f = e ∙ rw (p, q, f) (tabulated (λ i. get_or hashed (hash (listed_name i)) 0) (λ i. i) 36 hashed_right k l)
+pub hashed-row : (s : List ℕ) {a b r : ℕ} → a ≡ get_or s 7 0 → b ≡ get_or s (length s - 1) 0 → r ≡ get_or hashed ((length s + a + 3 * b) % 128) 0
+    → (k : ℕ) → k < 36 → s ≡ listed_name k → r ≡ k
+hashed-row s p q e k l f = e ∙ rw (p, q, f) (tabulated (λ i. get_or hashed (hash (listed_name i)) 0) (λ i. i) 36 hashed_right k l)
 
--- A name is a row's if it is kotlin/ and the row's part.
-module _ (s : List ℕ) (k : ℕ) (h : k < 36) where
-  pub listed-is : {part rest : List ℕ} {r : Bool} → part ≡ after_kotlin k → s ≡ kotlin ++ rest → r ≡ bytes_eq rest part → r ≡ same s (listed_name k)
-  listed-is {part} {rest} p q e = e ∙ same_is rest part ∙ rw (p, q, ← name-joined k h)
-
-  pub listed-other : ((rest : List ℕ) → s ≡ kotlin ++ rest → ⊥) → false ≡ same s (listed_name k)
-  listed-other n = sym (never (same s (listed_name k)) λ t. n (after_kotlin k) (same_true s (listed_name k) t ∙ sym (name-joined k h)))
+pub hashed-past : (s : List ℕ) {r : ℕ} → ((k : ℕ) → k < 36 → s ≡ listed_name k → r ≡ k) → 36 ≤ r → CanBe s None
+hashed-past s h g k l e = let i = h k l e in absurd (omega arith)
 
 -- A row's name is found there, and not before.
 characters : tabulate (λ k. every is_scalar (row_at k).name) 36 ≡ tabulate (λ k. true) 36
@@ -107,10 +103,10 @@ meanings : tabulate (λ k. look_up (row_at k).name listed) 36 ≡ tabulate liste
 unfolding row_at listed_meaning look_up
 meanings = refl
 
-pub means_row : (s : List ℕ) (k : ℕ) (r : answer.Meaning) → k < 36 → same s (listed_name k) ≡ true → MeansRow k r → Means s r
+pub means_row : (s : List ℕ) (k : ℕ) (r : answer.Meaning) → k < 36 → s ≡ listed_name k → ((n : Text) → listed_meaning k ≡ meaning_told n r) → Means s r
 unfolding listed_name
 means_row s k r h e m n c u =
-    let f : n ≡ (row_at k).name = utf8_injective n (row_at k).name c (row_characters k h) (u ∙ same_true s (listed_name k) e) in
+    let f : n ≡ (row_at k).name = utf8_injective n (row_at k).name c (row_characters k h) (u ∙ e) in
     ap (λ (t : Text). look_up t listed) f ∙ tabulated (λ i. look_up (row_at i).name listed) listed_meaning 36 meanings k h ∙ m n
 
 -- What is none of the names is itself.
@@ -119,24 +115,9 @@ unfolding look_up
 look_up_none n [] h = refl
 look_up_none n (e ∷ es) h = rw (h 0 (omega arith)) (look_up_none n es λ k l. h (suc k) (omega arith))
 
-means_none : (s : List ℕ) → ((k : ℕ) → k < 36 → s ≡ listed_name k → ⊥) → Means s Other
+pub means_none : (s : List ℕ) → CanBe s None → Means s Other
 unfolding listed_name row_at
 means_none s h n c u = look_up_none n listed λ k l. never (same n (row_at k).name) λ t. h k l (sym u ∙ ap utf8 (same_true n (row_at k).name t))
 
-module _ (s : List ℕ) (r : ℕ) (b : CanBe s r) where
-  pub means-past : 36 ≤ r → Means s Other
-  means-past h = means_none s λ k l e. let i : r ≡ k = b k l e in omega arith
-
-  pub means-itself : same s (listed_name r) ≡ false → Means s Other
-  means-itself f = means_none s λ k l e.
-      let i : s ≡ listed_name r = e ∙ ap listed_name (sym (b k l e)) in
-      let g : same s (listed_name r) ≡ true = rw (← i) (same_refl s) in
-      let z : ◌≡◌ {A = ℕ} 0 1 = cc in
-      omega arith
-
--- The meanings of rows from one on, by their number.
-pub row_means : (g : ℕ → Meaning) (a n k : ℕ) → tabulate (λ i. listed_meaning (a + i)) n ≡ tabulate (λ i. g (a + i)) n → a ≤ k → k < a + n
-    → listed_meaning k ≡ g k
-row_means g a n k e l h =
-    let i : a + (k - a) ≡ k = omega arith in
-    subst (λ (j : ℕ). listed_meaning j ≡ g j) i (tabulated (λ j. listed_meaning (a + j)) (λ j. g (a + j)) n e (k - a) (omega arith))
+pub means-itself : (s : List ℕ) (r : ℕ) → CanBe s (Some r) → (s ≡ listed_name r → ⊥) → Means s Other
+means-itself s r b f = means_none s λ k l e. f (e ∙ ap listed_name (sym (b.1 k l e)))

@@ -1,21 +1,14 @@
--- Laws of the test whether two texts are the same.
+-- A test that can't be true.
 -- Assumes nothing.
-use mathlib.Core.Path.{◌≡◌, refl, ap}
-use mathlib.Core.Bool.{Bool, true, false, ◌&&◌}
-use mathlib.Core.List.{List, [], ◌∷◌}
-use Prim.Native.Nat.{ℕ}
-use lib.Dec.{eqb}
-use Rattle.std.specs.Str.{bytes_eq}
-use Rattle.foundation.specs.Texts.{same}
+use mathlib.Core.Path.{◌≡◌, refl, sym, ◌∙◌}
+use mathlib.Core.Bool.{Bool, true, false}
 
--- a test that can't be true is false
 pub never : (b : Bool) → (b ≡ true → ⊥) → b ≡ false
 never true h = absurd (h refl)
 never false h = refl
 
--- it is what `==` tests
-pub same_is : (s t : List ℕ) → bytes_eq s t ≡ same s t
-same_is [] [] = refl
-same_is [] (b ∷ t) = refl
-same_is (a ∷ s) [] = refl
-same_is (a ∷ s) (b ∷ t) = ap (λ (x : Bool). eqb a b && x) (same_is s t)
+pub never_both : {b : Bool} → b ≡ true → b ≡ false → ⊥
+never_both e f = let z : ◌≡◌ {A = Bool} true false = sym e ∙ f in absurd_bool z
+  where
+    absurd_bool : ◌≡◌ {A = Bool} true false → ⊥
+    absurd_bool e = cc

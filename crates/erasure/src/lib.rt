@@ -1,21 +1,52 @@
-// What class names mean, and the erased parts that are printed whatever the input. The definitions: specs/Erasure.antt; how numbers and answers
-// tell them: specs/told/ErasureTold.antt.
+// What class names mean, and the erased parts that are printed whatever the input. The definitions: specs/Erasure.antt; how answers tell them:
+// specs/told/ErasureTold.antt.
 #![tactic(auto)]
 
-ghost use Rattle.std.specs.Prelude.{◌≡◌, ◌++◌, ◌<◌};
-ghost use Rattle.foundation.specs.Texts.{same};
-ghost use Rattle.erasure.specs.Erasure.{letter};
-ghost use Rattle.erasure.specs.told.ErasureTold.{Means, CanBe, listed_name, MeansRow, primitive_at, PutSized, PutPart, row_text, boxed_at, PrintsAs};
+ghost use Rattle.std.specs.Prelude.{◌≡◌, [], ◌∷◌, ◌<◌};
+ghost use Rattle.erasure.specs.Erasure.{letter, print_returned};
+ghost use Rattle.erasure.specs.declared.Part.TheVariants as parts;
+ghost use Rattle.erasure.specs.told.ErasureTold.{Means, CanBe, IsRow, primitive_told, fixed_told, PutPart, boxed_at, PrintsAs};
 
-// What a class name means. A primitive and a class are numbers: `primitive_at`, `class_at`.
+// The eight primitives.
+#[derive(Clone, Copy)]
+pub enum Primitive {
+    Boolean,
+    Byte,
+    Char,
+    Short,
+    Int,
+    Long,
+    Float,
+    Double,
+}
+
+// The classes of the JVM that the table maps to.
+#[derive(Clone, Copy)]
+pub enum Class {
+    Object,
+    String,
+    CharSequence,
+    Throwable,
+    Number,
+    Comparable,
+    Enum,
+    Annotation,
+    Iterable,
+    Collection,
+    List,
+    Set,
+    Map,
+}
+
+// What a class name means.
 #[derive(Clone, Copy)]
 pub enum Meaning {
-    Primitive { primitive: usize },
-    PrimitiveArray { primitive: usize },
+    Primitive(Primitive),
+    PrimitiveArray(Primitive),
     Array,
     Unit,
     Nothing,
-    Class { class: usize },
+    Class(Class),
     // A class that isn't listed, which is itself.
     Other,
 }
@@ -28,63 +59,33 @@ pub enum Position {
     Return,
 }
 
+// A part that no name of the input enters.
+#[derive(Clone, Copy)]
+pub enum Part {
+    Letter(Primitive),
+    // [ and the letter.
+    LetterArray(Primitive),
+    // The class of a boxed one.
+    Boxed(Primitive),
+    Class(Class),
+    Unit,
+    // What a suspending function takes last.
+    Continuation,
+    Void,
+}
+
 // What is printed of a type that has a descriptor.
 #[derive(Clone, Copy)]
 pub enum Printed {
-    // A part that no name of the input enters: `fixed_part`.
-    Fixed { part: usize },
+    Fixed(Part),
     // An array of its first kept argument.
     ThroughArray,
     // The class that the input names.
     ClassItself,
 }
 
-// The names of the table, in its order, each without the `kotlin/` that it begins with; and where each starts and the last ends.
-const NAMES: [u8; 376] = *b"\
-    Boolean\
-    Byte\
-    Char\
-    Short\
-    Int\
-    Long\
-    Float\
-    Double\
-    BooleanArray\
-    ByteArray\
-    CharArray\
-    ShortArray\
-    IntArray\
-    LongArray\
-    FloatArray\
-    DoubleArray\
-    Array\
-    Unit\
-    Nothing\
-    Any\
-    String\
-    CharSequence\
-    Throwable\
-    Number\
-    Comparable\
-    Enum\
-    Annotation\
-    collections/Iterable\
-    collections/Collection\
-    collections/MutableCollection\
-    collections/List\
-    collections/MutableList\
-    collections/Set\
-    collections/MutableSet\
-    collections/Map\
-    collections/MutableMap";
-
-const NAME_STARTS: [u16; 37] = [
-    0, 7, 11, 15, 20, 23, 27, 32, 38, 50, 59, 68, 78, 86, 95, 105, 116, 121, 125, 132, 135, 141,
-    153, 162, 168, 178, 182, 192, 212, 234, 263, 279, 302, 317, 339, 354, 376,
-];
-
 // By a name's hash the row that it can be, if any: 36 is none.
-const ROWS: [u8; 128] = *b"\
+static ROWS: [u8; 128] = *b"\
     \x07\x24\x24\x18\x24\x15\x24\x24\x24\x24\x24\x24\x05\x24\x24\x24\
     \x24\x12\x24\x16\x24\x14\x24\x19\x24\x24\x00\x24\x1a\x24\x24\x24\
     \x24\x24\x24\x24\x02\x24\x24\x24\x24\x24\x24\x24\x24\x1b\x06\x04\
@@ -95,48 +96,94 @@ const ROWS: [u8; 128] = *b"\
     \x24\x24\x24\x24\x24\x24\x24\x24\x24\x24\x24\x24\x01\x24\x24\x24";
 
 // The row of the table that `name` can be, by its length, its eighth byte and its last, which no two rows have in common.
-fn row_of(name: &[u8]) -> usize
+fn row_of(name: &[u8]) -> Option<usize>
     ensures { CanBe name.now result }
 {
     let n = name.len();
-    if n < 8 {
-        return 36;
-    }
-    if 36 < n {
-        return 36;
-    }
-    if name[0] != b'k' {
-        return 36;
+    if n < 8 || 36 < n || name[0] != b'k' {
+        return None;
     }
     let hash = (n + usize::from(name[7]) + 3 * usize::from(name[n - 1])) % 128;
-    usize::from(ROWS[hash])
+    let row = usize::from(ROWS[hash]);
+    if row < 36 { Some(row) } else { None }
 }
 
-fn is_listed(name: &[u8], row: usize) -> bool
+// A row of the table: a name, and what it means.
+#[tactic(auto, unfolding(crate::specs::told::ErasureTold::row_at, crate::specs::told::ErasureTold::listed_name, crate::specs::told::ErasureTold::listed_meaning, characters::specs::Characters::utf8, characters::specs::Characters::utf8_of))]
+fn row_at(row: usize) -> (&'static [u8], Meaning)
     requires { row < 36 }
-    ensures { result ≡ same name.now (listed_name row) }
-{
-    let start = usize::from(NAME_STARTS[row]);
-    let end = usize::from(NAME_STARTS[row + 1]);
-    match name.strip_prefix(b"kotlin/") {
-        Some(rest) => rest == &NAMES[start..end],
-        None => false,
-    }
-}
-
-fn meaning_at(row: usize) -> Meaning
-    requires { row < 36 }
-    ensures { MeansRow row result }
+    ensures { IsRow row result }
 {
     match row {
-        0..=7 => Meaning::Primitive { primitive: row },
-        8..=15 => Meaning::PrimitiveArray { primitive: row - 8 },
-        16 => Meaning::Array,
-        17 => Meaning::Unit,
-        18 => Meaning::Nothing,
-        19..=27 => Meaning::Class { class: row - 11 },
-        // a collection and its mutable kind are one class
-        _ => Meaning::Class { class: row / 2 + 3 },
+        0 => (b"kotlin/Boolean", Meaning::Primitive(Primitive::Boolean)),
+        1 => (b"kotlin/Byte", Meaning::Primitive(Primitive::Byte)),
+        2 => (b"kotlin/Char", Meaning::Primitive(Primitive::Char)),
+        3 => (b"kotlin/Short", Meaning::Primitive(Primitive::Short)),
+        4 => (b"kotlin/Int", Meaning::Primitive(Primitive::Int)),
+        5 => (b"kotlin/Long", Meaning::Primitive(Primitive::Long)),
+        6 => (b"kotlin/Float", Meaning::Primitive(Primitive::Float)),
+        7 => (b"kotlin/Double", Meaning::Primitive(Primitive::Double)),
+        8 => (
+            b"kotlin/BooleanArray",
+            Meaning::PrimitiveArray(Primitive::Boolean),
+        ),
+        9 => (
+            b"kotlin/ByteArray",
+            Meaning::PrimitiveArray(Primitive::Byte),
+        ),
+        10 => (
+            b"kotlin/CharArray",
+            Meaning::PrimitiveArray(Primitive::Char),
+        ),
+        11 => (
+            b"kotlin/ShortArray",
+            Meaning::PrimitiveArray(Primitive::Short),
+        ),
+        12 => (b"kotlin/IntArray", Meaning::PrimitiveArray(Primitive::Int)),
+        13 => (
+            b"kotlin/LongArray",
+            Meaning::PrimitiveArray(Primitive::Long),
+        ),
+        14 => (
+            b"kotlin/FloatArray",
+            Meaning::PrimitiveArray(Primitive::Float),
+        ),
+        15 => (
+            b"kotlin/DoubleArray",
+            Meaning::PrimitiveArray(Primitive::Double),
+        ),
+        16 => (b"kotlin/Array", Meaning::Array),
+        17 => (b"kotlin/Unit", Meaning::Unit),
+        18 => (b"kotlin/Nothing", Meaning::Nothing),
+        19 => (b"kotlin/Any", Meaning::Class(Class::Object)),
+        20 => (b"kotlin/String", Meaning::Class(Class::String)),
+        21 => (b"kotlin/CharSequence", Meaning::Class(Class::CharSequence)),
+        22 => (b"kotlin/Throwable", Meaning::Class(Class::Throwable)),
+        23 => (b"kotlin/Number", Meaning::Class(Class::Number)),
+        24 => (b"kotlin/Comparable", Meaning::Class(Class::Comparable)),
+        25 => (b"kotlin/Enum", Meaning::Class(Class::Enum)),
+        26 => (b"kotlin/Annotation", Meaning::Class(Class::Annotation)),
+        27 => (
+            b"kotlin/collections/Iterable",
+            Meaning::Class(Class::Iterable),
+        ),
+        28 => (
+            b"kotlin/collections/Collection",
+            Meaning::Class(Class::Collection),
+        ),
+        29 => (
+            b"kotlin/collections/MutableCollection",
+            Meaning::Class(Class::Collection),
+        ),
+        30 => (b"kotlin/collections/List", Meaning::Class(Class::List)),
+        31 => (
+            b"kotlin/collections/MutableList",
+            Meaning::Class(Class::List),
+        ),
+        32 => (b"kotlin/collections/Set", Meaning::Class(Class::Set)),
+        33 => (b"kotlin/collections/MutableSet", Meaning::Class(Class::Set)),
+        34 => (b"kotlin/collections/Map", Meaning::Class(Class::Map)),
+        _ => (b"kotlin/collections/MutableMap", Meaning::Class(Class::Map)),
     }
 }
 
@@ -144,93 +191,108 @@ fn meaning_at(row: usize) -> Meaning
 pub fn meaning_of(name: &[u8]) -> Meaning
     ensures { Means name.now result }
 {
-    let row = row_of(name);
-    if row < 36 && is_listed(name, row) {
-        return meaning_at(row);
+    match row_of(name) {
+        Some(row) => {
+            let (listed, meaning) = row_at(row);
+            if name == listed {
+                meaning
+            } else {
+                Meaning::Other
+            }
+        }
+        None => Meaning::Other,
     }
-    Meaning::Other
 }
 
-// The numbers of some fixed parts: java/lang/Object, kotlin/Unit, a suspending function's continuation, and V.
-pub const OBJECT: usize = 24;
-
-const UNIT: usize = 37;
-
-pub const CONTINUATION: usize = 38;
-
-const VOID: usize = 39;
-
-const LETTERS: [u8; 8] = *b"ZBCSIJFD";
-
-// The fixed parts from 8 on but V, and where each starts and the last ends.
-const PARTS: [u8; 462] = *b"\
-    [Z\
-    [B\
-    [C\
-    [S\
-    [I\
-    [J\
-    [F\
-    [D\
-    Ljava/lang/Boolean;\
-    Ljava/lang/Byte;\
-    Ljava/lang/Character;\
-    Ljava/lang/Short;\
-    Ljava/lang/Integer;\
-    Ljava/lang/Long;\
-    Ljava/lang/Float;\
-    Ljava/lang/Double;\
-    Ljava/lang/Object;\
-    Ljava/lang/String;\
-    Ljava/lang/CharSequence;\
-    Ljava/lang/Throwable;\
-    Ljava/lang/Number;\
-    Ljava/lang/Comparable;\
-    Ljava/lang/Enum;\
-    Ljava/lang/annotation/Annotation;\
-    Ljava/lang/Iterable;\
-    Ljava/util/Collection;\
-    Ljava/util/List;\
-    Ljava/util/Set;\
-    Ljava/util/Map;\
-    Lkotlin/Unit;\
-    Lkotlin/coroutines/Continuation;";
-
-const PART_STARTS: [u16; 32] = [
-    0, 2, 4, 6, 8, 10, 12, 14, 16, 35, 51, 72, 89, 108, 124, 141, 159, 177, 195, 219, 240, 258,
-    280, 296, 329, 349, 371, 387, 402, 417, 430, 462,
-];
-
-fn letter_of(primitive: usize) -> u8
-    requires { primitive < 8 }
-    ensures { result ≡ letter (primitive_at primitive) }
+fn letter_of(primitive: Primitive) -> &'static [u8]
+    ensures { result.now ≡ letter (primitive_told primitive) ∷ [] }
 {
-    LETTERS[primitive]
+    match primitive {
+        Primitive::Boolean => b"Z",
+        Primitive::Byte => b"B",
+        Primitive::Char => b"C",
+        Primitive::Short => b"S",
+        Primitive::Int => b"I",
+        Primitive::Long => b"J",
+        Primitive::Float => b"F",
+        Primitive::Double => b"D",
+    }
 }
 
-fn put_row(area: &mut [u8], at: usize, row: usize) -> usize
-    requires { row < 31 }
-    ensures { PutSized (row_text row) at result area.old area.new }
+#[tactic(auto, unfolding(crate::specs::Erasure::print, characters::specs::Characters::utf8, characters::specs::Characters::utf8_of))]
+fn array_of(primitive: Primitive) -> &'static [u8]
+    ensures { result.now ≡ print_returned (fixed_told (parts.LetterArray primitive)) }
 {
-    let start = usize::from(PART_STARTS[row]);
-    let end = usize::from(PART_STARTS[row + 1]);
-    sheet::put_all(area, at, &PARTS[start..end]);
-    end - start
+    match primitive {
+        Primitive::Boolean => b"[Z",
+        Primitive::Byte => b"[B",
+        Primitive::Char => b"[C",
+        Primitive::Short => b"[S",
+        Primitive::Int => b"[I",
+        Primitive::Long => b"[J",
+        Primitive::Float => b"[F",
+        Primitive::Double => b"[D",
+    }
+}
+
+fn box_of(primitive: Primitive) -> &'static [u8]
+    ensures { result.now ≡ print_returned (fixed_told (parts.Boxed primitive)) }
+{
+    match primitive {
+        Primitive::Boolean => b"Ljava/lang/Boolean;",
+        Primitive::Byte => b"Ljava/lang/Byte;",
+        Primitive::Char => b"Ljava/lang/Character;",
+        Primitive::Short => b"Ljava/lang/Short;",
+        Primitive::Int => b"Ljava/lang/Integer;",
+        Primitive::Long => b"Ljava/lang/Long;",
+        Primitive::Float => b"Ljava/lang/Float;",
+        Primitive::Double => b"Ljava/lang/Double;",
+    }
+}
+
+#[tactic(auto, unfolding(crate::specs::Erasure::print, characters::specs::Characters::utf8, characters::specs::Characters::utf8_of))]
+fn class_of(class: Class) -> &'static [u8]
+    ensures { result.now ≡ print_returned (fixed_told (parts.Class class)) }
+{
+    match class {
+        Class::Object => b"Ljava/lang/Object;",
+        Class::String => b"Ljava/lang/String;",
+        Class::CharSequence => b"Ljava/lang/CharSequence;",
+        Class::Throwable => b"Ljava/lang/Throwable;",
+        Class::Number => b"Ljava/lang/Number;",
+        Class::Comparable => b"Ljava/lang/Comparable;",
+        Class::Enum => b"Ljava/lang/Enum;",
+        Class::Annotation => b"Ljava/lang/annotation/Annotation;",
+        Class::Iterable => b"Ljava/lang/Iterable;",
+        Class::Collection => b"Ljava/util/Collection;",
+        Class::List => b"Ljava/util/List;",
+        Class::Set => b"Ljava/util/Set;",
+        Class::Map => b"Ljava/util/Map;",
+    }
+}
+
+#[tactic(auto, unfolding(crate::specs::Erasure::print, characters::specs::Characters::utf8, characters::specs::Characters::utf8_of))]
+fn text_of(part: Part) -> &'static [u8]
+    ensures { result.now ≡ print_returned (fixed_told part) }
+{
+    match part {
+        Part::Letter(primitive) => letter_of(primitive),
+        Part::LetterArray(primitive) => array_of(primitive),
+        Part::Boxed(primitive) => box_of(primitive),
+        Part::Class(class) => class_of(class),
+        Part::Unit => b"Lkotlin/Unit;",
+        Part::Continuation => b"Lkotlin/coroutines/Continuation;",
+        Part::Void => b"V",
+    }
 }
 
 // Writes a fixed part, and says how many bytes it takes.
-pub fn put_part(area: &mut [u8], at: usize, part: usize) -> usize
+pub fn put_part(area: &mut [u8], at: usize, part: Part) -> usize
     ensures { PutPart part at result area.old area.new }
 {
-    if part < 8 {
-        sheet::put(area, at, letter_of(part));
-        return 1;
-    }
-    if part < VOID {
-        return put_row(area, at, part - 8);
-    }
-    sheet::put(area, at, b'V');
-    1
+    let text = text_of(part);
+    sheet::put_all(area, at, text);
+    text.len()
 }
 
 fn is_boxed(nullable: bool, position: Position) -> bool
@@ -244,27 +306,21 @@ pub fn printed_as(meaning: Meaning, nullable: bool, position: Position) -> Optio
     ensures { PrintsAs meaning nullable position result }
 {
     match meaning {
-        Meaning::Primitive { primitive } => {
-            let letter = primitive.min(7);
-            let part = if is_boxed(nullable, position) {
-                16 + letter
-            } else {
-                letter
-            };
-            Some(Printed::Fixed { part })
+        Meaning::Primitive(primitive) => {
+            if is_boxed(nullable, position) {
+                return Some(Printed::Fixed(Part::Boxed(primitive)));
+            }
+            Some(Printed::Fixed(Part::Letter(primitive)))
         }
-        Meaning::PrimitiveArray { primitive } => Some(Printed::Fixed {
-            part: 8 + primitive.min(7),
-        }),
+        Meaning::PrimitiveArray(primitive) => Some(Printed::Fixed(Part::LetterArray(primitive))),
         Meaning::Array => Some(Printed::ThroughArray),
         Meaning::Unit => match position {
-            Position::Parameter | Position::Element => Some(Printed::Fixed { part: UNIT }),
-            Position::Return => Some(Printed::Fixed { part: VOID }),
+            Position::Parameter => Some(Printed::Fixed(Part::Unit)),
+            Position::Element => Some(Printed::Fixed(Part::Unit)),
+            Position::Return => Some(Printed::Fixed(Part::Void)),
         },
         Meaning::Nothing => None,
-        Meaning::Class { class } => Some(Printed::Fixed {
-            part: 16 + class.min(22),
-        }),
+        Meaning::Class(class) => Some(Printed::Fixed(Part::Class(class))),
         Meaning::Other => Some(Printed::ClassItself),
     }
 }

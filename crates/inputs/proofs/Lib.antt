@@ -1,2 +1,1 @@
 pub mod InputLaws
-pub mod OutcomeLaws

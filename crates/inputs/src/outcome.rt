@@ -1,67 +1,78 @@
-// An answer without the version: number, detail, both lengths and the types entered. The numbers: specs/Refusals.antt.
+// What comes of an input, without the version: its sizes, or why it is refused. The refusals' numbers: specs/Refusals.antt.
 ghost use Rattle.std.specs.Prelude.{◌≡◌};
-ghost use Rattle.wire.specs.told.WireTold.{wire_cause, wire_place};
-ghost use Rattle.schema.specs.told.SchemaTold.{stop_cause, stop_place};
-ghost use Rattle.inputs.specs.told.OutcomesTold.{fault_cause, RefusedAs};
+ghost use Rattle.inputs.specs.Refusals.{number_of, detail_of};
+ghost use Rattle.inputs.specs.declared.outcome.Refusal.TheVariants as refusal;
+ghost use Rattle.inputs.specs.told.OutcomesTold.{cause_of, place_of};
 
 use crate::Fault;
 use schema::Stop;
 use wire::WireError;
 
+// The lengths of the sheet and of the text, and how many types are entered.
 #[derive(Clone, Copy)]
-pub struct Outcome {
-    pub number: u64,
-    pub detail: u64,
+pub struct Sizes {
     pub sheet: usize,
     pub text: usize,
     pub types: usize,
 }
 
-// With other details, lengths and type count 0.
-pub fn refused(number: u64, detail: u64) -> Outcome
-    ensures { result ≡ record { number = number; detail = detail; sheet = 0; text = 0; types = 0 } }
-{
-    Outcome {
-        number,
-        detail,
-        sheet: 0,
-        text: 0,
-        types: 0,
+// Why an input is refused.
+#[derive(Clone, Copy)]
+pub enum Refusal {
+    // 1 to 4.
+    Fault(Fault),
+    // 5: d1 has no unit.
+    EmptyPayload,
+    // 6.
+    NotAByte { unit: u16 },
+    // 7 to 10, 13, 14 and 17.
+    Stop(Stop),
+    // 11: for its area, or for any.
+    TextTooLong,
+    // 12.
+    SheetTooLong,
+}
+
+impl Refusal {
+    // The refusal's number, and its detail: the unit of 6; of 7, 8, 9, 13, 14 and 17 the place, an offset among the decoded bytes.
+    #[tactic(auto, unfolding(crate::specs::Refusals::number_of, crate::specs::Refusals::detail_of))]
+    pub fn numbered(self) -> (u64, u64)
+        ensures { result ≡ (number_of (cause_of self), detail_of (cause_of self) (place_of self)) }
+    {
+        match self {
+            Refusal::Fault(Fault::D1TooLong) => (1, 0),
+            Refusal::Fault(Fault::D2TooLong) => (2, 0),
+            Refusal::Fault(Fault::StringEnds) => (3, 0),
+            Refusal::Fault(Fault::NewerVersion) => (4, 0),
+            Refusal::EmptyPayload => (5, 0),
+            Refusal::NotAByte { unit } => (6, u64::from(unit)),
+            Refusal::Stop(Stop::TooManyTypes) => (10, 0),
+            Refusal::Stop(Stop::Wire(error)) => match error {
+                WireError::VarintCutShort { place } => (7, place as u64),
+                WireError::WireType { kind: _, place } => (8, place as u64),
+                WireError::OversizedVarint { place } => (9, place as u64),
+                WireError::PastItsMessage { place } => (13, place as u64),
+                WireError::FieldTooLarge { place } => (14, place as u64),
+                WireError::ForbiddenField { place } => (17, place as u64),
+            },
+            Refusal::TextTooLong => (11, 0),
+            Refusal::SheetTooLong => (12, 0),
+        }
     }
 }
 
-// 7, 8, 9, 13, 14 and 17, each with its place.
-fn wire_refusal(error: WireError) -> Outcome
-    ensures { RefusedAs (wire_cause error) (wire_place error) result }
-{
-    match error {
-        WireError::VarintCutShort { place } => refused(7, place as u64),
-        WireError::OversizedVarint { place } => refused(9, place as u64),
-        WireError::PastItsMessage { place } => refused(13, place as u64),
-        WireError::FieldTooLarge { place } => refused(14, place as u64),
-        WireError::ForbiddenField { place } => refused(17, place as u64),
-        WireError::WireType { kind: _, place } => refused(8, place as u64),
+impl From<Fault> for Refusal {
+    ghost from_gives = { λ fault r. r ≡ refusal.Fault fault };
+
+    fn from(fault: Fault) -> Refusal {
+        Refusal::Fault(fault)
     }
 }
 
-// 7 to 10, 13, 14 and 17.
-pub fn stop_refusal(stop: Stop) -> Outcome
-    ensures { RefusedAs (stop_cause stop) (stop_place stop) result }
-{
-    match stop {
-        Stop::Wire(error) => wire_refusal(error),
-        Stop::TooManyTypes => refused(10, 0),
-    }
-}
+impl From<Stop> for Refusal {
+    ghost from_gives = { λ stop r. r ≡ refusal.Stop stop };
 
-// 1 to 4.
-pub fn fault_refusal(fault: Fault) -> Outcome
-    ensures { RefusedAs (fault_cause fault) 0 result }
-{
-    match fault {
-        Fault::D1TooLong => refused(1, 0),
-        Fault::D2TooLong => refused(2, 0),
-        Fault::StringEnds => refused(3, 0),
-        Fault::NewerVersion => refused(4, 0),
+    fn from(stop: Stop) -> Refusal {
+        Refusal::Stop(stop)
     }
 }

@@ -69,7 +69,8 @@ pub fn signed_at(bytes: &[u8], at: usize) -> i32
     requires { at < 2 ^ 50 }
     ensures { result ≡ signed_of (number_at 4 bytes.now at) }
 {
-    (four_in(bytes, 0, at) as u32).cast_signed()
+    let n = four_in(bytes, 0, at) as u32;
+    n.cast_signed()
 }
 
 // Units from a place on, as many as are announced and have room.
@@ -85,7 +86,8 @@ pub fn units_at(bytes: &[u8], at: usize, count: usize, units: &mut [u16]) -> usi
     size
 }
 
-// String ends from a place on, as many as are announced and have room.
+// String ends from a place on, as many as are announced and have room. Beside `units_at` it stands as it is: one function for both would take a
+// trait with a number's width, how it is read and the law of both, which is longer than the two.
 // Callers show that the place is a sum of counts of 4 bytes each, and that their own array is short.
 pub fn ends_at(bytes: &[u8], at: usize, count: usize, ends: &mut [u32]) -> usize
     requires { (at < 2 ^ 40) × (length ends.old < 2 ^ 20) }

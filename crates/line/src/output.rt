@@ -1,5 +1,5 @@
 // The line that the program prints, written into an area: number and detail in decimal, sheet and text in hex. A write past the area's end is
-// left out.
+// left out, and the place after it counted all the same: `fmt::Write` could tell neither.
 ghost use Rattle.std.specs.Prelude.{◌≡◌, false, ◌+◌, ◌^◌, ◌<◌, length};
 ghost use Rattle.std.specs.Fmt.{digit_glyph};
 ghost use Rattle.line.specs.Line.{decimal, hex_of, part_of, line_of};

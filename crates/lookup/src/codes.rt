@@ -28,12 +28,12 @@ pub(crate) fn sizes_from(words: usize) -> usize
     words.saturating_sub(SIZES)
 }
 
-// The code of an index; 0 where it has none.
-pub(crate) fn code_at(notes: &[u64], index: usize) -> usize {
+// The code of an index, if it has one.
+pub(crate) fn code_at(notes: &[u64], index: usize) -> Option<usize> {
     if codes_in(notes.len()) <= index {
-        return 0;
+        return None;
     }
-    (notes[codes_from(notes.len()) + index] % 65536) as usize
+    Some((notes[codes_from(notes.len()) + index] % 65536) as usize)
 }
 
 // The next record where the indices of this one have ended.

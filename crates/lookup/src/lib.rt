@@ -57,12 +57,13 @@ fn find_record(notes: &[u64], count: usize, index: u32) -> Option<usize>
     if served_from(notes, count) <= wanted {
         return None;
     }
-    let code = code_at(notes, wide(index));
-    if serves(notes, count, code, wanted) {
+    if let Some(code) = code_at(notes, wide(index))
+        && serves(notes, count, code, wanted)
+    {
         return Some(code);
     }
-    // Not a search of std's: a record has three words, and its place among them is searched by the last.
-    // it serves no index below that of `low`, and that of `high` is past it
+    // By hand, since std searches the elements of a slice, and a record has three words of this one. The record serves no index below that
+    // of `low`, and that of `high` is past it.
     let mut low = 0;
     let mut high = count;
     while 1 < high - low {

@@ -11,7 +11,7 @@ use foundation::Span;
 // A string of d2 of so many units is long: at most 32 are.
 const LONG: usize = 1024;
 
-// The size that is noted of the string with an index; 0 where none is.
+// The size that is noted of the string with an index; 0 where none is, as in `Name`.
 fn noted_size(notes: &[u64], index: u32) -> usize
     ensures { (units ends : List ℕ) → SizesOf units ends notes.now → SizeOf units ends index result }
 {
@@ -25,7 +25,9 @@ fn noted_size(notes: &[u64], index: u32) -> usize
 }
 
 // Is a string of d2 that stands here long?
-fn is_long(part: Span) -> bool {
+fn is_long(part: Span) -> bool
+    ensures { result ≡ true → part.start ≤ part.end }
+{
     part.start <= part.end && LONG <= part.end - part.start
 }
 
@@ -58,7 +60,7 @@ fn note_string(units: &[u16], ends: &[u32], index: u32, notes: &mut [u64], at: u
     if !is_long(part) || units.len() < part.end || 65535 < index || notes.len() <= at {
         return at;
     }
-    let size = utf8_size(units, part.start, part.end);
+    let size = utf8_size(&units[part.start..part.end]);
     notes[at] = u64::from(index) + 65536 * (size as u64);
     at + 1
 }

@@ -47,7 +47,7 @@ use Rattle.foundation.proofs.PresenceLaws.{none_is, some_is}
 use Rattle.std.specs.declared.option.Option.TheVariants.{Some, None}
 use Rattle.std.specs.declared.result.Result.TheVariants.{Ok, Err}
 use Rattle.schema.specs.told.SchemaTold.{Walked}
-use Rattle.schema.specs.told.MembersTold.{section, Listed}
+use Rattle.schema.specs.told.MembersTold.{section, ListWalked}
 
 -- What an answer holds, and what it cannot.
 pub names_same : {a : Signed} {x y : SignatureNames} → a ≡ Ok x → a ≡ Ok y → x ≡ y
@@ -92,13 +92,13 @@ module _ (e : Lent) (msg : List ℕ) (base : ℕ) (s : State) (afford : Affords 
   pub constructor-affords : Affords e.payload e.d2 (parameter_cost * length msg) (past 2 s₁)
   constructor-affords = affords-after afford (parameter_cost * length msg) constructor-takes (omega arith)
 
-  module _ {r : Listed} {S₂ T₂ : List ℕ}
+  module _ {r : ListWalked} {S₂ T₂ : List ℕ}
       (t : ParametersInTold e msg base Constructor-value_parameter (past 2 s₁) r S₁ S₂ T₁ T₂) where
-    listed-is : (c : Scope) → Scoped e c → (m : Message) → cut (◌from◌ base msg) ≡ ok m → {y : Listed} → r ≡ y
+    listed-is : (c : Scope) → Scoped e c → (m : Message) → cut (◌from◌ base msg) ≡ ok m → {y : ListWalked} → r ≡ y
         → ListedTold (parameters_in c Constructor-value_parameter m s.types) parameter_rows (past 2 s₁) y S₁ S₂ T₁ T₂
     listed-is c o m k {y} w =
         subst (λ (l : ℕ). ListedTold (parameters_in c Constructor-value_parameter m l) parameter_rows (past 2 s₁) y S₁ S₂ T₁ T₂) (put-types p)
-        (subst (λ (z : Listed). ListedTold (parameters_in c Constructor-value_parameter m s₁.types) parameter_rows (past 2 s₁) z S₁ S₂ T₁ T₂) w (t.is c o m k))
+        (subst (λ (z : ListWalked). ListedTold (parameters_in c Constructor-value_parameter m s₁.types) parameter_rows (past 2 s₁) z S₁ S₂ T₁ T₂) w (t.is c o m k))
 
     pub constructor-refused : {x : Stop} → r ≡ Err x
         → MemberTold constructor_in constructor_rows (member_cost (length msg)) e msg base s (Err x) S S₂ T T₂
@@ -291,13 +291,13 @@ module _ (e : Lent) (msg : List ℕ) (base : ℕ) (s : State) (name : Name)
     pub function-affords : Affords e.payload e.d2 (parameter_cost * length msg) (past 2 s₁)
     function-affords = affords-after afford (parameter_cost * length msg) function-takes (omega arith)
 
-    module _ {r : Listed} {S₂ T₂ : List ℕ}
+    module _ {r : ListWalked} {S₂ T₂ : List ℕ}
         (t : ParametersInTold e msg base Function-value_parameter (past 2 s₁) r S₁ S₂ T₁ T₂) where
-      parameters-are : (c : Scope) → Scoped e c → (m : Message) → cut (◌from◌ base msg) ≡ ok m → {y : Listed} → r ≡ y
+      parameters-are : (c : Scope) → Scoped e c → (m : Message) → cut (◌from◌ base msg) ≡ ok m → {y : ListWalked} → r ≡ y
           → ListedTold (parameters_in c Function-value_parameter m s.types) parameter_rows (past 2 s₁) y S₁ S₂ T₁ T₂
       parameters-are c o m k {y} w =
           subst (λ (l : ℕ). ListedTold (parameters_in c Function-value_parameter m l) parameter_rows (past 2 s₁) y S₁ S₂ T₁ T₂) (put-types p.put)
-          (subst (λ (z : Listed). ListedTold (parameters_in c Function-value_parameter m s₁.types) parameter_rows (past 2 s₁) z S₁ S₂ T₁ T₂) w (t.is c o m k))
+          (subst (λ (z : ListWalked). ListedTold (parameters_in c Function-value_parameter m s₁.types) parameter_rows (past 2 s₁) z S₁ S₂ T₁ T₂) w (t.is c o m k))
 
       name-is : (c : Scope) → Scoped e c → (m : Message) → cut (◌from◌ base msg) ≡ ok m
           → name_in c Function-name m s.types ≡ ok (name_text e.payload e.d2 name, s.types)

@@ -18,10 +18,8 @@ use Rattle.sheet.specs.told.Put.{PutRows}
 use Rattle.sheet.specs.declared.State.{State}
 use Rattle.sheet.proofs.RowLaws.{body_length, rows_length, sheet-length}
 use Rattle.sheet.proofs.PutLaws.{put-sheet, put-text, put-types, put-left, rows_then}
-use Rattle.declaration_rows.specs.Declarations.{Constructor, Function}
 use Rattle.schema.specs.Reading.{Read, Scope}
 use Rattle.schema.specs.Members.{constructor_in, function_in}
-use Rattle.declaration_rows.specs.Rows.{constructor_rows, function_rows}
 use Rattle.schema.specs.told.SchemaTold.{Lent, Scoped, EntryAt, Stands, PickedTold}
 use Rattle.schema.specs.told.MembersTold.{Affords, Within, PickedWithin, member_cost, closed_cost, MemberTold}
 use Rattle.schema.proofs.CountLaws.{within_both, affords-less, affords-after, picked_within}
@@ -32,16 +30,12 @@ use Rattle.std.specs.Prelude as std
 use Rattle.std.specs.Prelude.{Some, None}
 use Rattle.descriptors.specs.Defaults.{Parts, constructor_parts, function_parts, descriptor, default_row, closed_constructor, closed_function}
 use Rattle.descriptors.specs.told.DefaultsTold.{part_cost, PartTold, ConstructorDefault, FunctionDefault}
-use Rattle.descriptors.specs.told.PartsTold.{Gave, PartOf}
-use Rattle.members.specs.told.ClosedTold.{close_cost, CloseTold}
+use Rattle.members.specs.told.ClosedTold.{Declared, callable_in, callable_rows, callable_parts, callable_closed, DefaultOf, close_cost, CloseTold}
+use Rattle.members.specs.declared.closed.Callable.{Callable}
+use Rattle.members.specs.declared.closed.Callable.TheVariants as callable
 use Rattle.descriptors.proofs.JoinLaws.{part-answer, written-within}
 use Rattle.std.specs.declared.result.Result.TheVariants.{Ok, Err}
 use Rattle.schema.specs.told.SchemaTold.{Picked}
-
--- The descriptor of what a reading has kept.
-abbrev pub DefaultOf : {D : Type 0} → (Scope → Message → Read (Option D)) → (D → Option Parts) → Lent → ℕ → ℕ → ℕ → std.Option ℕ → List ℕ → List ℕ → Type 0
-DefaultOf read parts e start end at r A A₁ =
-    PartOf (λ c m d. Gave (read c m) (some d)) (λ d. map_option descriptor (parts d)) (part_cost * (4 + (end - start))) e start end at r A A₁
 
 pub of_constructor_lem : {e : Lent} {start end at : ℕ} {r : std.Option ℕ} {A A₁ : List ℕ} → ConstructorDefault e start end at r A A₁
     → DefaultOf constructor_in constructor_parts e start end at r A A₁
@@ -165,13 +159,21 @@ module _ {D : Type 0} (read : Scope → Message → Read (Option D)) (rows close
         (p.0, p.1, p.2, subst (λ (rs : List Row). PutRows rs p.1 s s₂ S S₂ T T₂) (are p.0) both);
   }
 
-pub constructor_closed : (d : Constructor) → constructor_rows d ++ (default_row (constructor_parts d) ∷ []) ≡ closed_constructor d
-unfolding closed_constructor
-constructor_closed d = refl
+pub callable-closed : (k : Callable) (d : Declared k) → callable_rows k d ++ (default_row (callable_parts k d) ∷ []) ≡ callable_closed k d
+unfolding closed_constructor closed_function
+callable-closed callable.Constructor c = refl
+callable-closed callable.Function f = refl
 
-pub function_closed : (f : Function) → function_rows f ++ (default_row (function_parts f) ∷ []) ≡ closed_function f
-unfolding closed_function
-function_closed f = refl
+-- what is known of one, known of it by its kind
+pub read-so : {n : ℕ} {e : Lent} {msg : List ℕ} {base : ℕ} {s : State} {r : Picked} {S S' T T' : List ℕ} {k : Callable} (x : Callable) → k ≡ x
+    → MemberTold (callable_in x) (callable_rows x) n e msg base s r S S' T T' → MemberTold (callable_in k) (callable_rows k) n e msg base s r S S' T T'
+read-so {n} {e} {msg} {base} {s} {r} {S} {S'} {T} {T'} x q =
+    subst (λ (y : Callable). MemberTold (callable_in y) (callable_rows y) n e msg base s r S S' T T') (sym q)
+
+pub default-so : {e : Lent} {start end at : ℕ} {r : std.Option ℕ} {A A₁ : List ℕ} {k : Callable} (x : Callable) → k ≡ x
+    → DefaultOf (callable_in x) (callable_parts x) e start end at r A A₁ → DefaultOf (callable_in k) (callable_parts k) e start end at r A A₁
+default-so {e} {start} {end} {at} {r} {A} {A₁} x q =
+    subst (λ (y : Callable). DefaultOf (callable_in y) (callable_parts y) e start end at r A A₁) (sym q)
 
 -- what was written aside, of an area of k bytes
 pub aside_fits : (n k : ℕ) (l : List ℕ) → length l ≡ k → n ≤ k → n ≡ length (take n l)

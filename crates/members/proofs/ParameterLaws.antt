@@ -44,7 +44,7 @@ use Rattle.members.proofs.PairLaws.{both-made}
 use Rattle.std.specs.declared.result.Result.{Result}
 use Rattle.std.specs.declared.result.Result.TheVariants.{Ok, Err}
 use Rattle.schema.specs.told.SchemaTold.{Walked}
-use Rattle.schema.specs.told.MembersTold.{Listed}
+use Rattle.schema.specs.told.MembersTold.{ListWalked}
 
 -- what a parameter's record takes
 record_length : (o : ℕ) (name : Option Text) (default : Bool) → length (body_bytes o (parameter_cells name default)) ≡ 5
@@ -148,7 +148,7 @@ never_skipped {e} {msg} {base} {s} {w} {S} {S'} {T} {T'} u = record { spends = s
     is r (Ok s') (a, b, g, p) = (a, b, rw g, p)
     is r (Err stop) g = rw g
 
-pub all_read : {e : Lent} {msg : List ℕ} {base number : ℕ} {s : State} {r : Listed} {S S' T T' : List ℕ}
+pub all_read : {e : Lent} {msg : List ℕ} {base number : ℕ} {s : State} {r : ListWalked} {S S' T T' : List ℕ}
     → ListAtTold read_always parameter_rows (parameter_cost * length msg) e msg base number s r S S' T T' → ParametersAtTold e msg base number s r S S' T T'
 all_read {e} {msg} {base} {number} {s} {r} {S} {S'} {T} {T'} u = record {
   spends = u.spends;
@@ -174,7 +174,7 @@ module _ {e : Lent} {msg : List ℕ} {base number : ℕ} {s : State} (x : Result
         rw cuts;
   }
 
-  pub parameters-cut : x ≡ Ok tt → {r : Listed} {S S' T T' : List ℕ} → ParametersAtTold e msg base number s r S S' T T'
+  pub parameters-cut : x ≡ Ok tt → {r : ListWalked} {S S' T T' : List ℕ} → ParametersAtTold e msg base number s r S S' T T'
       → ParametersInTold e msg base number s r S S' T T'
   parameters-cut g {r} {S} {S'} {T} {T'} u = record {
     spends = u.spends;

@@ -4,11 +4,11 @@ ghost use Rattle.std.specs.Prelude.{[], ◌∷◌, ◌+◌, ◌-◌, ◌*◌, �
 ghost use Rattle.std.proofs.Math.Option.{some};
 ghost use Rattle.sheet.specs.Rows.{ref, row};
 ghost use Rattle.sheet.specs.told.Put.{PutRows};
-ghost use Rattle.schema.specs.Members.{constructor_in, function_in};
 ghost use Rattle.schema.specs.told.SchemaTold.{lent, Stands};
-ghost use Rattle.schema.specs.told.MembersTold.{Affords, closed_cost, MemberTold};
-ghost use Rattle.descriptors.specs.Defaults.{constructor_parts, function_parts, closed_constructor, closed_function};
-ghost use Rattle.members.specs.told.ClosedTold.{close_cost, CloseTold};
+ghost use Rattle.schema.specs.told.MembersTold.{Affords, closed_cost, member_cost, MemberTold};
+ghost use Rattle.descriptors.specs.told.DefaultsTold.{part_cost};
+ghost use Rattle.descriptors.specs.told.PartsTold.{PartRoom};
+ghost use Rattle.members.specs.told.ClosedTold.{callable_in, callable_rows, callable_parts, callable_closed, close_cost, DefaultOf, CloseTold};
 
 use crate::callables::{constructor_in, function_in};
 use declaration_rows::{put_default, put_default_absent};
@@ -26,66 +26,16 @@ fn put_aside(aside: &[u8], state: State, sheet: &mut [u8], text: &mut [u8]) -> S
     put_default(aside.len(), state, sheet)
 }
 
-// Kind 7 of a constructor. A descriptor is written aside first: if there is none, nothing may be written to the text.
-fn close_constructor(
-    msg: &[u8],
-    base: u32,
-    payload: &[u8],
-    d2: &[u16],
-    ends: &[u32],
-    notes: &[u64],
-    tables: Tables,
-    state: State,
-    sheet: &mut [u8],
-    text: &mut [u8],
-) -> State
-    requires { Affords payload.now d2.now (close_cost (length msg.now)) state × Stands payload.now msg.now base }
-    ensures { CloseTold constructor_in constructor_parts (lent payload.now d2.now ends.now notes.now tables) base (base + length msg.now) state result sheet.old sheet.new text.old text.new }
-{
-    let mut aside = [0u8; 256];
-    let part = constructor_default(msg, base, payload, d2, ends, notes, tables, &mut aside, 0);
-    let Some(size) = part else {
-        return put_default_absent(state, sheet);
-    };
-    if size <= 256 {
-        return put_aside(&aside[..size], state, sheet, text);
-    }
-    let offset = state.text;
-    constructor_default(msg, base, payload, d2, ends, notes, tables, text, offset);
-    put_default(size, state, sheet)
+// What a default descriptor is of.
+#[derive(Clone, Copy)]
+pub(crate) enum Callable {
+    Constructor,
+    Function,
 }
 
-// Kind 7 of a function. A descriptor is written aside first: if there is none, nothing may be written to the text.
-fn close_function(
-    msg: &[u8],
-    base: u32,
-    payload: &[u8],
-    d2: &[u16],
-    ends: &[u32],
-    notes: &[u64],
-    tables: Tables,
-    state: State,
-    sheet: &mut [u8],
-    text: &mut [u8],
-) -> State
-    requires { Affords payload.now d2.now (close_cost (length msg.now)) state × Stands payload.now msg.now base }
-    ensures { CloseTold function_in function_parts (lent payload.now d2.now ends.now notes.now tables) base (base + length msg.now) state result sheet.old sheet.new text.old text.new }
-{
-    let mut aside = [0u8; 256];
-    let part = function_default(msg, base, payload, d2, ends, notes, tables, &mut aside, 0);
-    let Some(size) = part else {
-        return put_default_absent(state, sheet);
-    };
-    if size <= 256 {
-        return put_aside(&aside[..size], state, sheet, text);
-    }
-    let offset = state.text;
-    function_default(msg, base, payload, d2, ends, notes, tables, text, offset);
-    put_default(size, state, sheet)
-}
-
-// A constructor, with the record that closes it.
-pub(crate) fn closed_constructor(
+// Its rows, without the record that closes it.
+fn callable_in(
+    callable: Callable,
     msg: &[u8],
     base: u32,
     payload: &[u8],
@@ -97,23 +47,82 @@ pub(crate) fn closed_constructor(
     sheet: &mut [u8],
     text: &mut [u8],
 ) -> Result<Option<State>, Stop>
-    requires { Affords payload.now d2.now (closed_cost (length msg.now)) state × Stands payload.now msg.now base }
-    ensures { MemberTold constructor_in closed_constructor (closed_cost (length msg.now)) (lent payload.now d2.now ends.now notes.now tables) msg.now base state result sheet.old sheet.new text.old text.new }
+    requires { Affords payload.now d2.now (member_cost (length msg.now)) state × (base + length msg.now ≤ length payload.now) }
+    ensures { MemberTold (callable_in callable) (callable_rows callable) (member_cost (length msg.now)) (lent payload.now d2.now ends.now notes.now tables) msg.now base state result sheet.old sheet.new text.old text.new }
 {
-    let kept = constructor_in(
-        msg, base, payload, d2, ends, notes, tables, state, sheet, text,
-    )?;
-    let Some(after) = kept else {
-        return Ok(None);
-    };
-    let last = close_constructor(
-        msg, base, payload, d2, ends, notes, tables, after, sheet, text,
+    match callable {
+        Callable::Constructor => constructor_in(
+            msg, base, payload, d2, ends, notes, tables, state, sheet, text,
+        ),
+        Callable::Function => function_in(
+            msg, base, payload, d2, ends, notes, tables, state, sheet, text,
+        ),
+    }
+}
+
+// Its default descriptor.
+fn default_of(
+    callable: Callable,
+    msg: &[u8],
+    base: u32,
+    payload: &[u8],
+    d2: &[u16],
+    ends: &[u32],
+    notes: &[u64],
+    tables: Tables,
+    area: &mut [u8],
+    at: usize,
+) -> Option<usize>
+    requires { PartRoom payload.now d2.now msg.now base (part_cost * (4 + length msg.now)) at }
+    ensures { DefaultOf (callable_in callable) (callable_parts callable) (lent payload.now d2.now ends.now notes.now tables) base (base + length msg.now) at result area.old area.new }
+{
+    match callable {
+        Callable::Constructor => {
+            constructor_default(msg, base, payload, d2, ends, notes, tables, area, at)
+        }
+        Callable::Function => {
+            function_default(msg, base, payload, d2, ends, notes, tables, area, at)
+        }
+    }
+}
+
+// Kind 7 of it. A descriptor is written aside first: if there is none, nothing may be written to the text.
+fn close(
+    callable: Callable,
+    msg: &[u8],
+    base: u32,
+    payload: &[u8],
+    d2: &[u16],
+    ends: &[u32],
+    notes: &[u64],
+    tables: Tables,
+    state: State,
+    sheet: &mut [u8],
+    text: &mut [u8],
+) -> State
+    requires { Affords payload.now d2.now (close_cost (length msg.now)) state × Stands payload.now msg.now base }
+    ensures { CloseTold (callable_in callable) (callable_parts callable) (lent payload.now d2.now ends.now notes.now tables) base (base + length msg.now) state result sheet.old sheet.new text.old text.new }
+{
+    let mut aside = [0u8; 256];
+    let written = default_of(
+        callable, msg, base, payload, d2, ends, notes, tables, &mut aside, 0,
     );
-    Ok(Some(last))
+    let Some(size) = written else {
+        return put_default_absent(state, sheet);
+    };
+    if size <= 256 {
+        return put_aside(&aside[..size], state, sheet, text);
+    }
+    let offset = state.text;
+    default_of(
+        callable, msg, base, payload, d2, ends, notes, tables, text, offset,
+    );
+    put_default(size, state, sheet)
 }
 
-// A function, with the record that closes it.
-pub(crate) fn closed_function(
+// A constructor or function, with the record that closes it.
+pub(crate) fn closed(
+    callable: Callable,
     msg: &[u8],
     base: u32,
     payload: &[u8],
@@ -126,16 +135,16 @@ pub(crate) fn closed_function(
     text: &mut [u8],
 ) -> Result<Option<State>, Stop>
     requires { Affords payload.now d2.now (closed_cost (length msg.now)) state × Stands payload.now msg.now base }
-    ensures { MemberTold function_in closed_function (closed_cost (length msg.now)) (lent payload.now d2.now ends.now notes.now tables) msg.now base state result sheet.old sheet.new text.old text.new }
+    ensures { MemberTold (callable_in callable) (callable_closed callable) (closed_cost (length msg.now)) (lent payload.now d2.now ends.now notes.now tables) msg.now base state result sheet.old sheet.new text.old text.new }
 {
-    let kept = function_in(
-        msg, base, payload, d2, ends, notes, tables, state, sheet, text,
+    let kept = callable_in(
+        callable, msg, base, payload, d2, ends, notes, tables, state, sheet, text,
     )?;
     let Some(after) = kept else {
         return Ok(None);
     };
-    let last = close_function(
-        msg, base, payload, d2, ends, notes, tables, after, sheet, text,
+    let last = close(
+        callable, msg, base, payload, d2, ends, notes, tables, after, sheet, text,
     );
     Ok(Some(last))
 }

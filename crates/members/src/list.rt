@@ -7,7 +7,7 @@ ghost use Rattle.schema.specs.told.ListsTold.{ListAtTold};
 ghost use Rattle.members.specs.Lists.{member_in, member_rows};
 
 use crate::aliases::alias_in;
-use crate::closed::{closed_constructor, closed_function};
+use crate::closed::{Callable, closed};
 use crate::properties::property_in;
 use messages::{check_messages, next_body};
 use schema::{Section, Stop, Tables};
@@ -47,11 +47,31 @@ fn member_in(
     ensures { MemberTold (member_in member) (member_rows member) (closed_cost (length msg.now)) (lent payload.now d2.now ends.now notes.now tables) msg.now base state result sheet.old sheet.new text.old text.new }
 {
     match member {
-        Member::Constructor => closed_constructor(
-            msg, base, payload, d2, ends, notes, tables, state, sheet, text,
+        Member::Constructor => closed(
+            Callable::Constructor,
+            msg,
+            base,
+            payload,
+            d2,
+            ends,
+            notes,
+            tables,
+            state,
+            sheet,
+            text,
         ),
-        Member::Function => closed_function(
-            msg, base, payload, d2, ends, notes, tables, state, sheet, text,
+        Member::Function => closed(
+            Callable::Function,
+            msg,
+            base,
+            payload,
+            d2,
+            ends,
+            notes,
+            tables,
+            state,
+            sheet,
+            text,
         ),
         Member::Property => property_in(
             msg, base, payload, d2, ends, notes, tables, state, sheet, text,

@@ -23,7 +23,7 @@ pub checked_whole : (base : ℕ) (s : List ℕ) (c : Result Unit WireError) → 
 checked_whole base s c h = subst (λ (p : Part). CheckedTold (cut p) c) (whole base s) h
 
 -- from the place after skipped fields
-module _ (base : ℕ) {s : List ℕ} {k at next : ℕ} (t : SkipTold s k at next) where
+module _ (base : ℕ) {s ks : List ℕ} {at next : ℕ} (t : SkipTold s ks at next) where
   pub skip-checked : (c : Result Unit WireError) → CheckedTold (cut (rest_of base s next)) c → CheckedTold (cut (rest_of base s at)) c
   skip-checked (Ok u) (m, w) = ((t.is base).fields ++ m, (t.is base).cuts ∙ rw w)
   skip-checked (Err error) w = (t.is base).cuts ∙ rw w

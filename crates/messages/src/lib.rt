@@ -7,25 +7,22 @@ ghost use Rattle.foundation.specs.Results.{ok, ◌from◌};
 ghost use Rattle.wire.specs.Wire.{cut, Message};
 ghost use Rattle.wire.specs.Messages.{varint_of, index, messages};
 ghost use Rattle.wire.specs.told.WireTold.{rest_of, part_between};
-ghost use Rattle.messages.specs.told.Asked.{CheckedTold, FoundTold, FoundFrom, FoundAt, found_or, number_told, number_in, piece_in, BytesTold, index_told, index_in, EmbeddedTold, piece_if, NextBodyTold};
+ghost use Rattle.messages.specs.told.Asked.{CheckedTold, FoundTold, found_or, number_told, number_in, piece_in, BytesTold, index_told, index_in, EmbeddedTold, piece_if, NextBodyTold};
 
 pub mod repeated; // repeated.rt: repeated numbers, single and packed
 pub mod reader; // reader.rt: a reader over a message
 
 use foundation::Span;
-use wire::{Field, WireError, WireValue, field_at, short_field, skip_fields, skip_two};
-
-// No field whose tag has one or two bytes has this number.
-const NO_NUMBER: u32 = u32::MAX;
+use wire::{Field, WireError, WireValue, field_at, skip_fields};
 
 // Cuts what is left of a slice from a place on.
 pub fn check_from(s: &[u8], base: u32, at: usize) -> Result<(), WireError>
     ensures { CheckedTold (cut (rest_of base s.now at)) result }
 {
-    let mut i = skip_fields(s, NO_NUMBER, at);
+    let mut i = skip_fields(s, [], at);
     while i < s.len() {
         let read = field_at(s, base, i)?;
-        i = skip_fields(s, NO_NUMBER, read.next);
+        i = skip_fields(s, [], read.next);
     }
     Ok(())
 }
@@ -49,113 +46,32 @@ fn check_part(s: &[u8], base: u32, part: Span) -> Result<(), WireError>
     }
 }
 
-// The value of the field at a place, if it is a short field with the number `number`.
-fn short_found(s: &[u8], number: u32, at: usize) -> Option<WireValue>
-    ensures { FoundAt s.now number at result }
+// The first occurrence of a field, of whatever wire type.
+pub fn find(s: &[u8], base: u32, number: u32) -> Option<WireValue>
+    ensures { FoundTold base s.now number result }
 {
-    let field = short_field(s, at)?.value;
-    if field.number != number {
-        return None;
-    }
-    Some(field.value)
-}
-
-// The first occurrence of a field from a place on, field by field.
-fn long_find(s: &[u8], base: u32, number: u32, at: usize) -> Option<WireValue>
-    ensures { FoundFrom base s.now number at result }
-{
-    let mut i = at;
-    while i < s.len() {
-        let Ok(read) = field_at(s, base, i) else {
+    let mut at = skip_fields(s, [number], 0);
+    while at < s.len() {
+        let Ok(read) = field_at(s, base, at) else {
             return None;
         };
         if read.value.number == number {
             return Some(read.value.value);
         }
-        i = skip_fields(s, number, read.next);
+        at = skip_fields(s, [number], read.next);
     }
     None
 }
 
-// The same. An occurrence whose tag and varint are short is read without a step for each field before it.
-fn find_from(s: &[u8], base: u32, number: u32, at: usize) -> Option<WireValue>
-    ensures { FoundFrom base s.now number at result }
+// Keeps the value of a field for each of the numbers that it has and that no earlier field had.
+fn keep_first<const N: usize>(found: &mut [Option<WireValue>; N], numbers: [u32; N], field: Field)
+    ensures { (i : ℕ) → i < N → get_or found.new i None ≡ found_or (get_or found.old i None) (get_or numbers.entry i 0) field.number field.value }
 {
-    let i = skip_fields(s, number, at);
-    if s.len() <= i {
-        return None;
-    }
-    match short_found(s, number, i) {
-        Some(value) => Some(value),
-        None => long_find(s, base, number, i),
-    }
-}
-
-// The first occurrence of a field, of whatever wire type.
-pub fn find(s: &[u8], base: u32, number: u32) -> Option<WireValue>
-    ensures { FoundTold base s.now number result }
-{
-    find_from(s, base, number, 0)
-}
-
-#[derive(Clone, Copy)]
-pub struct TwoFound {
-    pub first: Option<WireValue>,
-    pub second: Option<WireValue>,
-}
-
-// The first occurrences of two fields. Short fields before the first of the two are passed over once for both.
-pub fn find_two(s: &[u8], base: u32, first: u32, second: u32) -> TwoFound
-    ensures { FoundTold base s.now first result.first × FoundTold base s.now second result.second }
-{
-    let at = skip_two(s, first, second, 0);
-    if s.len() <= at {
-        return TwoFound {
-            first: None,
-            second: None,
-        };
-    }
-    if let Some(value) = short_found(s, first, at) {
-        return TwoFound {
-            first: Some(value),
-            second: find_from(s, base, second, at),
-        };
-    }
-    if let Some(value) = short_found(s, second, at) {
-        return TwoFound {
-            first: find_from(s, base, first, at),
-            second: Some(value),
-        };
-    }
-    TwoFound {
-        first: find_from(s, base, first, at),
-        second: find_from(s, base, second, at),
-    }
-}
-
-// What was found of a field before a place, if it was found, and else its value, if the field at the place is the one that is asked for.
-fn found_or(seen: Option<WireValue>, asked: u32, field: Field) -> Option<WireValue>
-    ensures { result ≡ found_or seen asked field.number field.value }
-{
-    if seen.is_some() || field.number != asked {
-        return seen;
-    }
-    Some(field.value)
-}
-
-// The same of several fields that are asked for.
-fn each_found_or<const N: usize>(
-    seen: [Option<WireValue>; N],
-    numbers: [u32; N],
-    field: Field,
-) -> [Option<WireValue>; N]
-    ensures { (i : ℕ) → i < N → get_or result i None ≡ found_or (get_or seen.entry i None) (get_or numbers.entry i 0) field.number field.value }
-{
-    let mut found = seen;
     for i in 0..N {
-        found[i] = found_or(seen[i], numbers[i], field);
+        if found[i].is_none() && numbers[i] == field.number {
+            found[i] = Some(field.value);
+        }
     }
-    found
 }
 
 // The first occurrences of several fields, by one walk.
@@ -163,13 +79,13 @@ pub fn find_each<const N: usize>(s: &[u8], base: u32, numbers: [u32; N]) -> [Opt
     ensures { (i : ℕ) → i < N → FoundTold base s.now (get_or numbers.entry i 0) (get_or result i None) }
 {
     let mut found = [None; N];
-    let mut at = 0;
+    let mut at = skip_fields(s, numbers, 0);
     while at < s.len() {
         let Ok(read) = field_at(s, base, at) else {
             break;
         };
-        found = each_found_or(found, numbers, read.value);
-        at = read.next;
+        keep_first(&mut found, numbers, read.value);
+        at = skip_fields(s, numbers, read.next);
     }
     found
 }
@@ -235,11 +151,11 @@ fn body_of(asked: u32, field: Field) -> Option<Span>
     field.value.bytes()
 }
 
-// The next length-delimited occurrence of a field from a place on, field by field.
-fn long_next_body(s: &[u8], base: u32, number: u32, at: usize) -> Option<Span>
+// The next length-delimited occurrence of a field from a place on. Asked again from its end on, it gives the one after it.
+pub fn next_body(s: &[u8], base: u32, number: u32, at: usize) -> Option<Span>
     ensures { NextBodyTold base s.now number at result }
 {
-    let mut i = at;
+    let mut i = skip_fields(s, [number], at);
     while i < s.len() {
         let Ok(read) = field_at(s, base, i) else {
             return None;
@@ -247,23 +163,9 @@ fn long_next_body(s: &[u8], base: u32, number: u32, at: usize) -> Option<Span>
         if let Some(body) = body_of(number, read.value) {
             return Some(body);
         }
-        i = skip_fields(s, number, read.next);
+        i = skip_fields(s, [number], read.next);
     }
     None
-}
-
-// The next length-delimited occurrence of a field from a place on. Asked again from its end on, it gives the one after it.
-pub fn next_body(s: &[u8], base: u32, number: u32, at: usize) -> Option<Span>
-    ensures { NextBodyTold base s.now number at result }
-{
-    let i = skip_fields(s, number, at);
-    if s.len() <= i {
-        return None;
-    }
-    match piece_in(short_found(s, number, i)) {
-        Some(body) => Some(body),
-        None => long_next_body(s, base, number, i),
-    }
 }
 
 // Cuts every message of a list, before the first is read.

@@ -1,21 +1,21 @@
 -- The whole reading: faults, kinds, the head alone.
 -- Assumes nothing.
 use mathlib.Core.Path.{◌≡◌, refl, ap, sym, subst, ◌∙◌}
-use mathlib.Core.Bool.{Bool, true, false, ◌||◌}
+use mathlib.Core.Bool.{Bool, true, false, ◌&&◌, ◌||◌}
 use mathlib.Core.List.{List, [], ◌∷◌, ◌++◌}
 use mathlib.Core.Option.{Option, none, some}
 use Prim.Native.Nat.{ℕ, ◌*◌, ◌^◌, ◌≤◌, ◌<◌, min}
 use native.Mathlib.Omega.{arith}
-use borrow.Author.Tests.{ltb-false, lt-ltb, le-ltb}
-use lib.Dec.{ltb}
-use lib.IntN.{ℤ}
+use borrow.Author.Tests.{ltb-false, leb-true, lt-ltb, le-ltb, eq-eqb}
+use lib.Dec.{eqb, leb, ltb}
+use lib.IntN.{ℤ, pos, negsuc}
 use lib.ListN.{length}
 use lib.Seq.{sets}
 use lib.Signed.{lt_z}
-use Rattle.std.specs.Prelude.{if◌then◌else◌, IsSome}
-use Rattle.std.proofs.Common as std
+use Rattle.std.specs.Prelude.{if◌then◌else◌}
 use Rattle.foundation.specs.Digits.{little}
-use Rattle.foundation.specs.Results.{Res, refused, Cause, d1_too_long, d2_too_long, string_ends, newer_version, sheet_too_long}
+use Rattle.foundation.specs.Results.{Res, refused, Cause, d1_too_long, d2_too_long, string_ends, newer_version}
+use Rattle.foundation.proofs.ChoiceLaws.{if_ind, and_left, and_right}
 use Rattle.foundation.specs.Texts.{Text}
 use Rattle.encoding.specs.Encoding.{unit_limit}
 use Rattle.lookup.specs.told.Strings.{codes_from}
@@ -35,27 +35,27 @@ use Rattle.declaration_rows.proofs.RecordLaws.{head-put, aliases-put}
 use Rattle.declaration_rows.proofs.WrittenLaws.{head-room, head_small}
 use Rattle.declarations.specs.Payload.{declaration_rows}
 use Rattle.declarations.proofs.BodyLaws.{no_name}
-use Rattle.inputs.specs.Refusals.{number_of, detail_of}
 use Rattle.inputs.specs.Inputs.{Input, kind_of, carries_declarations, string_limit, supported_major, major, later_fault, fault_of, input}
 use Rattle.inputs.specs.told.KindTold.{kind_number}
 use Rattle.inputs.specs.told.OutcomesTold.{fault_cause, fault_told, told}
 use Rattle.inputs.specs.Outcomes as definition
 use Rattle.inputs.specs.declared.Fault.{Fault}
 use Rattle.std.specs.Prelude.{Result, Ok, Err}
-use Rattle.inputs.specs.declared.outcome.Outcome.{Outcome}
+use Rattle.inputs.specs.declared.outcome.Sizes.{Sizes}
+use Rattle.inputs.specs.declared.outcome.Refusal.{Refusal}
+use Rattle.inputs.specs.declared.outcome.Refusal.TheVariants as why
+use Rattle.passes.specs.declared.PassError.{PassError}
+use Rattle.passes.specs.declared.PassError.TheVariants as passed
 use Rattle.passes.specs.Answered as answers
 use Rattle.passes.specs.Answered.{head_alone, nothing_read, sheet_written, answered}
 use Rattle.passes.specs.told.AreaTold.{InLimits, start}
-use Rattle.passes.specs.told.TaskTold.{no_lists, RoomTold, TaskToldBy, TaskTold}
+use Rattle.passes.specs.told.TaskTold.{no_lists, sizes_of, RoomTold, TaskToldBy, TaskTold}
 use Rattle.passes.specs.told.PassTold.{PassedTold, reading_of, reading_by}
 use Rattle.passes.specs.declared.Task.{Task}
 use Rattle.passes.specs.declared.Task.TheVariants as task
 use Rattle.passes.specs.declared.Asked.{Asked}
 use Rattle.passes.specs.declared.Reply.{Reply}
 use Rattle.metadata.specs.Read.{reading, read}
-use Rattle.metadata.specs.told.ReadTold.{told_by}
-use Rattle.metadata.specs.declared.Answer.{Answer}
-use Rattle.inputs.proofs.OutcomeLaws.{refused_as}
 use Rattle.passes.proofs.TaskLaws.{reply_room}
 
 -- of a choice that gives none
@@ -105,14 +105,14 @@ module _ (k : ℤ) (mv : List ℤ) (d1 d2 ends : List ℕ) (f : Result (Unit {0}
     unfolding reading
     by_kind = rw no-fault-is
 
-    pub task-kind : {kind : ℕ} → kind ≡ kind_of k → (t : Task) (r : Reply) (S S' T T' : List ℕ)
+    pub task-kind : {kind : ℕ} → kind ≡ kind_of k → (t : Task) (r : Result Reply Refusal) (S S' T T' : List ℕ)
         → TaskToldBy t kind (reading_by kind d1 d2 ends) r S S' T T' → TaskToldBy t (kind_of k) (reading (input k mv d1 d2 ends)) r S S' T T'
     task-kind q t r S S' T T' h =
         subst (λ (x : Res (Declarations × ℕ)). TaskToldBy t (kind_of k) x r S S' T T') by_kind
         (subst (λ (n : ℕ). TaskToldBy t n (reading_by n d1 d2 ends) r S S' T T') q h)
 
 -- By the kind.
-module _ (asked : Asked) (d1 d2 ends : List ℕ) (r : Reply) (S S' T T' : List ℕ) where
+module _ (asked : Asked) (d1 d2 ends : List ℕ) (r : Result Reply Refusal) (S S' T T' : List ℕ) where
   pub kind-alone : carries_declarations (kind_number asked.kind) ≡ false → TaskTold asked nothing_read r S S' T T'
       → TaskTold asked (reading_by (kind_number asked.kind) d1 d2 ends) r S S' T T'
   kind-alone c h =
@@ -126,7 +126,7 @@ module _ (asked : Asked) (d1 d2 ends : List ℕ) (r : Reply) (S S' T T' : List �
       subst (λ (x : Res (Declarations × ℕ)). TaskTold asked x r S S' T T') (sym body) h
 
 -- Where a room is asked for, it is told whatever areas are lent.
-pub room_anywhere : (asked : Asked) (x : Res (Declarations × ℕ)) (r : Reply) (A A' B B' S T : List ℕ) → asked.task ≡ task.Room
+pub room_anywhere : (asked : Asked) (x : Res (Declarations × ℕ)) (r : Result Reply Refusal) (A A' B B' S T : List ℕ) → asked.task ≡ task.Room
     → TaskTold asked x r A A' B B' → TaskTold asked x r S S T T
 room_anywhere asked x r A A' B B' S T e h =
     reply_room asked x S T r e (subst (λ (t : Task). TaskToldBy t (kind_number asked.kind) x r A A' B B') e h).0
@@ -157,16 +157,15 @@ module _ (kind : ℕ) (S T : List ℕ) where
   unfolding answers.written
   alone-answer = rw (alone_text kind, le-ltb (min (length T) 65534) 0 (omega arith))
 
-  pub alone-over : length S < 23 → {r : Outcome} → r ≡ record { number = 12; detail = 0; sheet = 0; text = 0; types = 0 }
-      → answered S T kind nothing_read ≡ told r S T
-  unfolding sheet_written number_of detail_of
-  alone-over h e = alone-answer ∙ rw (alone_length kind, lt-ltb (length S) 23 h) (refused_as e sheet_too_long 0 refl refl S T)
+  pub alone-over : length S < 23 → answered S T kind nothing_read ≡ told (Err why.SheetTooLong) S T
+  unfolding sheet_written
+  alone-over h = alone-answer ∙ rw (alone_length kind, lt-ltb (length S) 23 h)
 
   pub alone-done : (n : Name) → n ≡ absent_name → (payload d2 : List ℕ) {s s₁ s₂ : State} → s ≡ start → {S₁ S₂ S₃ S₄ T₁ : List ℕ}
       → PutHead 1 (head_cells kind (name_text payload d2 n) 6) s.types s s₁ S S₁ T T₁
       → PutHead 9 [] s₁.types (past 6 s₁) s₂ S₁ S₂ T₁ T₁ → S₃ ≡ sets S₂ s₂.sheet (little 2 0)
       → ((o : ℕ) → S₄ ≡ sets S₃ s₁.sheet (body_bytes o (head_counts 0 0 0))) → 23 ≤ length S
-      → answered S T kind nothing_read ≡ told (record { number = 0; detail = 0; sheet = 23; text = 0; types = 0 }) S₄ T₁
+      → answered S T kind nothing_read ≡ told (Ok (record { sheet = 23; text = 0; types = 0 })) S₄ T₁
   unfolding sheet_written
   alone-done n e payload d2 {s} {s₁} {s₂} f {S₁} {S₂} {S₃} {S₄} {T₁} p q z c h =
       let name = ap (name_text payload d2) e ∙ no_name payload d2 in
@@ -182,22 +181,25 @@ module _ (kind : ℕ) (S T : List ℕ) where
       alone-put p = alone_rows kind (head-put kind none 6 0 0 0 (row 9 (num 2 0 ∷ []) ∷ []) p (aliases-put 0 [] q (no_rows (past 2 s₂) S₂ T₁) z) c)
 
 -- the room of the head alone
-pub alone_room : (kind : ℕ) (r : Reply) → r.outcome ≡ record { number = 0; detail = 0; sheet = 23; text = 0; types = 0 } → r.sections ≡ no_lists
-    → RoomTold kind nothing_read r
+pub alone_room : (kind : ℕ) (r : Reply) → r.sizes ≡ record { sheet = 23; text = 0; types = 0 } → r.sections ≡ no_lists
+    → RoomTold kind nothing_read (Ok r)
 unfolding texts body_text
 alone_room kind r e f =
-    let none : length (texts (alone kind)) ≡ 0 = ap length (alone_text kind) in
-    record {
-      outcome = e ∙ rw (alone_length kind, none);
-      head_text = rw f;
-      constructors_text = rw f;
-      functions_text = rw f;
-      properties_text = rw f;
-      constructor_count = rw f;
-      function_count = rw f;
-      property_count = rw f;
-      alias_count = rw f;
-    }
+    let none : length (texts (alone kind)) ≡ 0 = ap length (alone_text kind) in (
+      r,
+      refl,
+      record {
+        sizes = e ∙ rw (alone_length kind, none);
+        head_text = rw f;
+        constructors_text = rw f;
+        functions_text = rw f;
+        properties_text = rw f;
+        constructor_count = rw f;
+        function_count = rw f;
+        property_count = rw f;
+        alias_count = rw f;
+      },
+    )
 
 -- where the head ends
 pub alone_ends : (kind : ℕ) (n : Name) (payload d2 : List ℕ) → length payload ≤ 32768 → length d2 ≤ 32768 → {s s₁ : State} {S S₁ T T₁ : List ℕ} → s ≡ start
@@ -209,17 +211,15 @@ alone_ends kind n payload d2 a b {s} e p =
 pub start-room : (payload d2 : List ℕ) → length payload ≤ 32768 → length d2 ≤ 32768 → {s : State} → s ≡ start → written.RecordRoom (2 ^ 61) payload d2 s
 start-room payload d2 a b e = subst (written.RecordRoom (2 ^ 61) payload d2) (sym e) (record { payload = a; d2 = b; places = omega arith })
 
--- A frame with room has a reply.
-pub pass-some : (asked : Asked) (x : Res (Declarations × ℕ)) (room : Type 0) (y : std.Option Reply) (S S' T T' : List ℕ)
-    → PassedTold asked x room y S S' T T' → room → IsSome y
-pass-some asked x room (std.Some r) S S' T T' t h = refl
-pass-some asked x room std.None S S' T T' t h = absurd (t.0 h)
+-- A frame with room has a reply or a refusal.
+pub pass-room : (asked : Asked) (x : Res (Declarations × ℕ)) (room : Type 0) {y : Result Reply PassError} (S S' T T' : List ℕ)
+    → PassedTold asked x room y S S' T T' → room → {e : PassError} → y ≡ Err e → e ≡ passed.NoRoom → ⊥
+pass-room asked x room S S' T T' t h f g = (subst (λ (z : Result Reply PassError). PassedTold asked x room z S S' T T') (f ∙ ap Err g) t).0 h
 
 -- The notes of a frame are long enough for the units of d1.
 pub notes-enough : (units bytes notes : ℕ) {n : ℕ} → n ≡ notes → units ≤ bytes → 3 * bytes ≤ 2 * codes_from notes → 3 * units ≤ 2 * codes_from n
 notes-enough units bytes notes e h k = rw e (omega arith)
 
--- The answer with its version.
-pub answer-is : (a : definition.Answer) (r : Outcome) (b : Answer) (S T : List ℕ) → a ≡ told r S T → b.number ≡ r.number → b.detail ≡ r.detail
-    → b.sheet ≡ r.sheet → b.text ≡ r.text → b.types ≡ r.types → a ≡ told_by b S T
-answer-is a r b S T e n d s t y = e ∙ rw (n, d, s, t, y)
+-- The answer of a reply.
+pub answer-is : (a : definition.Answer) (r : Result Reply Refusal) (o : Result Sizes Refusal) (S T : List ℕ) → a ≡ told (sizes_of r) S T → o ≡ sizes_of r → a ≡ told o S T
+answer-is a r o S T e f = e ∙ ap (λ (x : Result Sizes Refusal). told x S T) (sym f)

@@ -17,29 +17,32 @@ ghost use Rattle.metadata.specs.told.ReadTold.{told_by};
 
 use declaration_rows::{put_aliases, put_count, put_head, put_head_counts};
 use fields::OMITTED_FLAGS;
-use inputs::outcome::{Outcome, fault_refusal, refused};
+use inputs::outcome::{Refusal, Sizes};
 use inputs::{Kind, fault_of, kind_of};
 use names::name::absent;
-use passes::{Asked, Reply, Task, decode_in, start, without_lists};
+use passes::{Asked, PassError, Reply, Task, decode_in, start, without_lists};
 use sheet::State;
 
-// Number and detail of a refusal (0 and 0: accepted), both lengths, the types entered, and the version as it came.
+// Both lengths and the types entered, or the refusal; and the version as it came.
 #[derive(Clone, Copy)]
 pub struct Answer {
-    pub number: u64,
-    pub detail: u64,
-    pub sheet: usize,
-    pub text: usize,
-    pub types: usize,
+    pub outcome: Result<Sizes, Refusal>,
     pub version: [i32; 3],
 }
 
+// What the head alone takes, with the count of no aliases.
+const HEAD_ALONE: Sizes = Sizes {
+    sheet: 23,
+    text: 0,
+    types: 0,
+};
+
 // Metadata kinds 3 and 4: the head alone, and that there are no aliases.
-fn head_alone(kind: Kind, sheet: &mut [u8], text: &mut [u8]) -> Outcome
+fn head_alone(kind: Kind, sheet: &mut [u8], text: &mut [u8]) -> Result<Sizes, Refusal>
     ensures { answered sheet.old text.old (kind_number kind) nothing_read ≡ told result sheet.new text.new }
 {
-    if sheet.len() < 23 {
-        return refused(12, 0);
+    if sheet.len() < HEAD_ALONE.sheet {
+        return Err(Refusal::SheetTooLong);
     }
     let payload = [0u8; 0];
     let d2 = [0u16; 0];
@@ -60,28 +63,16 @@ fn head_alone(kind: Kind, sheet: &mut [u8], text: &mut [u8]) -> Outcome
     let begun = put_aliases(after, sheet);
     put_count(sheet, begun.sheet, 0);
     put_head_counts(sheet, head.sheet, 0, 0, 0);
-    Outcome {
-        number: 0,
-        detail: 0,
-        sheet: 23,
-        text: 0,
-        types: 0,
-    }
+    Ok(HEAD_ALONE)
 }
 
 // Metadata kinds 3 and 4, for any task: 23 bytes of sheet, and no text.
-fn alone(asked: Asked, sheet: &mut [u8], text: &mut [u8]) -> Reply
+fn alone(asked: Asked, sheet: &mut [u8], text: &mut [u8]) -> Result<Reply, Refusal>
     ensures { TaskTold asked nothing_read result sheet.old sheet.new text.old text.new }
 {
     match asked.task {
-        Task::Read => without_lists(head_alone(asked.kind, sheet, text)),
-        Task::Room => without_lists(Outcome {
-            number: 0,
-            detail: 0,
-            sheet: 23,
-            text: 0,
-            types: 0,
-        }),
+        Task::Read => Ok(without_lists(head_alone(asked.kind, sheet, text)?)),
+        Task::Room => Ok(without_lists(HEAD_ALONE)),
     }
 }
 
@@ -93,7 +84,7 @@ fn in_frame_of<const BYTES: usize, const NOTES: usize, const SHEET: usize, const
     ends: &[u32],
     sheet: &mut [u8],
     text: &mut [u8],
-) -> Reply
+) -> Result<Reply, Refusal>
     requires { InLimits d1.now d2.now ends.now × (length d1.now ≤ BYTES) × (3 * BYTES ≤ 2 * codes_from NOTES) × (BYTES + NOTES + SHEET + TEXT ≤ 2 ^ 20) }
     ensures { TaskTold asked (reading_of (kind_number asked.kind) d1.now d2.now ends.now) result sheet.old sheet.new text.old text.new }
 {
@@ -101,7 +92,7 @@ fn in_frame_of<const BYTES: usize, const NOTES: usize, const SHEET: usize, const
     let mut notes = [0u64; NOTES];
     let mut scratch_sheet = [0u8; SHEET];
     let mut scratch_text = [0u8; TEXT];
-    decode_in(
+    let passed = decode_in(
         asked,
         d1,
         d2,
@@ -112,8 +103,12 @@ fn in_frame_of<const BYTES: usize, const NOTES: usize, const SHEET: usize, const
         &mut scratch_text,
         sheet,
         text,
-    )
-    .unwrap()
+    );
+    match passed {
+        Ok(reply) => Ok(reply),
+        Err(PassError::Refused(refusal)) => Err(refusal),
+        Err(PassError::NoRoom) => unreachable!(),
+    }
 }
 
 // A longer d1, in the frame that is enough: of 181 KB up to 8,192 units, of 557 KB for any.
@@ -124,7 +119,7 @@ fn in_longer(
     ends: &[u32],
     sheet: &mut [u8],
     text: &mut [u8],
-) -> Reply
+) -> Result<Reply, Refusal>
     requires { InLimits d1.now d2.now ends.now }
     ensures { TaskTold asked (reading_of (kind_number asked.kind) d1.now d2.now ends.now) result sheet.old sheet.new text.old text.new }
 {
@@ -145,7 +140,7 @@ fn in_frame(
     ends: &[u32],
     sheet: &mut [u8],
     text: &mut [u8],
-) -> Reply
+) -> Result<Reply, Refusal>
     requires { InLimits d1.now d2.now ends.now }
     ensures { TaskTold asked (reading_of (kind_number asked.kind) d1.now d2.now ends.now) result sheet.old sheet.new text.old text.new }
 {
@@ -173,7 +168,7 @@ fn of_kind(
     ends: &[u32],
     sheet: &mut [u8],
     text: &mut [u8],
-) -> Reply
+) -> Result<Reply, Refusal>
     requires { InLimits d1.now d2.now ends.now }
     ensures { TaskTold asked (reading_by (kind_number asked.kind) d1.now d2.now ends.now) result sheet.old sheet.new text.old text.new }
 {
@@ -193,31 +188,15 @@ fn reply_to(
     ends: &[u32],
     sheet: &mut [u8],
     text: &mut [u8],
-) -> Reply
+) -> Result<Reply, Refusal>
     ensures { TaskToldBy task (kind_of k) (reading (input k version d1.now d2.now ends.now)) result sheet.old sheet.new text.old text.new }
 {
-    if let Err(fault) = fault_of(d1, d2, ends, version) {
-        return without_lists(fault_refusal(fault));
-    }
+    fault_of(d1, d2, ends, version)?;
     let asked = Asked {
         task,
         kind: kind_of(k),
     };
     of_kind(asked, d1, d2, ends, sheet, text)
-}
-
-// The answer with the version as it came.
-fn answer_of(outcome: Outcome, version: [i32; 3]) -> Answer
-    ensures { (result.number ≡ outcome.number) × (result.detail ≡ outcome.detail) × (result.sheet ≡ outcome.sheet) × (result.text ≡ outcome.text) × (result.types ≡ outcome.types) × (result.version ≡ version) }
-{
-    Answer {
-        number: outcome.number,
-        detail: outcome.detail,
-        sheet: outcome.sheet,
-        text: outcome.text,
-        types: outcome.types,
-        version,
-    }
 }
 
 // Reads the metadata of one class: k, mv, d1's units, d2's units and where its strings end; writes sheet and text into the two areas.
@@ -233,12 +212,21 @@ pub fn read(
     ensures { (read sheet.old text.old (input k version d1.now d2.now ends.now) ≡ told_by result sheet.new text.new) × (result.version ≡ version) }
 {
     let reply = reply_to(Task::Read, k, version, d1, d2, ends, sheet, text);
-    answer_of(reply.outcome, version)
+    Answer {
+        outcome: reply.map(|reply| reply.sizes),
+        version,
+    }
 }
 
 // The room that sheet and text take, with how far each list reaches and how many it has; or the refusal short of 11 and 12. Nothing is lent to
 // write into.
-pub fn measure(k: i32, version: [i32; 3], d1: &[u16], d2: &[u16], ends: &[u32]) -> Reply
+pub fn measure(
+    k: i32,
+    version: [i32; 3],
+    d1: &[u16],
+    d2: &[u16],
+    ends: &[u32],
+) -> Result<Reply, Refusal>
     ensures { RoomTold (kind_of k) (reading (input k version d1.now d2.now ends.now)) result }
 {
     let mut sheet = [0u8; 0];

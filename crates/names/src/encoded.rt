@@ -40,7 +40,7 @@ pub trait Encoded: Copy {
         ensures { area.new ≡ sets area.old at (map (shown dots slashes) (units self)) };
 
     // How many bytes UTF-8 gives the text, where no character needs to be read to tell.
-    fn counted(self) -> Option<usize>
+    fn size_at_once(self) -> Option<usize>
         requires { length (utf8 (decoded (units self))) < 2 ^ 64 }
         ensures { IfSome result (λ size. size ≡ length (utf8 (decoded (units self)))) };
 
@@ -72,7 +72,7 @@ impl Encoded for &[u8] {
         copy_bytes(self, dots, slashes, area, at)
     }
 
-    fn counted(self) -> Option<usize> {
+    fn size_at_once(self) -> Option<usize> {
         if ascii_bytes(self) {
             Some(self.len())
         } else {
@@ -106,7 +106,7 @@ impl Encoded for &[u16] {
         copy_units(self, dots, slashes, area, at)
     }
 
-    fn counted(self) -> Option<usize> {
-        Some(utf8_size(self, 0, self.len()))
+    fn size_at_once(self) -> Option<usize> {
+        Some(utf8_size(self))
     }
 }

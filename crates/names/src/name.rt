@@ -95,15 +95,8 @@ pub fn part_of<T>(s: &[T], start: usize, end: usize) -> &[T]
     &s[start..end]
 }
 
-// The list, lent for as long as the payload.
-fn shortened<'p, 'l: 'p>(list: &'l [u8], payload: &'p [u8]) -> &'p [u8]
-    ensures { result.now ≡ list.now }
-{
-    list
-}
-
 // What a name is made of, if not of units of d2: a part of the list or of the payload.
-fn base_text<'p, 'l: 'p>(
+pub fn base_text<'p, 'l: 'p>(
     payload: &'p [u8],
     list: &'l [u8],
     source: u8,
@@ -113,22 +106,9 @@ fn base_text<'p, 'l: 'p>(
     ensures { result.now ≡ part_from start end (base_of source payload.now list.now) }
 {
     if source == 2 {
-        return part_of(shortened(list, payload), start, end);
+        return part_of(list, start, end);
     }
     part_of(payload, start, end)
-}
-
-// The same where both are lent for one lifetime, as to a caller that holds the list itself.
-pub fn base_part<'a>(
-    payload: &'a [u8],
-    list: &'a [u8],
-    source: u8,
-    start: usize,
-    end: usize,
-) -> &'a [u8]
-    ensures { result.now ≡ part_from start end (base_of source payload.now list.now) }
-{
-    base_text(payload, list, source, start, end)
 }
 
 // What is done to each character of a name, in this order.

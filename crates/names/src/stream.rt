@@ -39,7 +39,7 @@ fn past_text<E: Encoded>(text: E, change: Change, at: usize) -> usize
     ensures { result ≡ at + length (changed_bytes change (E.decoded (E.units text))) }
 {
     if keeps_width(change) {
-        if let Some(size) = text.counted() {
+        if let Some(size) = text.size_at_once() {
             return at + size;
         }
     }

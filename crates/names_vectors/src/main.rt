@@ -24,17 +24,12 @@ fn field_end(s: &[u8], at: usize) -> usize
     requires { at ≤ length s.now }
     ensures { (at ≤ result) × (result ≤ length s.now) }
 {
-    let mut i = at;
-    while i < s.len() {
-        if s[i] == b'|' {
+    for i in at..s.len() {
+        if s[i] == b'|' || s[i] == b'\n' {
             return i;
         }
-        if s[i] == b'\n' {
-            return i;
-        }
-        i += 1;
     }
-    i
+    s.len()
 }
 
 fn after(s: &[u8], end: usize) -> usize
@@ -47,58 +42,25 @@ fn after(s: &[u8], end: usize) -> usize
     end
 }
 
+// A number in hex, of its last eight digits.
 fn number(s: &[u8]) -> u32 {
     let mut n: u32 = 0;
-    let mut i = 0;
-    while i < s.len() {
-        n = n % 268435456 * 16 + digit(s[i]) as u32;
-        i += 1;
+    for c in s {
+        n = n % 268435456 * 16 + u32::from(digit(*c));
     }
     n
 }
 
-fn read_bytes(s: &[u8], area: &mut [u8]) -> usize
+// Numbers of so many hex digits each, as far as the area goes. How many.
+fn read_numbers<T: Drop, F: Fn(u32) -> T>(s: &[u8], digits: usize, area: &mut [T], item: F) -> usize
+    requires some { 0 < digits }
+    requires callable { F.IsAlwaysCallable item }
     ensures { result ≤ length area.new }
 {
-    let mut count = 0;
-    while count < area.len() {
-        if s.len() / 2 <= count {
-            return count;
-        }
-        area[count] = digit(s[2 * count]) * 16 + digit(s[2 * count + 1]);
-        count += 1;
+    for (place, number_of) in area.iter_mut().zip(s.chunks_exact(digits)) {
+        *place = item(number(number_of));
     }
-    count
-}
-
-fn read_units(s: &[u8], area: &mut [u16]) -> usize
-    ensures { result ≤ length area.new }
-{
-    let mut count = 0;
-    while count < area.len() {
-        if s.len() / 4 <= count {
-            return count;
-        }
-        let at = 4 * count;
-        area[count] = (number(&s[at..at + 4]) % 65536) as u16;
-        count += 1;
-    }
-    count
-}
-
-fn read_ends(s: &[u8], area: &mut [u32]) -> usize
-    ensures { result ≤ length area.new }
-{
-    let mut count = 0;
-    while count < area.len() {
-        if s.len() / 2 <= count {
-            return count;
-        }
-        let at = 2 * count;
-        area[count] = number(&s[at..at + 2]);
-        count += 1;
-    }
-    count
+    area.len().min(s.len() / digits)
 }
 
 fn print_character(rt: &impl Print, code: u32) -> io::Result<()> {
@@ -130,7 +92,7 @@ fn print_name(rt: &impl Print, payload: &[u8], units: &[u16], name: Name) -> io:
     if source == 3 {
         return print_text(rt, part_of(units, start, end), change);
     }
-    let s = names::name::base_part(payload, &PREDEFINED, source, start, end);
+    let s = names::name::base_text(payload, &PREDEFINED, source, start, end);
     print_text(rt, s, change)
 }
 
@@ -199,7 +161,7 @@ fn with_units(
 {
     let end = field_end(s, at);
     let mut ends = [0u32; 8];
-    let count = read_ends(&s[at..end], &mut ends);
+    let count = read_numbers(&s[at..end], 2, &mut ends, |n| n);
     let next = after(s, end);
     with_strings(rt, s, next, table, units, &ends[..count])
 }
@@ -211,7 +173,7 @@ fn with_table(rt: &impl Print, s: &[u8], at: usize, table: &[u8]) -> io::Result<
 {
     let end = field_end(s, at);
     let mut units = [0u16; 16];
-    let count = read_units(&s[at..end], &mut units);
+    let count = read_numbers(&s[at..end], 4, &mut units, |n| (n % 65536) as u16);
     let next = after(s, end);
     with_units(rt, s, next, table, &units[..count])
 }
@@ -223,7 +185,7 @@ fn look_up_line(rt: &impl Print, s: &[u8], at: usize) -> io::Result<usize>
 {
     let end = field_end(s, at);
     let mut table = [0u8; 64];
-    let count = read_bytes(&s[at..end], &mut table);
+    let count = read_numbers(&s[at..end], 2, &mut table, |n| (n % 256) as u8);
     let next = after(s, end);
     with_table(rt, s, next, &table[..count])
 }

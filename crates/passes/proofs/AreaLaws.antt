@@ -9,7 +9,7 @@ use borrow.Author.Tests.{lt-ltb, le-ltb}
 use lib.Dec.{eqb}
 use lib.ListN.{length, take, drop}
 use lib.Seq.{sets, length-sets, take-append_seam}
-use Rattle.foundation.specs.Results.{Res, ok, text_too_long, sheet_too_long, ◌from◌}
+use Rattle.foundation.specs.Results.{Res, ok, ◌from◌}
 use Rattle.foundation.proofs.OverlayLaws.{sets_front}
 use Rattle.foundation.proofs.ResultLaws.{gives-ok}
 use Rattle.wire.specs.Wire.{Message, cut}
@@ -35,10 +35,9 @@ use Rattle.declarations.specs.told.BodyTold.{body_cost, BodyTold, BodyWalked}
 use Rattle.declarations.specs.declared.body.Sections.{Sections}
 use Rattle.std.proofs.Common.{Result, Ok, Err}
 use Rattle.declarations.proofs.PayloadLaws.{body-after}
-use Rattle.inputs.specs.Refusals.{number_of, detail_of}
 use Rattle.inputs.specs.told.OutcomesTold.{told}
-use Rattle.inputs.specs.declared.outcome.Outcome.{Outcome}
-use Rattle.inputs.proofs.OutcomeLaws.{refused_as}
+use Rattle.inputs.specs.declared.outcome.Refusal.TheVariants as refusal
+use Rattle.passes.specs.told.TaskTold.{sizes_at}
 use Rattle.passes.specs.Answered.{text_limit, sheet_written, written, answered}
 use Rattle.passes.specs.told.AreaTold.{strings, InLimits, start, last_of, MeasuredAt, WrittenOut}
 use Rattle.passes.specs.declared.Measured.{Measured}
@@ -122,19 +121,16 @@ module _ (kind : ℕ) (bytes d2 ends notes : List ℕ) (x : Measured) (SS TT : L
     by_rows : answered S T kind bytes_read ≡ written S T rows (allowance - m.left)
     by_rows = ap (answered S T kind) m.reads
 
-    text-over : min (length T) text_limit < end.text → {r : Outcome} → r ≡ record { number = 11; detail = 0; sheet = 0; text = 0; types = 0 }
-        → answered S T kind bytes_read ≡ told r S T
-    unfolding written number_of detail_of
-    text-over h e =
+    text-over : min (length T) text_limit < end.text → answered S T kind bytes_read ≡ told (Err refusal.TextTooLong) S T
+    unfolding written
+    text-over h =
         let l : min (length T) text_limit < length (texts rows) = subst (λ (n : ℕ). min (length T) text_limit < n) length-is h in
-        by_rows ∙ rw (lt-ltb (min (length T) text_limit) (length (texts rows)) l) (refused_as e text_too_long 0 refl refl S T)
+        by_rows ∙ rw (lt-ltb (min (length T) text_limit) (length (texts rows)) l)
 
-    pub text-past-limit : text_limit < end.text → {r : Outcome} → r ≡ record { number = 11; detail = 0; sheet = 0; text = 0; types = 0 }
-        → answered S T kind bytes_read ≡ told r S T
+    pub text-past-limit : text_limit < end.text → answered S T kind bytes_read ≡ told (Err refusal.TextTooLong) S T
     text-past-limit h = text-over (omega arith)
 
-    pub text-past-area : length T < end.text → {r : Outcome} → r ≡ record { number = 11; detail = 0; sheet = 0; text = 0; types = 0 }
-        → answered S T kind bytes_read ≡ told r S T
+    pub text-past-area : length T < end.text → answered S T kind bytes_read ≡ told (Err refusal.TextTooLong) S T
     text-past-area h = text-over (omega arith)
 
     module _ (h : end.text ≤ text_limit) (i : end.text ≤ length T) where
@@ -144,15 +140,14 @@ module _ (kind : ℕ) (bytes d2 ends notes : List ℕ) (x : Measured) (SS TT : L
           let l : length (texts rows) ≤ min (length T) text_limit = omega (arith, length-is) in
           by_rows ∙ rw (le-ltb (min (length T) text_limit) (length (texts rows)) l)
 
-      pub sheet-over : length S < end.sheet → {r : Outcome} → r ≡ record { number = 12; detail = 0; sheet = 0; text = 0; types = 0 }
-          → answered S T kind bytes_read ≡ told r S T
-      unfolding sheet_written number_of detail_of
-      sheet-over j e =
+      pub sheet-over : length S < end.sheet → answered S T kind bytes_read ≡ told (Err refusal.SheetTooLong) S T
+      unfolding sheet_written
+      sheet-over j =
           let l : length S < length (sheet_from 0 rows) = omega (arith, size_is) in
-          by-sheet ∙ rw (lt-ltb (length S) (length (sheet_from 0 rows)) l) (refused_as e sheet_too_long 0 refl refl S T)
+          by-sheet ∙ rw (lt-ltb (length S) (length (sheet_from 0 rows)) l)
 
       pub all-written : end.sheet ≤ length S → {S' T' : List ℕ} → WrittenOut kind bytes_read S S' T T'
-          → answered S T kind bytes_read ≡ told (record { number = 0; detail = 0; sheet = end.sheet; text = end.text; types = 2048 - end.types }) S' T'
+          → answered S T kind bytes_read ≡ told (Ok (sizes_at end)) S' T'
       unfolding sheet_written
       all-written j {S'} {T'} w =
           let l : length (sheet_from 0 rows) ≤ length S = omega (arith, size_is) in

@@ -8,29 +8,29 @@ use native.Mathlib.Omega.{arith}
 use lib.ListN.{length, take}
 use Rattle.inputs.specs.told.KindTold.{kind_number}
 use Rattle.foundation.specs.Results as Results
-use Rattle.foundation.specs.Results.{Res, ok, refused, Cause}
+use Rattle.foundation.specs.Results.{Res, ok, refused}
 use Rattle.foundation.proofs.ResultLaws.{gives-ok}
 use Rattle.encoding.specs.Encoding.{decoded}
 use Rattle.encoding.specs.told.Outcome as encoding
 use Rattle.encoding.specs.told.Outcome.{Decoded, DecodeTold}
-use Rattle.encoding.specs.declared.DecodeError.TheVariants as not_decoded
+use Rattle.encoding.specs.declared.DecodeError.{DecodeError}
+use Rattle.encoding.specs.declared.DecodeError.TheVariants as decode
 use Rattle.encoding.proofs.OutcomeLaws.{limited-within, limited-arm, told-inside, told-room}
 use Rattle.encoding.proofs.EncodingLaws.{decoded-length}
-use Rattle.schema.specs.told.SchemaTold.{stop_refused}
-use Rattle.schema.specs.declared.Stop.{Stop}
 use Rattle.declarations.specs.Payload.{payload}
 use Rattle.declarations.specs.told.PayloadTold.{LentRoom, LentTold}
-use Rattle.std.proofs.Common.{Option, Some, None, Result, Ok, Err}
+use Rattle.std.proofs.Common.{Result, Ok, Err}
 use Rattle.names.specs.declared.records.IndexError.{IndexError}
 use Rattle.names.specs.declared.records.IndexError.TheVariants as index
-use Rattle.inputs.specs.told.OutcomesTold.{RefusedAs}
-use Rattle.inputs.specs.declared.outcome.Outcome.{Outcome}
+use Rattle.inputs.specs.told.OutcomesTold.{cause_of, place_of}
+use Rattle.inputs.specs.declared.Fault.TheVariants as fault
+use Rattle.inputs.specs.declared.outcome.Refusal.{Refusal}
+use Rattle.inputs.specs.declared.outcome.Refusal.TheVariants as why
 use Rattle.passes.specs.told.AreaTold.{strings, InLimits}
 use Rattle.passes.specs.told.TaskTold.{TaskTold}
-use Rattle.passes.specs.told.PassTold.{of_index, FirstTold, PassedTold, FrameRoom, reading_of}
+use Rattle.passes.specs.told.PassTold.{of_index, of_decode, FirstTold, PassedTold, FrameRoom, reading_of}
 use Rattle.passes.specs.declared.Asked.{Asked}
 use Rattle.passes.specs.declared.Reply.{Reply}
-use Rattle.passes.specs.declared.Measured.{Measured}
 use Rattle.passes.specs.declared.PassError.{PassError}
 use Rattle.passes.specs.declared.PassError.TheVariants as first
 use Rattle.passes.proofs.TaskLaws.{reply_refused}
@@ -53,12 +53,16 @@ module _ (asked : Asked) (d1 d2 ends before after : List ℕ) (answer : Decoded)
     pub bytes-kept : InLimits (take n after) d2 ends
     bytes-kept = record { bytes-short = omega (arith, bytes-few, k.bytes-short); d2-short = k.d2-short; fit = k.fit }
 
-    pub bytes_read_lem : (notes : List ℕ) (y : Option Reply) (S S' T T' : List ℕ)
+    by-bytes : (r : Result Reply Refusal) (S S' T T' : List ℕ) → TaskTold asked (payload (kind_number asked.kind) (strings d2 ends) (take n after)) r S S' T T'
+        → TaskTold asked (reading_of (kind_number asked.kind) d1 d2 ends) r S S' T T'
+    by-bytes r S S' T T' h = subst (λ (x : Res (List ℕ)). TaskTold asked (Results.◌>>=◌ x (payload (kind_number asked.kind) (strings d2 ends))) r S S' T T') (sym bytes-are) h
+
+    pub bytes_read_lem : (notes : List ℕ) (y : Result Reply PassError) (S S' T T' : List ℕ)
         → PassedTold asked (payload (kind_number asked.kind) (strings d2 ends) (take n after)) (LentRoom (take n after) notes) y S S' T T'
         → PassedTold asked (reading_of (kind_number asked.kind) d1 d2 ends) (FrameRoom d1 after notes) y S S' T T'
-    bytes_read_lem notes (Some r) S S' T T' h =
-        subst (λ (x : Res (List ℕ)). TaskTold asked (Results.◌>>=◌ x (payload (kind_number asked.kind) (strings d2 ends))) r S S' T T') (sym bytes-are) h
-    bytes_read_lem notes None S S' T T' (h, p, q) = (
+    bytes_read_lem notes (Ok r) S S' T T' h = by-bytes (Ok r) S S' T T' h
+    bytes_read_lem notes (Err (first.Refused refusal)) S S' T T' h = by-bytes (Err refusal) S S' T T' h
+    bytes_read_lem notes (Err first.NoRoom) S S' T T' (h, p, q) = (
       (λ room.
           let few = bytes-few in
           let short = k.bytes-short in
@@ -67,16 +71,20 @@ module _ (asked : Asked) (d1 d2 ends before after : List ℕ) (answer : Decoded)
       q,
     )
 
-  pub decode-refused : (c : Cause) (arm : Decoded) → answer ≡ arm → encoding.tells arm after ≡ some (refused c 0) → (S T : List ℕ) (r : Reply) {o : Outcome} → RefusedAs c 0 o
-      → r.outcome ≡ o → TaskTold asked (reading_of (kind_number asked.kind) d1 d2 ends) r S S T T
-  decode-refused c arm e f S T r h g =
-      subst (λ (x : Res (List ℕ)). TaskTold asked (Results.◌>>=◌ x (payload (kind_number asked.kind) (strings d2 ends))) r S S T T) (sym (arm_is arm e f))
-      (reply_refused asked.task (kind_number asked.kind) (refused c 0) c 0 S T r refl h g)
+  decode-refused : (error : DecodeError) → answer ≡ Err error → (refusal : Refusal) → encoding.tells (Err error) after ≡ some (refused (cause_of refusal) 0)
+      → place_of refusal ≡ 0 → (S T : List ℕ) → TaskTold asked (reading_of (kind_number asked.kind) d1 d2 ends) (Err refusal) S S T T
+  decode-refused error e refusal f p S T =
+      reply_refused asked.task (kind_number asked.kind) _ refusal S T
+      (ap (λ (x : Res (List ℕ)). Results.◌>>=◌ x (payload (kind_number asked.kind) (strings d2 ends))) (arm_is (Err error) e f) ∙ ap (refused (cause_of refusal)) (sym p))
 
-  pub decode-no-room : answer ≡ Err not_decoded.NoRoom → length after ≡ length before → (notes S T : List ℕ)
-      → PassedTold asked (reading_of (kind_number asked.kind) d1 d2 ends) (FrameRoom d1 after notes) None S S T T
-  decode-no-room e l notes S T =
-      ((λ room. told-room d1 before after answer t (omega (arith, room.bytes-long)) e), refl, refl)
+  -- why it isn't decoded is passed on
+  pub decode-stops : (error : DecodeError) → answer ≡ Err error → length after ≡ length before → (notes S T : List ℕ) → (e : PassError) → e ≡ of_decode error
+      → PassedTold asked (reading_of (kind_number asked.kind) d1 d2 ends) (FrameRoom d1 after notes) (Err e) S S T T
+  decode-stops decode.TooLong g l notes S T e f = rw f (decode-refused decode.TooLong g (why.Fault fault.D1TooLong) refl refl S T)
+  decode-stops decode.Empty g l notes S T e f = rw f (decode-refused decode.Empty g why.EmptyPayload refl refl S T)
+  decode-stops (decode.NotAByte unit) g l notes S T e f = rw f (decode-refused (decode.NotAByte unit) g (why.NotAByte unit) refl refl S T)
+  decode-stops decode.NoRoom g l notes S T e f =
+      rw f ((λ room. told-room d1 before after answer t (omega (arith, room.bytes-long)) g), refl, refl)
 
 -- Where the bytes are not opened.
 pub opened-stops : (bytes d2 ends notes : List ℕ) (error : IndexError) → LentTold bytes d2 ends notes (Err error) → (e : PassError) → e ≡ of_index error
@@ -84,8 +92,8 @@ pub opened-stops : (bytes d2 ends notes : List ℕ) (error : IndexError) → Len
 opened-stops bytes d2 ends notes index.NoRoom t e f kind S T = rw f t
 opened-stops bytes d2 ends notes (index.Wire error) t e f kind S T = rw f (t kind (strings d2 ends))
 
--- Where the first pass is refused.
-pub first-refused : (kind : ℕ) (bytes d2 ends notes : List ℕ) (r : Result Measured PassError) (S T : List ℕ) → FirstTold kind bytes d2 ends notes r S T
-    → {error : PassError} → r ≡ Err error → {stop : Stop} → error ≡ first.Refused stop → payload kind (strings d2 ends) bytes ≡ stop_refused stop
-first-refused kind bytes d2 ends notes r S T t e f =
-    subst (λ (x : Result Measured PassError). FirstTold kind bytes d2 ends notes x S T) (e ∙ ap Err f) t
+-- Where the first pass stops.
+pub first-stops : (asked : Asked) (bytes d2 ends notes : List ℕ) (e : PassError) (SS TT : List ℕ) → FirstTold (kind_number asked.kind) bytes d2 ends notes (Err e) SS TT
+    → (S T : List ℕ) → PassedTold asked (payload (kind_number asked.kind) (strings d2 ends) bytes) (LentRoom bytes notes) (Err e) S S T T
+first-stops asked bytes d2 ends notes (first.Refused refusal) SS TT t S T = reply_refused asked.task (kind_number asked.kind) _ refusal S T t
+first-stops asked bytes d2 ends notes first.NoRoom SS TT t S T = (t, refl, refl)

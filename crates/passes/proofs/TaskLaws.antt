@@ -2,20 +2,21 @@
 -- Assumes nothing.
 use mathlib.Core.Path.{◌≡◌, refl, ap, sym, subst, ◌∙◌}
 use mathlib.Core.List.{List}
-use Prim.Native.Nat.{ℕ, ◌-◌}
+use Prim.Native.Nat.{ℕ}
 use native.Mathlib.Omega.{arith}
 use Rattle.inputs.specs.told.KindTold.{kind_number}
-use Rattle.foundation.specs.Results.{Res, refused, Cause}
+use Rattle.foundation.specs.Results.{Res, refused}
 use Rattle.sheet.specs.declared.State.{State}
 use Rattle.declaration_rows.specs.Declarations.{Declarations}
-use Rattle.schema.specs.Reading.{allowance}
-use Rattle.inputs.specs.told.OutcomesTold.{told, RefusedAs}
-use Rattle.inputs.specs.declared.outcome.Outcome.{Outcome}
+use Rattle.std.specs.Prelude.{Result, Ok, Err}
+use Rattle.inputs.specs.told.OutcomesTold.{cause_of, place_of, told}
+use Rattle.inputs.specs.declared.outcome.Sizes.{Sizes}
+use Rattle.inputs.specs.declared.outcome.Refusal.{Refusal}
 use Rattle.declarations.specs.Payload.{payload}
 use Rattle.declarations.specs.declared.body.Sections.{Sections}
 use Rattle.passes.specs.Answered.{answered}
 use Rattle.passes.specs.told.AreaTold.{strings, start, last_of, MeasuredAt}
-use Rattle.passes.specs.told.TaskTold.{no_lists, RoomTold, TaskToldBy, TaskTold}
+use Rattle.passes.specs.told.TaskTold.{no_lists, sizes_at, sizes_of, RoomTold, TaskToldBy, TaskTold}
 use Rattle.passes.specs.declared.Measured.{Measured}
 use Rattle.passes.specs.declared.Task.{Task}
 use Rattle.passes.specs.declared.Task.TheVariants as task
@@ -35,41 +36,43 @@ pub lists_none : {s : State} → s ≡ start
 lists_none e = rw e
 
 -- A refusal tells the same for every task, and leaves both areas as they are.
-pub reply_refused : (t : Task) (kind : ℕ) (x : Res (Declarations × ℕ)) (c : Cause) (place : ℕ) (S T : List ℕ) (r : Reply) {o : Outcome} → x ≡ refused c place
-    → RefusedAs c place o → r.outcome ≡ o → TaskToldBy t kind x r S S T T
-reply_refused t kind x c place S T r e h f =
-    subst (λ (y : Res (Declarations × ℕ)). TaskToldBy t kind y r S S T T) (sym e) (by-task t (subst (RefusedAs c place) (sym f) h))
+pub reply_refused : (t : Task) (kind : ℕ) (x : Res (Declarations × ℕ)) (refusal : Refusal) (S T : List ℕ) → x ≡ refused (cause_of refusal) (place_of refusal)
+    → TaskToldBy t kind x (Err refusal) S S T T
+reply_refused t kind x refusal S T e =
+    subst (λ (y : Res (Declarations × ℕ)). TaskToldBy t kind y (Err refusal) S S T T) (sym e) (by-task t)
   where
-    by-task : (t : Task) → RefusedAs c place r.outcome → TaskToldBy t kind (refused c place) r S S T T
-    by-task task.Read k = k S T
-    by-task task.Room k = (k, refl, refl)
+    by-task : (t : Task) → TaskToldBy t kind (refused (cause_of refusal) (place_of refusal)) (Err refusal) S S T T
+    by-task task.Read = refl
+    by-task task.Room = (λ sheet text. refl, refl, refl)
 
 -- An answer is what the task Read asks for,
-pub reply_answered : (asked : Asked) (x : Res (Declarations × ℕ)) (S S' T T' : List ℕ) (r : Reply) {o : Outcome} → asked.task ≡ task.Read
-    → answered S T (kind_number asked.kind) x ≡ told o S' T' → r.outcome ≡ o → TaskTold asked x r S S' T T'
+pub reply_answered : (asked : Asked) (x : Res (Declarations × ℕ)) (S S' T T' : List ℕ) (r : Result Reply Refusal) {o : Result Sizes Refusal} → asked.task ≡ task.Read
+    → answered S T (kind_number asked.kind) x ≡ told o S' T' → sizes_of r ≡ o → TaskTold asked x r S S' T T'
 reply_answered asked x S S' T T' r e h f =
-    subst (λ (t : Task). TaskToldBy t (kind_number asked.kind) x r S S' T T') (sym e) (h ∙ ap (λ (p : Outcome). told p S' T') (sym f))
+    subst (λ (t : Task). TaskToldBy t (kind_number asked.kind) x r S S' T T') (sym e) (h ∙ ap (λ (p : Result Sizes Refusal). told p S' T') (sym f))
 
 -- and the room what the task Room does.
-pub reply_room : (asked : Asked) (x : Res (Declarations × ℕ)) (S T : List ℕ) (r : Reply) → asked.task ≡ task.Room → RoomTold (kind_number asked.kind) x r
+pub reply_room : (asked : Asked) (x : Res (Declarations × ℕ)) (S T : List ℕ) (r : Result Reply Refusal) → asked.task ≡ task.Room → RoomTold (kind_number asked.kind) x r
     → TaskTold asked x r S S T T
 reply_room asked x S T r e h = subst (λ (t : Task). TaskToldBy t (kind_number asked.kind) x r S S T T) (sym e) (h, refl, refl)
 
 -- What was measured, told.
 pub measured_room : (kind : ℕ) (bytes d2 ends notes : List ℕ) (x : Measured) (SS TT : List ℕ) → MeasuredAt kind bytes d2 ends notes x SS TT → (r : Reply)
-    → r.outcome
-    ≡ record { number = 0; detail = 0; sheet = (last_of x).sheet; text = (last_of x).text; types = allowance - (last_of x).types }
-    → r.sections ≡ x.sections → RoomTold kind (payload kind (strings d2 ends) bytes) r
+    → r.sizes ≡ sizes_at (last_of x)
+    → r.sections ≡ x.sections → RoomTold kind (payload kind (strings d2 ends) bytes) (Ok r)
 measured_room kind bytes d2 ends notes x SS TT m r e f =
-    subst (λ (y : Res (Declarations × ℕ)). RoomTold kind y r) (sym m.reads) (
-    record {
-      outcome = e ∙ rw (size_is kind bytes d2 ends notes x SS TT m, length-is kind bytes d2 ends notes x SS TT m, left_is kind bytes d2 ends notes x SS TT m);
-      head_text = rw f (omega (arith, m.written.head_end.text));
-      constructors_text = rw f (omega (arith, m.written.constructors_end.text));
-      functions_text = rw f (omega (arith, m.written.functions_end.text));
-      properties_text = rw f (omega (arith, m.written.properties_end.text));
-      constructor_count = rw f m.written.constructor_count;
-      function_count = rw f m.written.function_count;
-      property_count = rw f m.written.property_count;
-      alias_count = rw f m.written.alias_count;
-    })
+    subst (λ (y : Res (Declarations × ℕ)). RoomTold kind y (Ok r)) (sym m.reads) (
+      r,
+      refl,
+      record {
+        sizes = e ∙ rw (size_is kind bytes d2 ends notes x SS TT m, length-is kind bytes d2 ends notes x SS TT m, left_is kind bytes d2 ends notes x SS TT m);
+        head_text = rw f (omega (arith, m.written.head_end.text));
+        constructors_text = rw f (omega (arith, m.written.constructors_end.text));
+        functions_text = rw f (omega (arith, m.written.functions_end.text));
+        properties_text = rw f (omega (arith, m.written.properties_end.text));
+        constructor_count = rw f m.written.constructor_count;
+        function_count = rw f m.written.function_count;
+        property_count = rw f m.written.property_count;
+        alias_count = rw f m.written.alias_count;
+      },
+    )

@@ -1,16 +1,15 @@
 // What was measured, written into both areas: refusals 11 and 12 first; only then are the areas touched, copied from the scratch areas
 // if these hold the whole, else walked again. What the functions tell: specs/told/AreaTold.antt.
 ghost use Rattle.std.specs.Prelude.{◌≡◌, ◌≤◌, length};
-ghost use Rattle.inputs.specs.told.KindTold.{kind_number};
 ghost use Rattle.inputs.specs.told.OutcomesTold.{told};
+ghost use Rattle.inputs.specs.told.KindTold.{kind_number};
 ghost use Rattle.declarations.specs.Payload.{payload};
 ghost use Rattle.passes.specs.Answered.{answered};
 ghost use Rattle.passes.specs.told.AreaTold.{strings, InLimits, last_of, MeasuredAt, WrittenOut};
 
-use crate::{Measured, walk};
+use crate::{Measured, sizes_at, walk};
 use inputs::Kind;
-use inputs::outcome::{Outcome, refused};
-use schema::ALLOWANCE;
+use inputs::outcome::{Refusal, Sizes};
 use sheet::put_all;
 
 // No present ref is FFFFFFFF hex.
@@ -65,21 +64,18 @@ pub(crate) fn write_in(
     scratch_text: &[u8],
     sheet: &mut [u8],
     text: &mut [u8],
-) -> Outcome
+) -> Result<Sizes, Refusal>
     requires { InLimits bytes.now d2.now ends.now × MeasuredAt (kind_number kind) bytes.now d2.now ends.now notes.now measured scratch_sheet.now scratch_text.now }
     ensures { answered sheet.old text.old (kind_number kind) (payload (kind_number kind) (strings d2.now ends.now) bytes.now) ≡ told result sheet.new text.new }
 {
     let end = measured.sections.aliases.state;
     let size = end.sheet;
     let length = end.text;
-    if TEXT_LIMIT < length {
-        return refused(11, 0);
-    }
-    if text.len() < length {
-        return refused(11, 0);
+    if TEXT_LIMIT < length || text.len() < length {
+        return Err(Refusal::TextTooLong);
     }
     if sheet.len() < size {
-        return refused(12, 0);
+        return Err(Refusal::SheetTooLong);
     }
     write_out(
         kind,
@@ -93,11 +89,5 @@ pub(crate) fn write_in(
         sheet,
         text,
     );
-    Outcome {
-        number: 0,
-        detail: 0,
-        sheet: size,
-        text: length,
-        types: ALLOWANCE - end.types,
-    }
+    Ok(sizes_at(end))
 }

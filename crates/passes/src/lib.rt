@@ -11,16 +11,17 @@ ghost use Rattle.declarations.specs.told.PayloadTold.{LentAt, LentRoom};
 ghost use Rattle.declarations.specs.told.BodyTold.{BodyTold};
 ghost use Rattle.passes.specs.told.AreaTold as definition;
 ghost use Rattle.passes.specs.told.AreaTold.{strings, InLimits, last_of};
-ghost use Rattle.passes.specs.told.TaskTold.{no_lists};
+ghost use Rattle.passes.specs.told.TaskTold.{no_lists, sizes_at};
+ghost use Rattle.inputs.specs.declared.outcome.Refusal.TheVariants as refusal;
 ghost use Rattle.passes.specs.declared.PassError.TheVariants.{Refused};
-ghost use Rattle.passes.specs.told.PassTold.{of_index, FirstTold, PassedTold, FrameRoom, reading_of};
+ghost use Rattle.passes.specs.told.PassTold.{of_index, of_decode, FirstTold, PassedTold, FrameRoom, reading_of};
 
 use areas::write_in;
 use declarations::body::{Sections, body_in};
 use declarations::payload::open_lent;
 use encoding::{DecodeError, decode};
-use inputs::Kind;
-use inputs::outcome::{Outcome, refused, stop_refusal};
+use inputs::outcome::{Refusal, Sizes};
+use inputs::{Fault, Kind};
 use names::records::IndexError;
 use schema::{ALLOWANCE, Section, Stop, Tables};
 use sheet::State;
@@ -35,18 +36,26 @@ pub(crate) struct Measured {
     pub sections: Sections,
 }
 
-// Why the first pass stops: a refusal, or no room for the notes.
+// Why there is no reply: d1 is refused, or the decoded bytes or their notes have no room in the frame.
 #[derive(Clone, Copy)]
-enum PassError {
+pub enum PassError {
     NoRoom,
-    Refused(Stop),
+    Refused(Refusal),
+}
+
+impl From<Refusal> for PassError {
+    ghost from_gives = { λ refusal e. e ≡ Refused refusal };
+
+    fn from(refusal: Refusal) -> PassError {
+        PassError::Refused(refusal)
+    }
 }
 
 impl From<Stop> for PassError {
-    ghost from_gives = { λ stop e. e ≡ Refused stop };
+    ghost from_gives = { λ stop e. e ≡ Refused (refusal.Stop stop) };
 
     fn from(stop: Stop) -> PassError {
-        PassError::Refused(stop)
+        PassError::Refused(Refusal::Stop(stop))
     }
 }
 
@@ -56,7 +65,20 @@ impl From<IndexError> for PassError {
     fn from(error: IndexError) -> PassError {
         match error {
             IndexError::NoRoom => PassError::NoRoom,
-            IndexError::Wire(error) => PassError::Refused(Stop::Wire(error)),
+            IndexError::Wire(error) => PassError::from(Stop::Wire(error)),
+        }
+    }
+}
+
+impl From<DecodeError> for PassError {
+    ghost from_gives = { λ error e. e ≡ of_decode error };
+
+    fn from(error: DecodeError) -> PassError {
+        match error {
+            DecodeError::TooLong => PassError::Refused(Refusal::Fault(Fault::D1TooLong)),
+            DecodeError::Empty => PassError::Refused(Refusal::EmptyPayload),
+            DecodeError::NotAByte { unit } => PassError::Refused(Refusal::NotAByte { unit }),
+            DecodeError::NoRoom => PassError::NoRoom,
         }
     }
 }
@@ -75,10 +97,10 @@ pub struct Asked {
     pub kind: Kind,
 }
 
-// Number, detail, both lengths and the types; and, where a room is told, how far both areas reach after each list and how many it has.
+// Both lengths and the types; and, where a room is told, how far both areas reach after each list and how many it has.
 #[derive(Clone, Copy)]
 pub struct Reply {
-    pub outcome: Outcome,
+    pub sizes: Sizes,
     pub sections: Sections,
 }
 
@@ -94,8 +116,8 @@ pub fn start() -> State
 }
 
 // A reply that tells of no list.
-pub fn without_lists(outcome: Outcome) -> Reply
-    ensures { (result.outcome ≡ outcome) × (result.sections ≡ no_lists) }
+pub fn without_lists(sizes: Sizes) -> Reply
+    ensures { (result.sizes ≡ sizes) × (result.sections ≡ no_lists) }
 {
     let begin = start();
     let none = Section {
@@ -103,7 +125,7 @@ pub fn without_lists(outcome: Outcome) -> Reply
         count: 0,
     };
     Reply {
-        outcome,
+        sizes,
         sections: Sections {
             head: begin,
             constructors: none,
@@ -114,21 +136,26 @@ pub fn without_lists(outcome: Outcome) -> Reply
     }
 }
 
+// What is taken where both areas are written so far.
+pub(crate) fn sizes_at(end: State) -> Sizes
+    requires { end.types ≤ allowance }
+    ensures { result ≡ sizes_at end }
+{
+    Sizes {
+        sheet: end.sheet,
+        text: end.text,
+        types: ALLOWANCE - end.types,
+    }
+}
+
 // What was measured, told: both lengths at their true size, also where no area would hold them.
 fn told_room(measured: Measured) -> Reply
     requires { (last_of measured).types ≤ allowance }
-    ensures { (result.outcome ≡ record { number = 0; detail = 0; sheet = (last_of measured).sheet; text = (last_of measured).text; types = allowance - (last_of measured).types }) × (result.sections ≡ measured.sections) }
+    ensures { (result.sizes ≡ sizes_at (last_of measured)) × (result.sections ≡ measured.sections) }
 {
     let sections = measured.sections;
-    let end = sections.aliases.state;
     Reply {
-        outcome: Outcome {
-            number: 0,
-            detail: 0,
-            sheet: end.sheet,
-            text: end.text,
-            types: ALLOWANCE - end.types,
-        },
+        sizes: sizes_at(sections.aliases.state),
         sections,
     }
 }
@@ -195,7 +222,7 @@ fn measure(
     })
 }
 
-// The decoded bytes of a kind that carries declarations: the first pass, then what the task asks for; none where the notes have no room.
+// The decoded bytes of a kind that carries declarations: the first pass, then what the task asks for.
 fn read_in(
     asked: Asked,
     bytes: &[u8],
@@ -206,11 +233,11 @@ fn read_in(
     scratch_text: &mut [u8],
     sheet: &mut [u8],
     text: &mut [u8],
-) -> Option<Reply>
+) -> Result<Reply, PassError>
     requires { InLimits bytes.now d2.now ends.now }
     ensures { PassedTold asked (payload (kind_number asked.kind) (strings d2.now ends.now) bytes.now) (LentRoom bytes.now notes.new) result sheet.old sheet.new text.old text.new }
 {
-    let first = measure(
+    let measured = measure(
         asked.kind,
         bytes,
         d2,
@@ -218,31 +245,28 @@ fn read_in(
         notes,
         scratch_sheet,
         scratch_text,
-    );
-    let measured = match first {
-        Ok(measured) => measured,
-        Err(PassError::Refused(stop)) => return Some(without_lists(stop_refusal(stop))),
-        Err(PassError::NoRoom) => return None,
-    };
-    let reply = match asked.task {
-        Task::Read => without_lists(write_in(
-            asked.kind,
-            measured,
-            bytes,
-            d2,
-            ends,
-            notes,
-            scratch_sheet,
-            scratch_text,
-            sheet,
-            text,
-        )),
-        Task::Room => told_room(measured),
-    };
-    Some(reply)
+    )?;
+    match asked.task {
+        Task::Read => {
+            let sizes = write_in(
+                asked.kind,
+                measured,
+                bytes,
+                d2,
+                ends,
+                notes,
+                scratch_sheet,
+                scratch_text,
+                sheet,
+                text,
+            )?;
+            Ok(without_lists(sizes))
+        }
+        Task::Room => Ok(told_room(measured)),
+    }
 }
 
-// d1 of a kind that carries declarations, within its limit; none where the decoded bytes or their notes have no room in the frame.
+// d1 of a kind that carries declarations, within its limit.
 // Callers show `InLimits`: metadata from the answer of `fault_of`, which has found no fault.
 pub fn decode_in(
     asked: Asked,
@@ -255,25 +279,20 @@ pub fn decode_in(
     scratch_text: &mut [u8],
     sheet: &mut [u8],
     text: &mut [u8],
-) -> Option<Reply>
+) -> Result<Reply, PassError>
     requires { InLimits d1.now d2.now ends.now }
     ensures { PassedTold asked (reading_of (kind_number asked.kind) d1.now d2.now ends.now) (FrameRoom d1.now bytes.new notes.new) result sheet.old sheet.new text.old text.new }
 {
-    match decode(d1, bytes) {
-        Ok(length) => read_in(
-            asked,
-            &bytes[..length],
-            d2,
-            ends,
-            notes,
-            scratch_sheet,
-            scratch_text,
-            sheet,
-            text,
-        ),
-        Err(DecodeError::TooLong) => Some(without_lists(refused(1, 0))),
-        Err(DecodeError::Empty) => Some(without_lists(refused(5, 0))),
-        Err(DecodeError::NotAByte { unit }) => Some(without_lists(refused(6, u64::from(unit)))),
-        Err(DecodeError::NoRoom) => None,
-    }
+    let length = decode(d1, bytes)?;
+    read_in(
+        asked,
+        &bytes[..length],
+        d2,
+        ends,
+        notes,
+        scratch_sheet,
+        scratch_text,
+        sheet,
+        text,
+    )
 }

@@ -30,7 +30,7 @@ use Rattle.names.specs.Records.{base_text, text_of, predefined_text, substituted
 use Rattle.names.specs.told.Name.{predefined_list, turned, dropped, source_text, name_text, plain, absent_name}
 use Rattle.names.specs.told.RecordTold.{both_numbers, record_told}
 use Rattle.names.specs.told.Stream.{listed_text, base_of}
-use Rattle.record_names.specs.told.Steps.{within, SubstringTold, base_in, text_in, OfBytes, BaseTold, StepTold, LeftTold, known, with_steps, turned_steps}
+use Rattle.record_names.specs.told.Steps.{within, BytesName, SubstringTold, base_in, text_in, OfBytes, BaseTold, StepTold, LeftTold, known, with_steps, turned_steps}
 use Rattle.names.specs.declared.name.Name.{Name}
 use Rattle.names.specs.declared.records.Record.{Record}
 use Rattle.record_names.specs.told.Ends.{EndsTold}
@@ -181,6 +181,9 @@ pub not-both : (two : Two) → ((a b : ℕ) → two ≡ Both a b → ⊥) → bo
 not-both Neither h = refl
 not-both (One a) h = refl
 not-both (Both a b) h = absurd (h a b refl)
+
+pub absent-made : {n : Name} → n ≡ absent_name → BytesName n
+absent-made e = rw e (omega arith, refl, omega arith, omega arith, omega arith, refl)
 
 module _ (payload d2 : List ℕ) (base : Base) (op : ℕ) where
   abbrev steps_of : ℕ → ℕ → ℕ → Name

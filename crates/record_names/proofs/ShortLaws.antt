@@ -26,13 +26,13 @@ use Rattle.record_names.specs.told.Named.{PredefinedTold, NamedTold}
 use Rattle.names.specs.declared.name.Name.{Name}
 use Rattle.foundation.specs.declared.Span.{Span}
 use Rattle.std.specs.declared.option.Option as rust
-use Rattle.record_names.proofs.PartLaws.{same-substituted}
+use Rattle.record_names.proofs.PartLaws.{absent-made, same-substituted}
 
 -- A predefined string as a name.
 module _ {index : ℕ} {l : rust.Option Span} (e : listed_text l ≡ predefined_text index) where
   pub listed-absent : l ≡ None → {n : Name} → n ≡ absent_name → PredefinedTold index n
   unfolding name_text source_text
-  listed-absent g q = subst (PredefinedTold index) (sym q) record { bytes = (omega arith, refl, omega arith, omega arith, omega arith, refl); is = λ payload units. ap listed_text (sym g) ∙ e }
+  listed-absent g q = subst (PredefinedTold index) (sym q) record { bytes = absent-made refl; is = λ payload units. ap listed_text (sym g) ∙ e }
 
   pub listed-named : {p : Span} → l ≡ Some p → {n : Name} → n ≡ plain 2 p.start p.end → PredefinedTold index n
   unfolding name_text source_text turned

@@ -8,7 +8,7 @@ use crate::ends::last_of;
 use crate::within;
 use characters::utf8_at;
 use foundation::Span;
-use names::name::{Name, PREDEFINED, base_part, instead};
+use names::name::{Name, PREDEFINED, base_text, instead};
 
 // The part between a leading L and a trailing ; of some bytes' text, every character `from` become `to`.
 fn unwrapped_part(s: &[u8], from: u32, to: u32) -> Option<Span>
@@ -46,7 +46,7 @@ pub(crate) fn qualified_bytes(payload: &[u8], name: Name) -> Name
     requires { BytesName name }
     ensures { ClassTold payload.now name result }
 {
-    let s = base_part(payload, &PREDEFINED, name.source, name.start, name.end);
+    let s = base_text(payload, &PREDEFINED, name.source, name.start, name.end);
     let Some(part) = unwrapped_part(s, name.from, name.to) else {
         return Name {
             qualified: true,

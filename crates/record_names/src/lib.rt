@@ -90,8 +90,7 @@ fn record_at(bytes: &[u8], part: Span) -> Option<Name>
     if size == 2 && bytes[start + 1] < 128 {
         match u32::from(bytes[start]) {
             PREDEFINED_INDEX_TAG => return Some(listed_name(u32::from(bytes[start + 1]))),
-            RANGE_TAG => return None,
-            OPERATION_TAG => return None,
+            RANGE_TAG | OPERATION_TAG => return None,
             _ => {}
         }
     }

@@ -30,7 +30,7 @@ fn clipped_name(size: usize, name: Name) -> Name
     }
 }
 
-// How many bytes of UTF-8 a record's name takes before its operation; 0 where that is more than a note holds.
+// How many bytes of UTF-8 a record's name takes before its operation; 0, as in `Name`, where that is more than a note holds.
 fn size_of(bytes: &[u8], name: Name) -> usize
     requires { BytesName name × (length bytes.now < 65536) }
     ensures { SizeTold bytes.now name result }

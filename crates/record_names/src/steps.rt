@@ -17,7 +17,7 @@ use crate::{plain, within};
 use characters::find_place;
 use foundation::{Span, wide};
 use messages::repeated::Two;
-use names::name::{Name, PREDEFINED, absent, base_part, predefined};
+use names::name::{Name, PREDEFINED, absent, base_text, predefined};
 use names::records::Record;
 
 // The part of some bytes that gives the substring of their text by byte places.
@@ -64,7 +64,7 @@ fn base_of(string: Option<Span>, index: Option<u32>, from: usize) -> Option<Base
 fn bytes_of(payload: &[u8], base: Base) -> &[u8]
     ensures { result.now ≡ part_from base.part.start base.part.end (base_of base.source payload.now predefined_list) }
 {
-    base_part(
+    base_text(
         payload,
         &PREDEFINED,
         base.source,

@@ -1,6 +1,6 @@
 -- What `room` tells at each exit: the code's numbers are the definition's.
 -- Assumes nothing.
-use mathlib.Core.Path.{◌≡◌, refl, sym, ap, ◌∙◌}
+use mathlib.Core.Path.{◌≡◌, refl, sym, ap, subst, ◌∙◌}
 use mathlib.Core.List.{List, [], ◌∷◌, ◌++◌}
 use Prim.Native.Nat.{ℕ, ◌+◌, ◌-◌, ◌*◌, ◌≤◌}
 use native.Mathlib.Omega.{arith}
@@ -14,11 +14,14 @@ use Rattle.schema.specs.Counting.{count_kind}
 use Rattle.schema.specs.told.TypeSizes.{declarations_size}
 use Rattle.inputs.specs.Inputs.{Input, kind_of}
 use Rattle.inputs.specs.Outcomes.{Answer}
-use Rattle.inputs.specs.declared.outcome.Outcome.{Outcome}
+use Rattle.std.specs.Prelude.{Result, Ok, Err}
+use Rattle.inputs.specs.told.OutcomesTold.{told}
+use Rattle.inputs.specs.declared.outcome.Sizes.{Sizes}
+use Rattle.inputs.specs.declared.outcome.Refusal.{Refusal}
 use Rattle.members.specs.Lists.{section_rows}
 use Rattle.members.specs.declared.list.Member.TheVariants as member
 use Rattle.declarations.specs.Payload.{head_row, declaration_rows}
-use Rattle.passes.specs.told.TaskTold.{Measures, RoomTold}
+use Rattle.passes.specs.told.TaskTold.{sizes_of, Measures, RoomTold}
 use Rattle.passes.specs.declared.Reply.{Reply}
 use Rattle.metadata.specs.Read.{reading}
 use Rattle.promises.specs.Promises.{longest_sheet}
@@ -29,58 +32,38 @@ use Rattle.promises.proofs.Sound.{reading_enters}
 use Rattle.room.specs.Room.{lists_of, text_lengths, room_by, room_of, room}
 use Rattle.room.specs.told.RoomTold.{others_bytes, parameters_left, TextsRise, texts_between, tells_room}
 use Rattle.room.specs.declared.RoomAnswer.{RoomAnswer}
-use Rattle.room.specs.declared.Records.{Records}
 use Rattle.room.specs.declared.ListTexts.{ListTexts}
 use Rattle.room.proofs.CountLaws as count
 use Rattle.room.proofs.ListLaws.{append-size, cons_size, texts-add}
 
--- no record of any kind
-abbrev NoRecords : Records → Type 0
-NoRecords r = (r.heads ≡ 0) × ((r.constructors ≡ 0) × ((r.functions ≡ 0) × ((r.properties ≡ 0) × ((r.parameters ≡ 0) × ((r.types ≡ 0) × ((r.defaults ≡ 0) × ((r.aliases ≡ 0) × ((r.counts ≡ 0)))))))))
-
--- no text in any list
-abbrev NoTexts : ListTexts → Type 0
-NoTexts t = (t.properties ≡ 0) × ((t.functions ≡ 0) × ((t.constructors ≡ 0) × ((t.aliases ≡ 0) × ((t.head ≡ 0)))))
-
--- no room at all
-abbrev NoRoom : RoomAnswer → Type 0
-NoRoom a = (a.number ≡ 0) × ((a.detail ≡ 0) × ((a.sheet ≡ 0) × ((a.text ≡ 0) × ((a.types ≡ 0) × (NoRecords a.records × (NoTexts a.texts))))))
-
-abbrev refusal_told : Outcome → RoomAnswer → RoomAnswer
-refusal_told o a = record { number = o.number; detail = o.detail; sheet = a.sheet; text = a.text; types = a.types; records = a.records; texts = a.texts }
-
 -- A refusal.
-pub refused-room : (i : Input) (r : Reply) → RoomTold (kind_of i.k) (reading i) r → (r.outcome.number ≡ 0 → ⊥) → (a : RoomAnswer) → NoRoom a
-    → room i ≡ tells_room (refusal_told r.outcome a)
+pub refused-room : (i : Input) (r : Result Reply Refusal) → RoomTold (kind_of i.k) (reading i) r → {x : Refusal} → r ≡ Err x → room i ≡ tells_room (Err x)
 unfolding room
-refused-room i r t n a (_, (_, (s, (l, (y, ((r1, (r2, (r3, (r4, (r5, (r6, (r7, (r8, r9)))))))), (t1, (t2, (t3, (t4, t5)))))))))) = go (reading i) t
+refused-room i r t {x} n = go (reading i) t
   where
-    go : (z : Res (Declarations × ℕ)) → RoomTold (kind_of i.k) z r → room_by (kind_of i.k) z ≡ tells_room (refusal_told r.outcome a)
-    go (ok read) m = absurd (n (ap (λ (o : Outcome). o.number) m.outcome))
+    go : (z : Res (Declarations × ℕ)) → RoomTold (kind_of i.k) z r → room_by (kind_of i.k) z ≡ tells_room (Err x)
+    go (ok read) m = let e = m.1 in cc
     go (refused c place) h =
-        rw (← ap (λ (a : Answer). a.number) (h [] []), ← ap (λ (a : Answer). a.detail) (h [] []), s, l, y, r1, r2, r3, r4, r5, r6, r7, r8, r9, t1, t2, t3, t4, t5)
+        let e = h [] [] ∙ ap (λ (y : Result Reply Refusal). told (sizes_of y) [] []) n in
+        rw (ap (λ (a : Answer). a.number) e, ap (λ (a : Answer). a.detail) e)
 
 -- Both lengths, the types, the records by kind, and the text by lists.
-abbrev accepted_told : (sheet text types constructors functions properties parameters aliases : ℕ) → ListTexts → RoomAnswer
-accepted_told sheet text types constructors functions properties parameters aliases lists = record {
-  number = 0;
-  detail = 0;
-  sheet = sheet;
-  text = text;
-  types = types;
+abbrev accepted_told : (sizes : Sizes) (constructors functions properties parameters aliases : ℕ) → ListTexts → Result RoomAnswer Refusal
+accepted_told sizes constructors functions properties parameters aliases lists = Ok (record {
+  sizes = sizes;
   records = record {
     heads = 1;
     constructors = constructors;
     functions = functions;
     properties = properties;
     parameters = parameters;
-    types = types;
+    types = sizes.types;
     defaults = constructors + functions;
     aliases = aliases;
     counts = 1;
   };
   texts = lists;
-}
+})
 
 -- the text by lists as the definition tells it
 abbrev in_order : ListTexts → List ℕ
@@ -89,7 +72,7 @@ in_order x = x.properties ∷ x.functions ∷ x.constructors ∷ x.aliases ∷ x
 counts_same : (kind : ℕ) (d : Declarations) (n : ℕ) {s t y c f p q a : ℕ} {x : ListTexts} → let rows = declaration_rows kind d in
     s ≡ length (sheet_from 0 rows) → t ≡ length (texts rows) → y ≡ n → count_kind 1 rows ≡ 1 → count_kind 2 rows ≡ c → count_kind 3 rows ≡ f
     → count_kind 4 rows ≡ p → count_kind 5 rows ≡ q → count_kind 6 rows ≡ y → count_kind 7 rows ≡ c + f → count_kind 8 rows ≡ a → count_kind 9 rows ≡ 1
-    → text_lengths (lists_of kind d) ≡ in_order x → room_of kind d n ≡ tells_room (accepted_told s t y c f p q a x)
+    → text_lengths (lists_of kind d) ≡ in_order x → room_of kind d n ≡ tells_room (accepted_told (record { sheet = s; text = t; types = y }) c f p q a x)
 counts_same kind d n i j k e₁ e₂ e₃ e₄ e₅ e₆ e₇ e₈ e₉ l = rw (e₁, e₂, e₃, e₄, e₅, e₆, e₇, e₈, e₉, l, i, j, k)
 
 -- What was read where no refusal is told, and its measures.
@@ -99,12 +82,17 @@ pub record Told (i : Input) (r : Reply) : Type 0 where
   pub reads : reading i ≡ ok (declarations, left)
   pub measures : Measures (kind_of i.k) declarations left r
 
-pub accepted-room : (i : Input) (r : Reply) → RoomTold (kind_of i.k) (reading i) r → r.outcome.number ≡ 0 → Told i r
-accepted-room i r = go (reading i) refl
+pub accepted-room : (i : Input) (r : Result Reply Refusal) → RoomTold (kind_of i.k) (reading i) r → {reply : Reply} → r ≡ Ok reply → Told i reply
+accepted-room i r t {reply} n = go (reading i) refl t
   where
-    go : (x : Res (Declarations × ℕ)) → reading i ≡ x → RoomTold (kind_of i.k) x r → r.outcome.number ≡ 0 → Told i r
-    go (ok read) e m z = record { declarations = read.0; left = read.1; reads = e; measures = m }
-    go (refused c place) e h z = absurd (omega (arith, refusal_numbered c, ap (λ (a : Answer). a.number) (h [] [])))
+    go : (x : Res (Declarations × ℕ)) → reading i ≡ x → RoomTold (kind_of i.k) x r → Told i reply
+    go (ok read) e m =
+        let f = m.1 in
+        let same : m.0 ≡ reply = cc in
+        record { declarations = read.0; left = read.1; reads = e; measures = subst (Measures (kind_of i.k) read.0 read.1) same m.2 }
+    go (refused c place) e h =
+        let f = h [] [] ∙ ap (λ (y : Result Reply Refusal). told (sizes_of y) [] []) n in
+        absurd (omega (arith, refusal_numbered c, ap (λ (a : Answer). a.number) f))
 
 module _ (i : Input) (r : Reply) (t : Told i r) where
   abbrev d : Declarations
@@ -113,22 +101,22 @@ module _ (i : Input) (r : Reply) (t : Told i r) where
   abbrev rows : List Row
   rows = declaration_rows (kind_of i.k) d
 
-  sheet-is : r.outcome.sheet ≡ length (sheet_from 0 rows)
-  sheet-is = ap (λ (o : Outcome). o.sheet) t.measures.outcome
+  sheet-is : r.sizes.sheet ≡ length (sheet_from 0 rows)
+  sheet-is = ap (λ (o : Sizes). o.sheet) t.measures.sizes
 
-  text-is : r.outcome.text ≡ length (texts rows)
-  text-is = ap (λ (o : Outcome). o.text) t.measures.outcome
+  text-is : r.sizes.text ≡ length (texts rows)
+  text-is = ap (λ (o : Sizes). o.text) t.measures.sizes
 
-  types_are : r.outcome.types ≡ allowance - t.left
-  types_are = ap (λ (o : Outcome). o.types) t.measures.outcome
+  types_are : r.sizes.types ≡ allowance - t.left
+  types_are = ap (λ (o : Sizes). o.types) t.measures.sizes
 
   -- the types are those of the declarations, and so the records of kind 6
-  types-declared : r.outcome.types ≡ declarations_size d
+  types-declared : r.sizes.types ≡ declarations_size d
   types-declared =
       let entered : declarations_size d + t.left ≡ allowance = gives-ok (λ x. declarations_size x.0 + x.1 ≡ allowance) t.reads (reading_enters i) in
       omega (arith, types_are)
 
-  whole : r.outcome.sheet ≡ others_bytes r.outcome r.sections + 6 * count_kind 5 rows
+  whole : r.sizes.sheet ≡ others_bytes r.sizes r.sections + 6 * count_kind 5 rows
   whole =
       omega (
         arith,
@@ -141,10 +129,10 @@ module _ (i : Input) (r : Reply) (t : Told i r) where
         count.sheet-by-kinds (kind_of i.k) d,
       )
 
-  pub others-within : others_bytes r.outcome r.sections ≤ r.outcome.sheet
+  pub others-within : others_bytes r.sizes r.sections ≤ r.sizes.sheet
   others-within = omega (arith, whole)
 
-  pub sheet-within : r.outcome.sheet ≤ longest_sheet
+  pub sheet-within : r.sizes.sheet ≤ longest_sheet
   sheet-within = omega (arith, sheet-is, sheet-short i d t.left t.reads)
 
   abbrev cs : List Row
@@ -180,26 +168,26 @@ module _ (i : Input) (r : Reply) (t : Told i r) where
         append-size fs ps,
       )
 
-  aliases-end : r.outcome.text ≡ r.sections.properties.state.text + length (texts (section_rows member.Alias d))
+  aliases-end : r.sizes.text ≡ r.sections.properties.state.text + length (texts (section_rows member.Alias d))
   aliases-end =
       omega (arith, text-is, texts-add (kind_of i.k) d, t.measures.head_text, constructors-end, functions-end, properties-end)
 
-  pub texts-rise : TextsRise r.outcome.text r.sections
+  pub texts-rise : TextsRise r.sizes.text r.sections
   texts-rise = (omega (arith, constructors-end), omega (arith, functions-end), omega (arith, properties-end), omega (arith, aliases-end))
 
-  lists-between : text_lengths (lists_of (kind_of i.k) d) ≡ in_order (texts_between r.outcome.text r.sections)
+  lists-between : text_lengths (lists_of (kind_of i.k) d) ≡ in_order (texts_between r.sizes.text r.sections)
   lists-between =
       let b = r.sections in
       let properties : length (texts ps) ≡ b.properties.state.text - b.functions.state.text = omega (arith, properties-end) in
       let functions : length (texts fs) ≡ b.functions.state.text - b.constructors.state.text = omega (arith, functions-end) in
       let constructors : length (texts cs) ≡ b.constructors.state.text - b.head.text = omega (arith, constructors-end) in
-      let aliases : length (texts (section_rows member.Alias d)) ≡ r.outcome.text - b.properties.state.text = omega (arith, aliases-end) in
+      let aliases : length (texts (section_rows member.Alias d)) ≡ r.sizes.text - b.properties.state.text = omega (arith, aliases-end) in
       rw (properties, functions, constructors, aliases, ← t.measures.head_text)
 
-  pub told-room : {parameters : ℕ} → parameters ≡ parameters_left r.outcome r.sections → {lists : ListTexts}
-      → lists ≡ texts_between r.outcome.text r.sections
+  pub told-room : {parameters : ℕ} → parameters ≡ parameters_left r.sizes r.sections → {lists : ListTexts}
+      → lists ≡ texts_between r.sizes.text r.sections
       → room i
-      ≡ tells_room (accepted_told r.outcome.sheet r.outcome.text r.outcome.types r.sections.constructors.count r.sections.functions.count r.sections.properties.count parameters r.sections.aliases.count lists)
+      ≡ tells_room (accepted_told r.sizes r.sections.constructors.count r.sections.functions.count r.sections.properties.count parameters r.sections.aliases.count lists)
   unfolding room
   told-room e f =
       let kind = kind_of i.k in
@@ -207,7 +195,7 @@ module _ (i : Input) (r : Reply) (t : Told i r) where
       ap (room_by kind) t.reads
       ∙ counts_same kind d (allowance - t.left) sheet-is text-is types_are (count.heads kind d) (count.constructors kind d ∙ sym m.constructor_count)
       (count.functions kind d ∙ sym m.function_count) (count.properties kind d ∙ sym m.property_count)
-      (count.sixth r.outcome.sheet (others_bytes r.outcome r.sections) (count_kind 5 rows) whole ∙ sym e)
+      (count.sixth r.sizes.sheet (others_bytes r.sizes r.sections) (count_kind 5 rows) whole ∙ sym e)
       (declarations-count kind d ∙ sym types-declared) (omega (arith, count.defaults kind d, m.constructor_count, m.function_count))
       (count.aliases kind d ∙ sym m.alias_count) (count.alias-counts kind d)
       (lists-between ∙ ap in_order (sym f))

@@ -8,11 +8,11 @@ ghost use Rattle.room.specs.Room as definition;
 ghost use Rattle.room.specs.told.RoomTold.{others_bytes, parameters_left, TextsRise, texts_between, tells_room};
 
 use declarations::body::Sections;
-use inputs::outcome::Outcome;
+use inputs::outcome::{Refusal, Sizes};
 use metadata::measure;
 
 // How many records of each kind, 1 to 9; `counts` are those of kind 9.
-#[derive(Clone, Copy, Default)]
+#[derive(Clone, Copy)]
 pub struct Records {
     pub heads: usize,
     pub constructors: usize,
@@ -26,7 +26,7 @@ pub struct Records {
 }
 
 // The bytes of text of each list, of its records and of all they own; the head's last.
-#[derive(Clone, Copy, Default)]
+#[derive(Clone, Copy)]
 pub struct ListTexts {
     pub properties: usize,
     pub functions: usize,
@@ -35,31 +35,27 @@ pub struct ListTexts {
     pub head: usize,
 }
 
-// Number and detail of a refusal (0 and 0: none), both lengths, the types, the records, the text by lists.
-#[derive(Clone, Copy, Default)]
+// Both lengths and the types, the records, the text by lists.
+#[derive(Clone, Copy)]
 pub struct RoomAnswer {
-    pub number: u64,
-    pub detail: u64,
-    pub sheet: usize,
-    pub text: usize,
-    pub types: usize,
+    pub sizes: Sizes,
     pub records: Records,
     pub texts: ListTexts,
 }
 
 // The parameters' records. Every kind has a width of its own, so that they take what all the others leave of the sheet: 23 bytes are the head's and
 // kind 9's, 24 a constructor's with its kind 7, 29 a function's with its, 40 a property's, 13 an alias's, 10 a type's, 6 a parameter's.
-fn parameters_in(outcome: Outcome, sections: Sections) -> usize
-    requires { (others_bytes outcome sections ≤ outcome.sheet) × (outcome.sheet ≤ longest_sheet) }
-    ensures { result ≡ parameters_left outcome sections }
+fn parameters_in(sizes: Sizes, sections: Sections) -> usize
+    requires { (others_bytes sizes sections ≤ sizes.sheet) × (sizes.sheet ≤ longest_sheet) }
+    ensures { result ≡ parameters_left sizes sections }
 {
     let closed = 24 * sections.constructors.count + 29 * sections.functions.count;
     let others = 23
         + closed
         + 40 * sections.properties.count
         + 13 * sections.aliases.count
-        + 10 * outcome.types;
-    (outcome.sheet - others) / 6
+        + 10 * sizes.types;
+    (sizes.sheet - others) / 6
 }
 
 // The text of each list: what stands between where the text before it ends and where its own does. The aliases' ends where the whole text does.
@@ -82,40 +78,35 @@ fn texts_in(text: usize, sections: Sections) -> ListTexts
 
 // Tells of one class, from k, mv, d1's units, d2's units and where its strings end, what its reading takes; or the refusal that reading gives
 // short of 11 and 12.
-pub fn room(k: i32, version: [i32; 3], d1: &[u16], d2: &[u16], ends: &[u32]) -> RoomAnswer
+pub fn room(
+    k: i32,
+    version: [i32; 3],
+    d1: &[u16],
+    d2: &[u16],
+    ends: &[u32],
+) -> Result<RoomAnswer, Refusal>
     ensures { definition.room (input k version d1.now d2.now ends.now) ≡ tells_room result }
 {
-    let reply = measure(k, version, d1, d2, ends);
-    let outcome = reply.outcome;
-    if outcome.number != 0 {
-        return RoomAnswer {
-            number: outcome.number,
-            detail: outcome.detail,
-            ..RoomAnswer::default()
-        };
-    }
+    let reply = measure(k, version, d1, d2, ends)?;
+    let sizes = reply.sizes;
     let sections = reply.sections;
-    let parameters = parameters_in(outcome, sections);
-    let texts = texts_in(outcome.text, sections);
+    let parameters = parameters_in(sizes, sections);
+    let texts = texts_in(sizes.text, sections);
     let constructors = sections.constructors.count;
     let functions = sections.functions.count;
-    RoomAnswer {
-        number: 0,
-        detail: 0,
-        sheet: outcome.sheet,
-        text: outcome.text,
-        types: outcome.types,
+    Ok(RoomAnswer {
+        sizes,
         records: Records {
             heads: 1,
             constructors,
             functions,
             properties: sections.properties.count,
             parameters,
-            types: outcome.types,
+            types: sizes.types,
             defaults: constructors + functions,
             aliases: sections.aliases.count,
             counts: 1,
         },
         texts,
-    }
+    })
 }

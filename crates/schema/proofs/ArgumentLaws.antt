@@ -5,7 +5,9 @@ use mathlib.Core.List.{List, [], ◌∷◌, ◌++◌, append-nil}
 use mathlib.Core.Option.{none, some}
 use Prim.Native.Nat.{ℕ, suc, ◌≤◌, ◌<◌}
 use native.Mathlib.Omega.{arith}
-use borrow.Author.Tests.{ne_eqb, le-leb, lt-leb}
+use borrow.Author.Tests.{ne_eqb, le-leb, lt-leb, ltb-true, ltb-false}
+use lib.Dec.{ltb}
+use mathlib.Core.Bool.{Bool, true, false}
 use lib.ListN.{length}
 use Rattle.foundation.specs.Choices.{map_option}
 use Rattle.foundation.specs.Results.{ok, ◌from◌}
@@ -19,8 +21,10 @@ use Rattle.declaration_rows.specs.Declarations.{invariant, star, Argument, proje
 use Rattle.declaration_rows.specs.Rows.{argument_role, type_cells, types_rows}
 use Rattle.schema.specs.Reading.{pure, ◌>>=◌, enter, Scope}
 use Rattle.schema.specs.Types.{Walk, type_in, projection_of, projection_in, argument_in}
-use Rattle.schema.specs.told.ArgumentTold.{NoStar, ArgumentHeadIs, ArgumentHeadInside, ArgumentHeadTold}
+use Rattle.schema.specs.told.ArgumentTold.{projection_number, NoStar, ArgumentHeadIs, ArgumentHeadInside, ArgumentHeadTold}
 use Rattle.schema.specs.told.TypesTold.{rows_in}
+use Rattle.schema.specs.declared.argument.Projection.{Projection}
+use Rattle.schema.specs.declared.argument.Projection.TheVariants as projection
 use Rattle.schema.specs.declared.argument.ArgumentHead.{ArgumentHead}
 use Rattle.schema.specs.declared.argument.ArgumentHead.TheVariants as argument
 use Rattle.std.specs.declared.option.Option.{Option}
@@ -63,15 +67,15 @@ module _ (base : ℕ) (msg : List ℕ) {r : ArgumentHead} (t : ArgumentHeadTold 
   pub star-is : r ≡ argument.Star → (m : Message) → cut (◌from◌ base msg) ≡ ok m → projection_in m ≡ star
   star-is g m k = head-is g m k
 
-  module _ {p : ℕ} {b : Span} (g : r ≡ argument.Inline p b) where
-    pub inline-typed : (m : Message) → cut (◌from◌ base msg) ≡ ok m → NoStar p m
+  module _ {p : Projection} {b : Span} (g : r ≡ argument.Inline p b) where
+    pub inline-typed : (m : Message) → cut (◌from◌ base msg) ≡ ok m → NoStar (projection_number p) m
     inline-typed m k = (head-is g m k).0
 
     pub inline-bytes : BytesTold base msg Type-Argument-type (Some b)
     inline-bytes = record { is = λ m k. (head-is g m k).1; inside = subst (ArgumentHeadInside msg) g t.inside }
 
-  module _ {p i : ℕ} (g : r ≡ argument.ByIndex p i) where
-    pub indexed-typed : (m : Message) → cut (◌from◌ base msg) ≡ ok m → NoStar p m
+  module _ {p : Projection} {i : ℕ} (g : r ≡ argument.ByIndex p i) where
+    pub indexed-typed : (m : Message) → cut (◌from◌ base msg) ≡ ok m → NoStar (projection_number p) m
     indexed-typed m k = (head-is g m k).0
 
     pub indexed-bytes : BytesTold base msg Type-Argument-type None
@@ -90,30 +94,43 @@ module _ (base : ℕ) (msg : List ℕ) {r : ArgumentHead} (t : ArgumentHeadTold 
     pub nothing-index : (m : Message) → cut (◌from◌ base msg) ≡ ok m → index Type-Argument-type_id m ≡ index_told None
     nothing-index m k = (head-is g m k).2
 
+star-same : (p : Projection) → projection_number p ≡ star → p ≡ projection.Star
+star-same projection.In h = absurd (omega arith)
+star-same projection.Out h = absurd (omega arith)
+star-same projection.Invariant h = absurd (omega arith)
+star-same projection.Star h = refl
+
 -- A number that is one of the four, and another.
 module _ (f : Option WireValue) {x : Option ℕ} (e : x ≡ number_in f) {n : ℕ} (g : x ≡ Some n) where
-  pub projection-small : n < 4 → n ≡ projection_of (number_told (number_in f))
-  projection-small h = rw (← e, g, le-leb n star (omega arith))
+  pub projection-small : {p : ℕ} → n ≡ p → p < 4 → p ≡ projection_of (number_told (number_in f))
+  projection-small q h = sym q ∙ rw (← e, g, le-leb n star (omega arith))
 
-  pub projection-large : 4 ≤ n → invariant ≡ projection_of (number_told (number_in f))
-  projection-large h = rw (← e, g, lt-leb n star (omega arith))
+  pub projection-other : (n ≡ 0 → ⊥) → (n ≡ 1 → ⊥) → (n ≡ star → ⊥) → invariant ≡ projection_of (number_told (number_in f))
+  projection-other u v w = go (ltb n 4) refl
+    where
+      go : (t : Bool) → ltb n 4 ≡ t → invariant ≡ projection_of (number_told (number_in f))
+      go true k = let h : n < 4 = ltb-true n 4 k in projection-small (omega arith) (omega arith)
+      go false k = let h : 4 ≤ n = ltb-false n 4 k in rw (← e, g, lt-leb n star (omega arith))
 
 -- The same from what was found of its three fields.
 module _ (base : ℕ) (msg : List ℕ) {one two three : Option WireValue} (a : FoundTold base msg Type-Argument-projection one)
     (b : FoundTold base msg Type-Argument-type two) (c : FoundTold base msg Type-Argument-type_id three)
-    {p : ℕ} (e : p ≡ projection_of (number_told (number_in one))) where
-  projection-is : (m : Message) → cut (◌from◌ base msg) ≡ ok m → projection_in m ≡ p
+    (p : Projection) (e : projection_number p ≡ projection_of (number_told (number_in one))) where
+  projection-is : (m : Message) → cut (◌from◌ base msg) ≡ ok m → projection_in m ≡ projection_number p
   unfolding projection_in
   projection-is m k = ap projection_of (number_is base msg Type-Argument-projection m k one a) ∙ sym e
 
-  pub head-star : p ≡ star → ArgumentHeadTold base msg argument.Star
-  head-star h = record { is = λ m k. projection-is m k ∙ h; inside = tt }
+  pub head-star : p ≡ projection.Star → ArgumentHeadTold base msg argument.Star
+  head-star h = record { is = λ m k. projection-is m k ∙ ap projection_number h; inside = tt }
 
-  module _ (other : p ≡ star → ⊥) {x : Option Span} (q : x ≡ piece_in two) where
+  module _ (unequal : p ≡ projection.Star → ⊥) {x : Option Span} (q : x ≡ piece_in two) where
     bytes-are : BytesTold base msg Type-Argument-type x
     bytes-are = piece_is base msg Type-Argument-type two b q
 
-    typed-is : (m : Message) → cut (◌from◌ base msg) ≡ ok m → NoStar p m
+    other : projection_number p ≡ star → ⊥
+    other h = unequal (star-same p h)
+
+    typed-is : (m : Message) → cut (◌from◌ base msg) ≡ ok m → NoStar (projection_number p) m
     typed-is m k = record { is = projection-is m k; no-star = other }
 
     pub head-inline : {u : Span} → x ≡ Some u → ArgumentHeadTold base msg (argument.Inline p u)

@@ -15,7 +15,7 @@ use Rattle.sheet.proofs.PutLaws.{put-types}
 use Rattle.declaration_rows.specs.told.Written as written
 use Rattle.declaration_rows.specs.told.Written.{cell_limit}
 use Rattle.schema.specs.told.SchemaTold.{Picked, Ready, Spends}
-use Rattle.schema.specs.told.MembersTold.{Listed, Affords, Within, PickedWithin, ListedWithin}
+use Rattle.schema.specs.told.MembersTold.{ListWalked, Affords, Within, PickedWithin, ListedWithin}
 use Rattle.schema.specs.declared.Section.{Section}
 use Rattle.declaration_rows.proofs.WrittenLaws.{Small, head-room}
 
@@ -81,5 +81,5 @@ module _ {payload d2 : List ℕ} {n : ℕ} {s : State} (h : Affords payload d2 n
 pub picked_within : {n : ℕ} {s : State} {r : Picked} {s' : State} → PickedWithin n s r → r ≡ Ok (Some s') → Within n s s'
 picked_within {n} {s} h e = subst (PickedWithin n s) e h
 
-pub listed-within : {n : ℕ} {s : State} {r : Listed} {x : Section} → ListedWithin n s r → r ≡ Ok x → Within n s x.state
+pub listed-within : {n : ℕ} {s : State} {r : ListWalked} {x : Section} → ListedWithin n s r → r ≡ Ok x → Within n s x.state
 listed-within {n} {s} h e = subst (ListedWithin n s) e h

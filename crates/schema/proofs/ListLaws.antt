@@ -25,7 +25,7 @@ use Rattle.sheet.proofs.PutLaws.{put_none, put-types, rows_then}
 use Rattle.schema.specs.Reading.{Read, keep, kept, Scope}
 use Rattle.schema.specs.Members.{list_in}
 use Rattle.schema.specs.told.SchemaTold.{Lent, Scoped, Picked, PickedTold, stop_refused}
-use Rattle.schema.specs.told.MembersTold.{Listed, section, Affords, Within, ListedTold, MemberTold, ListTold}
+use Rattle.schema.specs.told.MembersTold.{ListWalked, section, Affords, Within, ListedTold, MemberTold, ListTold}
 use Rattle.schema.specs.told.ListsTold.{ListAtTold}
 use Rattle.schema.specs.declared.Stop.{Stop}
 use Rattle.schema.specs.declared.Stop.TheVariants as stop
@@ -273,7 +273,7 @@ module _ {A : Type 0} {read : Scope → Message → Read (Option A)} {rows : A �
         rw cuts;
   }
 
-  pub list-cut : x ≡ Ok tt → {r : Listed} {S S' T T' : List ℕ} → ListAtTold read rows cost e msg base number s r S S' T T'
+  pub list-cut : x ≡ Ok tt → {r : ListWalked} {S S' T T' : List ℕ} → ListAtTold read rows cost e msg base number s r S S' T T'
       → ListTold read rows cost e msg base number s r S S' T T'
   list-cut g {r} {S} {S'} {T} {T'} u = record {
     spends = u.spends;

@@ -2,39 +2,59 @@
 ghost use Rattle.std.specs.Prelude.{◌≡◌};
 ghost use Rattle.messages.specs.told.Asked.{number_told, number_in};
 ghost use Rattle.schema.specs.Types.{projection_of};
-ghost use Rattle.schema.specs.told.ArgumentTold.{ArgumentHeadTold};
+ghost use Rattle.schema.specs.told.ArgumentTold.{projection_number, ArgumentHeadTold};
 
 use fields::{TYPE_ARGUMENT_PROJECTION, TYPE_ARGUMENT_TYPE, TYPE_ARGUMENT_TYPE_ID};
 use foundation::Span;
 use messages::{find_each, index_in, number_in, piece_in};
 use wire::WireValue;
 
-// Projections, by the numbers of metadata.proto: 0 in, 1 out, 2 invariant, 3 star. A type that is no argument is invariant.
-pub const INVARIANT: u8 = 2;
+// How a type stands in another. A type that is no argument is invariant.
+#[derive(Clone, Copy)]
+pub enum Projection {
+    In,
+    Out,
+    Invariant,
+    Star,
+}
 
-pub const STAR: u8 = 3;
+impl Projection {
+    // Its number in metadata.proto and on the sheet.
+    pub fn number(self) -> u8
+        ensures { result ≡ projection_number self }
+    {
+        match self {
+            Projection::In => 0,
+            Projection::Out => 1,
+            Projection::Invariant => 2,
+            Projection::Star => 3,
+        }
+    }
+}
 
 // A star; or a projection, and the type inline, in a part of the argument's message, or by its index; or no type.
 // No type is a fourth kind here, and no `None`: those who read an argument match all four at once.
 #[derive(Clone, Copy)]
 pub enum ArgumentHead {
     Star,
-    Inline { projection: u8, body: Span },
-    ByIndex { projection: u8, index: u32 },
+    Inline { projection: Projection, body: Span },
+    ByIndex { projection: Projection, index: u32 },
     Nothing,
 }
 
 // What is none of the four numbers is invariant.
-fn projection_of(found: Option<WireValue>) -> u8
-    ensures { result ≡ projection_of (number_told (number_in found)) }
+fn projection_of(found: Option<WireValue>) -> Projection
+    ensures { projection_number result ≡ projection_of (number_told (number_in found)) }
 {
-    let Some(value) = number_in(found) else {
-        return INVARIANT;
+    let Some(number) = number_in(found) else {
+        return Projection::Invariant;
     };
-    if value < 4 {
-        return value as u8;
+    match number {
+        0 => Projection::In,
+        1 => Projection::Out,
+        3 => Projection::Star,
+        _ => Projection::Invariant,
     }
-    INVARIANT
 }
 
 // The argument in a message that is cut. The type of a star is not asked for.
@@ -51,7 +71,7 @@ pub fn argument_head(msg: &[u8], base: u32) -> ArgumentHead
         ],
     );
     let projection = projection_of(projection);
-    if projection == STAR {
+    if let Projection::Star = projection {
         return ArgumentHead::Star;
     }
     if let Some(body) = piece_in(inline) {

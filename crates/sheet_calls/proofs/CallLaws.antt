@@ -20,8 +20,6 @@ use Rattle.inputs.specs.Outcomes as definition
 use Rattle.declarations.specs.Payload.{payload}
 use Rattle.passes.specs.Answered.{nothing_read}
 use Rattle.metadata.specs.Read.{strings_of, reading, read}
-use Rattle.metadata.specs.told.ReadTold.{told_by}
-use Rattle.metadata.specs.declared.Answer.{Answer}
 use Rattle.promises.specs.Promises.{Promised, Enough, tells_offset, BrokeAt}
 use Rattle.promises.proofs.Answered.{answer_promised}
 use Rattle.promises.proofs.Broke.{answer_broke}
@@ -30,12 +28,10 @@ use Rattle.defaults.specs.Demand.{Demand}
 use Rattle.defaults.proofs.Demand.{demand_3}
 use Rattle.room.specs.Room.{Room, room_by, room}
 use Rattle.room.specs.Exact.{RoomExact}
-use Rattle.room.specs.told.RoomTold.{tells_room}
-use Rattle.room.specs.declared.RoomAnswer.{RoomAnswer}
 use Rattle.room.proofs.Exact.{room_exact}
 use Rattle.strings.specs.Unused.{AlikeButStrings, NoneOfThree, UnusedStrings}
 use Rattle.strings.proofs.Unused.{Later, same-reading, unused_strings}
-use Rattle.sheet_calls.specs.Calls.{told_in, DemandWithAny, room_in, UnusedInRoom}
+use Rattle.sheet_calls.specs.Calls.{DemandWithAny, room_in, UnusedInRoom}
 
 -- The answer as five numbers, of signed ones that came as bits.
 abbrev back : ℤ → ℤ
@@ -46,23 +42,14 @@ same-input : (k major minor patch : ℤ) (d1 d2 ends : List ℕ) → SFits w32 k
 same-input k major minor patch d1 d2 ends f g h i = rw (to_z-of_z f, to_z-of_z g, to_z-of_z h, to_z-of_z i)
 
 pub exported_is : (S T : List ℕ) (k major minor patch : ℤ) (d1 d2 ends : List ℕ) → SFits w32 k → SFits w32 major → SFits w32 minor → SFits w32 patch
-    → (r : Answer) (S' T' : List ℕ)
-    → read S T (input (back k) (back major ∷ back minor ∷ back patch ∷ []) d1 d2 ends) ≡ told_by r S' T'
-    → read S T (input k (major ∷ minor ∷ patch ∷ []) d1 d2 ends)
-    ≡ told_in (r.number ∷ r.detail ∷ r.sheet ∷ r.text ∷ r.types ∷ []) S' T'
-exported_is S T k major minor patch d1 d2 ends f g h i r S' T' e = ap (read S T) (same-input k major minor patch d1 d2 ends f g h i) ∙ e
+    → {a : definition.Answer} → read S T (input (back k) (back major ∷ back minor ∷ back patch ∷ []) d1 d2 ends) ≡ a
+    → read S T (input k (major ∷ minor ∷ patch ∷ []) d1 d2 ends) ≡ a
+exported_is S T k major minor patch d1 d2 ends f g h i e = ap (read S T) (same-input k major minor patch d1 d2 ends f g h i) ∙ e
 
--- the nineteen numbers of a room
-abbrev pub room_numbers : RoomAnswer → List ℕ
-room_numbers r =
-    r.number ∷ r.detail ∷ r.sheet ∷ r.text ∷ r.types ∷ r.records.heads ∷ r.records.constructors ∷ r.records.functions ∷ r.records.properties
-    ∷ r.records.parameters ∷ r.records.types ∷ r.records.defaults ∷ r.records.aliases ∷ r.records.counts ∷ r.texts.properties
-    ∷ r.texts.functions ∷ r.texts.constructors ∷ r.texts.aliases ∷ r.texts.head ∷ []
-
-pub exported_room : (k major minor patch : ℤ) (d1 d2 ends : List ℕ) → SFits w32 k → SFits w32 major → SFits w32 minor → SFits w32 patch → (r : RoomAnswer)
-    → room (input (back k) (back major ∷ back minor ∷ back patch ∷ []) d1 d2 ends) ≡ tells_room r
-    → room (input k (major ∷ minor ∷ patch ∷ []) d1 d2 ends) ≡ room_in (room_numbers r)
-exported_room k major minor patch d1 d2 ends f g h i r e = ap room (same-input k major minor patch d1 d2 ends f g h i) ∙ e
+pub exported_room : (k major minor patch : ℤ) (d1 d2 ends : List ℕ) → SFits w32 k → SFits w32 major → SFits w32 minor → SFits w32 patch → {r : Room}
+    → room (input (back k) (back major ∷ back minor ∷ back patch ∷ []) d1 d2 ends) ≡ r
+    → room (input k (major ∷ minor ∷ patch ∷ []) d1 d2 ends) ≡ r
+exported_room k major minor patch d1 d2 ends f g h i e = ap room (same-input k major minor patch d1 d2 ends f g h i) ∙ e
 
 -- What `sheet_read` ensures of its answer, clause by clause.
 abbrev pub Answers : List ℕ → List ℕ → Input → definition.Answer → Type 0

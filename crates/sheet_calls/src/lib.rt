@@ -7,6 +7,8 @@ ghost use Rattle.inputs.specs.Inputs.{input};
 ghost use Rattle.metadata.specs.Read.{read};
 ghost use Rattle.promises.specs.Promises.{Promised, Enough, tells_offset, BrokeAt};
 ghost use Rattle.room.specs.Room.{room};
+ghost use Rattle.inputs.specs.told.OutcomesTold.{told};
+ghost use Rattle.room.specs.told.RoomTold.{tells_room};
 ghost use Rattle.room.specs.Exact.{RoomExact};
 ghost use Rattle.strings.specs.Unused.{UnusedStrings};
 ghost use Rattle.converter.specs.Conversions.{old_to_new, new_to_old};
@@ -15,8 +17,28 @@ ghost use Rattle.converter.specs.Statements.{OldToNewNumber, NewToOldNumber, Ans
 ghost use Rattle.sheet_calls.specs.Calls.{told_in, DemandWithAny, room_in, UnusedInRoom, converted_in, SameSheets};
 
 use converter::{ConvertFault, new_to_old, old_to_new};
+use inputs::outcome::{Refusal, Sizes};
 use metadata::read;
-use room::room;
+use room::{RoomAnswer, room};
+
+// A reading's answer as number, detail, sheet length, text length and types: 0 and 0 first where it is accepted, three zeros last where it is refused.
+fn reading_answer(outcome: Result<Sizes, Refusal>) -> [u64; 5]
+    ensures { (sheet text : List ℕ) → told outcome sheet text ≡ told_in result sheet text }
+{
+    match outcome {
+        Ok(sizes) => [
+            0,
+            0,
+            sizes.sheet as u64,
+            sizes.text as u64,
+            sizes.types as u64,
+        ],
+        Err(refusal) => {
+            let (number, detail) = refusal.numbered();
+            [number, detail, 0, 0, 0]
+        }
+    }
+}
 
 // `read`, with the answer's number, detail, sheet length, text length and types in this order. Areas of 413,695 and 65,534 bytes are always enough.
 // The detail of a 7, 8, 9, 13, 14 or 17 is an offset among the decoded bytes. Of an accepted answer (number 0) it ensures what is promised of every sheet
@@ -44,14 +66,46 @@ pub extern "C" fn sheet_read(
     ensures unused { UnusedStrings sheet.old text.old (input k (major ∷ minor ∷ patch ∷ []) d1.now d2.now ends.now) (told_in answer.new sheet.new text.new) }
 {
     let version = [major, minor, patch];
-    let r = read(k, version, d1, d2, ends, sheet, text);
-    *answer = [
-        r.number,
-        r.detail,
-        r.sheet as u64,
-        r.text as u64,
-        r.types as u64,
-    ];
+    *answer = reading_answer(read(k, version, d1, d2, ends, sheet, text).outcome);
+}
+
+// A room as nineteen numbers: the same five, the records by kind, the text by lists.
+fn room_answer(room: Result<RoomAnswer, Refusal>) -> [u64; 19]
+    ensures { tells_room room ≡ room_in result }
+{
+    match room {
+        Ok(room) => {
+            let sizes = room.sizes;
+            let records = room.records;
+            let texts = room.texts;
+            [
+                0,
+                0,
+                sizes.sheet as u64,
+                sizes.text as u64,
+                sizes.types as u64,
+                records.heads as u64,
+                records.constructors as u64,
+                records.functions as u64,
+                records.properties as u64,
+                records.parameters as u64,
+                records.types as u64,
+                records.defaults as u64,
+                records.aliases as u64,
+                records.counts as u64,
+                texts.properties as u64,
+                texts.functions as u64,
+                texts.constructors as u64,
+                texts.aliases as u64,
+                texts.head as u64,
+            ]
+        }
+        Err(refusal) => {
+            let mut numbers = [0; 19];
+            (numbers[0], numbers[1]) = refusal.numbered();
+            numbers
+        }
+    }
 }
 
 // `room`, with number, detail, sheet length, text length, types, how many records of kind 1, 2, .., 9, and the bytes of text of the properties, functions,
@@ -76,30 +130,7 @@ pub extern "C" fn sheet_room(
     ensures unused { UnusedInRoom (input k (major ∷ minor ∷ patch ∷ []) d1.now d2.now ends.now) (room_in answer.new) }
 {
     let version = [major, minor, patch];
-    let r = room(k, version, d1, d2, ends);
-    let records = r.records;
-    let texts = r.texts;
-    *answer = [
-        r.number,
-        r.detail,
-        r.sheet as u64,
-        r.text as u64,
-        r.types as u64,
-        records.heads as u64,
-        records.constructors as u64,
-        records.functions as u64,
-        records.properties as u64,
-        records.parameters as u64,
-        records.types as u64,
-        records.defaults as u64,
-        records.aliases as u64,
-        records.counts as u64,
-        texts.properties as u64,
-        texts.functions as u64,
-        texts.constructors as u64,
-        texts.aliases as u64,
-        texts.head as u64,
-    ];
+    *answer = room_answer(room(k, version, d1, d2, ends));
 }
 
 // A conversion's answer as number, detail and length in units: a refusal's length is 0.

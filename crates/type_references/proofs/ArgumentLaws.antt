@@ -28,7 +28,8 @@ use Rattle.schema.specs.Types.{max_depth, type_in, projection_in, argument_in, t
 use Rattle.schema.specs.told.SchemaTold.{entries_in, entry_nullable}
 use Rattle.schema.specs.told.TypesTold.{or_nullable, EntryIs, EntryTold}
 use Rattle.schema.specs.told.PlacesTold.{TableOf}
-use Rattle.schema.specs.told.ArgumentTold.{NoStar, ArgumentHeadTold}
+use Rattle.schema.specs.told.ArgumentTold.{projection_number, NoStar, ArgumentHeadTold}
+use Rattle.schema.specs.declared.argument.Projection.{Projection}
 use Rattle.schema.specs.declared.argument.ArgumentHead.{ArgumentHead}
 use Rattle.schema.specs.declared.argument.ArgumentHead.TheVariants as head
 use Rattle.schema.specs.declared.Tables.{Tables}
@@ -107,14 +108,14 @@ module _ (base : ℕ) (msg : List ℕ) (start end : ℕ) (ordered : start ≤ en
   pub argument-starred : x ≡ head.Star → ArgumentTold base msg start end (Ok head.Star)
   argument-starred g = record { is = star-is (base + start) (part_from start end msg) t g; inside = tt }
 
-  module _ {p a b : ℕ} (g : x ≡ head.Inline p (span a b)) where
+  module _ {p : Projection} {a b : ℕ} (g : x ≡ head.Inline p (span a b)) where
     bytes-here : BytesTold (base + start) (part_from start end msg) Type-Argument-type (Some (span a b))
     bytes-here = inline-bytes (base + start) (part_from start end msg) t g
 
     pub inline_in : (0 < a) × (a ≤ b) × (start + b ≤ end)
     inline_in = let i = bytes-here.inside in (i.2, i.0, omega (arith, i.1, part-short msg start end))
 
-    typed-here : (m : Message) → cut (◌from◌ (base + start) (part_from start end msg)) ≡ ok m → NoStar p m
+    typed-here : (m : Message) → cut (◌from◌ (base + start) (part_from start end msg)) ≡ ok m → NoStar (projection_number p) m
     typed-here = inline-typed (base + start) (part_from start end msg) t g
 
     -- the same bytes, as a part of the whole message
@@ -142,7 +143,7 @@ module _ (base : ℕ) (msg : List ℕ) (start end : ℕ) (ordered : start ≤ en
           let uncut = message-refused Type-Argument-type (base + start) (part_from start end msg) bytes-here refl checked-here h in
           record { is = λ m c. (uncut.is m c, own_projection (typed-here m c)); inside = tt }
 
-  pub argument-by-index : {p n : ℕ} → x ≡ head.ByIndex p n → ArgumentTold base msg start end (Ok (head.ByIndex p n))
+  pub argument-by-index : {p : Projection} {n : ℕ} → x ≡ head.ByIndex p n → ArgumentTold base msg start end (Ok (head.ByIndex p n))
   argument-by-index g =
       let part = part_from start end msg in
       record {
@@ -167,7 +168,7 @@ module _ (base : ℕ) (msg : List ℕ) (start end : ℕ) (ordered : start ≤ en
       }
 
   -- one whose type is not inline
-  pub argument-other : (y : ArgumentHead) → x ≡ y → ((p : ℕ) (b : Span) → y ≡ head.Inline p b → ⊥) → ArgumentTold base msg start end (Ok y)
+  pub argument-other : (y : ArgumentHead) → x ≡ y → ((p : Projection) (b : Span) → y ≡ head.Inline p b → ⊥) → ArgumentTold base msg start end (Ok y)
   argument-other head.Star g h = argument-starred g
   argument-other (head.Inline p b) g h = absurd (h p b refl)
   argument-other (head.ByIndex p i) g h = argument-by-index g
@@ -234,7 +235,7 @@ module _ (payload notes : List ℕ) (tables : Tables) (msg : List ℕ) (base lef
   pub kept-star : x ≡ head.Star → KeptTold payload notes tables msg base left true
   kept-star g = record { is = λ c s m k d deep o l n e. star-kept c d m l o n e (star-is base msg t g m k) }
 
-  pub kept-inline : {p a b : ℕ} → x ≡ head.Inline p (span a b) → KeptTold payload notes tables msg base left true
+  pub kept-inline : {p : Projection} {a b : ℕ} → x ≡ head.Inline p (span a b) → KeptTold payload notes tables msg base left true
   kept-inline {p} {a} {b} g = record {
     is = λ c s m k d deep o l n e.
         typed_kept c d m l o n e (inline-typed base msg t g m k) λ u i h.
@@ -248,7 +249,7 @@ module _ (payload notes : List ℕ) (tables : Tables) (msg : List ℕ) (base lef
         none_dropped c d m l u i h (message_none Type-Argument-type m ((nothing-bytes base msg t g).is m k)) (nothing-index base msg t g m k);
   }
 
-  module _ {p j : ℕ} (g : x ≡ head.ByIndex p j) where
+  module _ {p : Projection} {j : ℕ} (g : x ≡ head.ByIndex p j) where
     not-inline : (m : Message) → cut (◌from◌ base msg) ≡ ok m → message Type-Argument-type m ≡ ok none
     not-inline m k = message_none Type-Argument-type m ((indexed-bytes base msg t g).is m k)
 

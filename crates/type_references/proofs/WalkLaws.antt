@@ -31,7 +31,7 @@ use Rattle.schema.specs.Reading.{pure, enter, kept, Scope, allowance}
 use Rattle.schema.specs.Types.{max_depth, resolve_at, argument_in, type_at}
 use Rattle.declaration_rows.specs.Rows.{argument_role}
 use Rattle.schema.specs.told.SchemaTold.{Lent, Scoped, Ready, Spends, WalkedSpends, PickedSpends, WalkedTold, PickedTold, stop_refused}
-use Rattle.schema.specs.told.ArgumentTold.{NoStar}
+use Rattle.schema.specs.told.ArgumentTold.{projection_number, NoStar}
 use Rattle.schema.specs.told.TypesTold.{or_nullable, rows_in, ResolveTold}
 use Rattle.schema.specs.declared.Tables.{Tables}
 use Rattle.schema.specs.declared.Stop.{Stop}
@@ -71,6 +71,7 @@ use Rattle.type_references.specs.told.ParseTold.{
   roomy,
   nowhere,
 }
+use Rattle.schema.specs.declared.argument.Projection.{Projection}
 use Rattle.schema.specs.declared.argument.ArgumentHead.{ArgumentHead}
 use Rattle.schema.specs.declared.argument.ArgumentHead.TheVariants as head
 use Rattle.type_references.specs.declared.waiting.Waiting.{Waiting}
@@ -424,18 +425,18 @@ module _ {e : Lent} {msg : List ℕ} {base left : ℕ} {s₀ : State} {S₀ T₀
                 goes_kept go next nest refl s' S' T' (star-read c go.wait.depth next.first s.types (argument_is v next.first next.cuts) it.2) it.3
 
           -- its type inline, from `first` to `last`
-          module _ {projection first last : ℕ} (v : r ≡ Ok (head.Inline projection (span first last))) where
+          module _ {projection : Projection} {first last : ℕ} (v : r ≡ Ok (head.Inline projection (span first last))) where
             pub inline_in : (a < first) × (first ≤ last) × (last ≤ b) × (last ≤ length msg)
             inline_in =
                 let i = subst (ArgumentInside a b) v u.inside in
                 (i.0, i.1, i.2, omega (arith, i.2, body-in))
 
-            module _ {w : Walked} {S' T' : List ℕ} (n : EnterTold e (take (last - first) (drop first msg)) (base + first) deep argument_role projection false s w S S' T T') where
+            module _ {w : Walked} {S' T' : List ℕ} (n : EnterTold e (take (last - first) (drop first msg)) (base + first) deep argument_role (projection_number projection) false s w S S' T T') where
               entered-is : {z : Walked} → w ≡ z → (c : Scope) → Scoped e c → (m : Message) (k : cut (part_between base msg a b) ≡ ok m) (d : ℕ) → deep ≡ max_depth - d
-                  → EnteredIs c d (argument_is v m k).0 argument_role projection false s z S S' T T'
+                  → EnteredIs c d (argument_is v m k).0 argument_role (projection_number projection) false s z S S' T T'
               entered-is {z} h c o m k d l =
                   let i = argument_is v m k in
-                  subst (λ (z : Walked). EnteredIs c d i.0 argument_role projection false s z S S' T T') h (n.is c o i.0 i.1 d l)
+                  subst (λ (z : Walked). EnteredIs c d i.0 argument_role (projection_number projection) false s z S S' T T') h (n.is c o i.0 i.1 d l)
 
               pub loop-unentered : {stop : Stop} → w ≡ Err stop → ArgumentsTold e msg base left s₀ (Err stop) S₀ S' T₀ T'
               loop-unentered {stop} h = refused_all stop λ c o m k d l.
@@ -496,16 +497,16 @@ module _ {e : Lent} {msg : List ℕ} {base left : ℕ} {s₀ : State} {S₀ T₀
                       omega (arith, pushed, inline_in, body-in)
 
           -- its type by an index
-          module _ {projection i : ℕ} (v : r ≡ Ok (head.ByIndex projection i)) {p : Picked} {S' T' : List ℕ}
-              (n : ResolveTold e i deep argument_role projection s p S S' T T') where
+          module _ {projection : Projection} {i : ℕ} (v : r ≡ Ok (head.ByIndex projection i)) {p : Picked} {S' T' : List ℕ}
+              (n : ResolveTold e i deep argument_role (projection_number projection) s p S S' T T') where
             resolved-is : {z : Picked} → p ≡ z → (c : Scope) → Scoped e c → (m : Message) → cut (part_between base msg a b) ≡ ok m → (d : ℕ) → deep ≡ max_depth - d
                 → PickedTold (argument_in (type_at allowance c) c d m s.types) shown_rows s z S S' T T'
             resolved-is {z} h c o m k d l =
                 let j = argument_is v m k in
                 let same = argument-indexed c d m s.types j.2 j.0 j.1 in
-                let found = subst (λ (z : Picked). PickedTold (resolve_at (type_at allowance c) c d i s.types) (rows_in argument_role projection) s z S S' T T') h (n.is c o d l) in
+                let found = subst (λ (z : Picked). PickedTold (resolve_at (type_at allowance c) c d i s.types) (rows_in argument_role (projection_number projection)) s z S S' T T') h (n.is c o d l) in
                 subst (λ (r : Res (Option declaration.Argument × ℕ)). PickedTold r shown_rows s z S S' T T') (sym same)
-                (picked_projected projection (resolve_at (type_at allowance c) c d i s.types) s z S S' T T' found)
+                (picked_projected (projection_number projection) (resolve_at (type_at allowance c) c d i s.types) s z S S' T T' found)
 
             pub loop-refused : {stop : Stop} → p ≡ Err stop → ArgumentsTold e msg base left s₀ (Err stop) S₀ S' T₀ T'
             loop-refused {stop} h = refused_all stop λ c o m k d l. resolved-is h c o m k d l

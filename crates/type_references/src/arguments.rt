@@ -4,7 +4,7 @@ ghost use Rattle.type_references.specs.told.ParseTold.{TypeFieldTold, ArgumentTo
 
 use fields::TYPE_ARGUMENT;
 use foundation::Span;
-use messages::{check_from, find_two, index_in, next_body, piece_in};
+use messages::{check_from, find_each, index_in, next_body, piece_in};
 use schema::Tables;
 use schema::argument::{ArgumentHead, argument_head};
 use schema::types::entry_at;
@@ -26,12 +26,12 @@ pub(crate) fn type_field(
 ) -> Result<Option<TypeField>, WireError>
     ensures { TypeFieldTold base msg.now inline indexed result }
 {
-    let found = find_two(msg, base, inline, indexed);
-    if let Some(body) = piece_in(found.first) {
+    let [body, index] = find_each(msg, base, [inline, indexed]);
+    if let Some(body) = piece_in(body) {
         check_from(&msg[..body.end], base, body.start)?;
         return Ok(Some(TypeField::Inline(body)));
     }
-    match index_in(found.second) {
+    match index_in(index) {
         Some(index) => Ok(Some(TypeField::ByIndex(index))),
         None => Ok(None),
     }

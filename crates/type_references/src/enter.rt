@@ -8,6 +8,7 @@ ghost use Rattle.names.specs.told.Name.{name_text};
 ghost use Rattle.sheet.specs.Rows.{row};
 ghost use Rattle.sheet.specs.told.Put.{PutRows};
 ghost use Rattle.declaration_rows.specs.Rows.{type_cells};
+ghost use Rattle.schema.specs.told.ArgumentTold.{projection_number};
 ghost use Rattle.schema.specs.told.SchemaTold.{lent, Ready};
 ghost use Rattle.type_references.specs.told.ParseTold.{CountedTold, EnterTold, StarTold};
 
@@ -16,7 +17,7 @@ use declaration_rows::{ARGUMENT_ROLE, put_named};
 use fields::TYPE_ARGUMENT;
 use messages::check_messages;
 use names::name::{Name, absent};
-use schema::argument::STAR;
+use schema::argument::Projection;
 use schema::head::type_head;
 use schema::name::class_name_at;
 use schema::{Stop, Tables};
@@ -27,7 +28,7 @@ use wire::WireError;
 #[derive(Clone, Copy)]
 pub(crate) struct Shown {
     pub role: u8,
-    pub projection: u8,
+    pub projection: Projection,
 }
 
 // Where a type stands: what is left of the depth there, its role and projection, and whether it is nullable by its place in the type table.
@@ -35,7 +36,7 @@ pub(crate) struct Shown {
 pub(crate) struct TypePlace {
     pub left: usize,
     pub role: u8,
-    pub projection: u8,
+    pub projection: Projection,
     pub nullable: bool,
 }
 
@@ -52,7 +53,7 @@ fn put_type(
     text: &mut [u8],
 ) -> State
     requires { Ready payload.now d2.now state × (1 ≤ state.types) }
-    ensures { PutRows (row 6 (type_cells shown.role nullable (name_text payload.now d2.now name) count shown.projection) ∷ []) (state.types - 1) state result sheet.old sheet.new text.old text.new }
+    ensures { PutRows (row 6 (type_cells shown.role nullable (name_text payload.now d2.now name) count (projection_number shown.projection)) ∷ []) (state.types - 1) state result sheet.old sheet.new text.old text.new }
 {
     let at = state.sheet;
     put(sheet, at, 6);
@@ -67,7 +68,7 @@ fn put_type(
     let counted = head.sheet;
     put_number(sheet, counted, 2, count as u64);
     let last = counted + 2;
-    put_number(sheet, last, 1, shown.projection as u64);
+    put_number(sheet, last, 1, shown.projection.number() as u64);
     let ended = last + 1;
     State {
         sheet: ended,
@@ -112,7 +113,7 @@ pub(crate) fn enter_star(
     }
     let shown = Shown {
         role: ARGUMENT_ROLE,
-        projection: STAR,
+        projection: Projection::Star,
     };
     Ok(put_type(shown, false, payload, d2, absent(), 0, state, sheet, text))
 }
@@ -132,7 +133,7 @@ pub(crate) fn enter_type(
     text: &mut [u8],
 ) -> Result<State, Stop>
     requires { Ready payload.now d2.now state × (base + length msg.now ≤ length payload.now) }
-    ensures { EnterTold (lent payload.now d2.now ends.now notes.now tables) msg.now base place.left place.role place.projection place.nullable state result sheet.old sheet.new text.old text.new }
+    ensures { EnterTold (lent payload.now d2.now ends.now notes.now tables) msg.now base place.left place.role (projection_number place.projection) place.nullable state result sheet.old sheet.new text.old text.new }
 {
     if state.types == 0 {
         return Err(Stop::TooManyTypes);

@@ -3,9 +3,12 @@
 // specs/told/Pending.antt.
 #![tactic(auto)]
 
-ghost use Rattle.std.specs.Prelude.{◌≡◌, ◌+◌, ◌≤◌, ◌<◌, length};
+ghost use Rattle.std.specs.Prelude.{◌+◌, ◌≤◌, length};
+ghost use Rattle.schema.specs.Reading.{allowance};
+ghost use Rattle.schema.specs.told.ArgumentTold.{projection_number};
 ghost use Rattle.schema.specs.told.SchemaTold.{lent, Ready};
 ghost use Rattle.schema.specs.told.TypesTold.{ParseTold};
+ghost use Rattle.type_references.specs.told.ParseTold.{FitsEntry, FitsType};
 ghost use Rattle.type_references.specs.told.OptionalTold.{LookedTold, OptionalTold};
 
 use arguments::{TypeField, type_field};
@@ -13,7 +16,7 @@ use enter::{Shown, TypePlace};
 use fields::TYPE_ARGUMENT;
 use messages::next_body;
 use parse::{parse_at, resolve_at};
-use schema::argument::INVARIANT;
+use schema::argument::Projection;
 use schema::types::entry_at;
 use schema::{ALLOWANCE, MAX_DEPTH, Stop, Tables, TypeSlot};
 use sheet::State;
@@ -23,8 +26,8 @@ mod arguments; // arguments.rt: the arguments of a type
 mod enter; // enter.rt: a type's own row
 mod parse; // parse.rt: types inside types
 
-// A type in an area of 1 KB, where there is no type to look up: as many wait as a short message has bytes at most.
-fn short_type(
+// A type whose message is cut, in an area for so many that wait.
+fn type_in_area<const N: usize>(
     msg: &[u8],
     base: u32,
     place: TypePlace,
@@ -37,40 +40,18 @@ fn short_type(
     sheet: &mut [u8],
     text: &mut [u8],
 ) -> Result<State, Stop>
-    requires { Ready payload.now d2.now state × (base + length msg.now ≤ length payload.now) × (place.left ≤ 64) × (tables.types ≡ 0) × (length msg.now < 128) }
-    ensures { ParseTold (lent payload.now d2.now ends.now notes.now tables) msg.now base place.left place.role place.projection place.nullable state result sheet.old sheet.new text.old text.new }
+    requires { Ready payload.now d2.now state × (base + length msg.now ≤ length payload.now) × (place.left ≤ 64) × FitsType (lent payload.now d2.now ends.now notes.now tables) base msg.now state.types N × (N ≤ allowance) }
+    ensures { ParseTold (lent payload.now d2.now ends.now notes.now tables) msg.now base place.left place.role (projection_number place.projection) place.nullable state result sheet.old sheet.new text.old text.new }
 {
-    let mut nest = [0u64; 128];
+    let mut nest = [0u64; N];
     parse_at(
         msg, base, place, payload, d2, ends, notes, tables, state, &mut nest, sheet, text,
     )
 }
 
-// The same of any, in an area of 16 KB: as many wait as types may be entered.
-fn long_type(
-    msg: &[u8],
-    base: u32,
-    place: TypePlace,
-    payload: &[u8],
-    d2: &[u16],
-    ends: &[u32],
-    notes: &[u64],
-    tables: Tables,
-    state: State,
-    sheet: &mut [u8],
-    text: &mut [u8],
-) -> Result<State, Stop>
-    requires { Ready payload.now d2.now state × (base + length msg.now ≤ length payload.now) × (place.left ≤ 64) }
-    ensures { ParseTold (lent payload.now d2.now ends.now notes.now tables) msg.now base place.left place.role place.projection place.nullable state result sheet.old sheet.new text.old text.new }
-{
-    let mut nest = [0u64; ALLOWANCE];
-    parse_at(
-        msg, base, place, payload, d2, ends, notes, tables, state, &mut nest, sheet, text,
-    )
-}
-
-// A type whose message is cut, in the area that is enough for it. Most have no argument, so that nothing waits: they are lent an empty one, which
-// costs nothing to clear.
+// The same in the area that is enough for it. Most have no argument, so that nothing waits: they are lent an empty one, which costs nothing to
+// clear. Where there is no type to look up, as many wait as a message has bytes at most: 1 KB is enough for a short one. Elsewhere as many wait
+// as types may be entered: 16 KB.
 fn own_type(
     msg: &[u8],
     base: u32,
@@ -85,26 +66,25 @@ fn own_type(
     text: &mut [u8],
 ) -> Result<State, Stop>
     requires { Ready payload.now d2.now state × (base + length msg.now ≤ length payload.now) × (place.left ≤ 64) }
-    ensures { ParseTold (lent payload.now d2.now ends.now notes.now tables) msg.now base place.left place.role place.projection place.nullable state result sheet.old sheet.new text.old text.new }
+    ensures { ParseTold (lent payload.now d2.now ends.now notes.now tables) msg.now base place.left place.role (projection_number place.projection) place.nullable state result sheet.old sheet.new text.old text.new }
 {
     let Some(_) = next_body(msg, base, TYPE_ARGUMENT, 0) else {
-        let mut nest = [0u64; 0];
-        return parse_at(
-            msg, base, place, payload, d2, ends, notes, tables, state, &mut nest, sheet, text,
+        return type_in_area::<0>(
+            msg, base, place, payload, d2, ends, notes, tables, state, sheet, text,
         );
     };
     if tables.types == 0 && msg.len() < 128 {
-        return short_type(
+        return type_in_area::<128>(
             msg, base, place, payload, d2, ends, notes, tables, state, sheet, text,
         );
     }
-    long_type(
+    type_in_area::<ALLOWANCE>(
         msg, base, place, payload, d2, ends, notes, tables, state, sheet, text,
     )
 }
 
-// The type at an index, in an area of 16 KB.
-fn long_entry(
+// The type at an index of the type table, or nothing, in an area for so many that wait.
+fn entry_in_area<const N: usize>(
     index: u32,
     role: u8,
     payload: &[u8],
@@ -116,13 +96,13 @@ fn long_entry(
     sheet: &mut [u8],
     text: &mut [u8],
 ) -> Result<State, Stop>
-    requires { Ready payload.now d2.now state }
+    requires { Ready payload.now d2.now state × FitsEntry (lent payload.now d2.now ends.now notes.now tables) index state.types N × (N ≤ allowance) }
     ensures { LookedTold (lent payload.now d2.now ends.now notes.now tables) index role state result sheet.old sheet.new text.old text.new }
 {
-    let mut nest = [0u64; ALLOWANCE];
+    let mut nest = [0u64; N];
     let shown = Shown {
         role,
-        projection: INVARIANT,
+        projection: Projection::Invariant,
     };
     let found = resolve_at(
         index, MAX_DEPTH, shown, payload, d2, ends, notes, tables, state, &mut nest, sheet, text,
@@ -130,7 +110,7 @@ fn long_entry(
     Ok(found.unwrap_or(state))
 }
 
-// The type at an index of the type table, or nothing, in the area that is enough for it, as above.
+// The same in the area that is enough for it, as above.
 fn looked_up(
     index: u32,
     role: u8,
@@ -156,18 +136,11 @@ fn looked_up(
         0,
     );
     let Some(_) = argument else {
-        let mut nest = [0u64; 0];
-        let shown = Shown {
-            role,
-            projection: INVARIANT,
-        };
-        let found = resolve_at(
-            index, MAX_DEPTH, shown, payload, d2, ends, notes, tables, state, &mut nest, sheet,
-            text,
-        )?;
-        return Ok(found.unwrap_or(state));
+        return entry_in_area::<0>(
+            index, role, payload, d2, ends, notes, tables, state, sheet, text,
+        );
     };
-    long_entry(
+    entry_in_area::<ALLOWANCE>(
         index, role, payload, d2, ends, notes, tables, state, sheet, text,
     )
 }
@@ -198,7 +171,7 @@ pub fn declared_type(
             let place = TypePlace {
                 left: MAX_DEPTH,
                 role: slot.role,
-                projection: INVARIANT,
+                projection: Projection::Invariant,
                 nullable: false,
             };
             own_type(

@@ -63,23 +63,23 @@ module _ (s : List ℕ) (at : ℕ) {tag first : Read ℕ} (t : ShortRead s at ta
   }
 
 -- fields skipped, one after the other
-pub skip_none : (s : List ℕ) (k at : ℕ) → SkipTold s k at at
+pub skip_none : (s ks : List ℕ) (at : ℕ) → SkipTold s ks at at
 unfolding values
-skip_none s k at = record {
+skip_none s ks at = record {
   later = omega arith;
   inside = omega arith;
-  is = λ base. record { fields = []; others = refl; cuts = sym (bind-end (cut (rest_of base s at))) };
+  is = λ base. record { fields = []; others = λ i h. refl; cuts = sym (bind-end (cut (rest_of base s at))) };
 }
   where
     bind-end : (r : Res Message) → (r >>= λ m. ok ([] ++ m)) ≡ r
     bind-end (ok m) = refl
     bind-end (refused c p) = refl
 
-module _ (s : List ℕ) (k : ℕ) {at mid next : ℕ} where
-  skips-then : (base : ℕ) → Skips base s k at mid → Skips base s k mid next → Skips base s k at next
+module _ (s ks : List ℕ) {at mid next : ℕ} where
+  skips-then : (base : ℕ) → Skips base s ks at mid → Skips base s ks mid next → Skips base s ks at next
   skips-then base p q = record {
     fields = p.fields ++ q.fields;
-    others = values-append k p.fields q.fields ∙ rw (p.others, q.others);
+    others = λ i h. values-append (get_or ks i 0) p.fields q.fields ∙ rw (p.others i h, q.others i h);
     cuts = p.cuts ∙ rw q.cuts (joined (cut (rest_of base s next)));
   }
     where
@@ -87,7 +87,7 @@ module _ (s : List ℕ) (k : ℕ) {at mid next : ℕ} where
       joined (ok m) = ap ok (sym (append_assoc p.fields q.fields m))
       joined (refused c a) = refl
 
-  pub skip-then : SkipTold s k at mid → SkipTold s k mid next → SkipTold s k at next
+  pub skip-then : SkipTold s ks at mid → SkipTold s ks mid next → SkipTold s ks at next
   skip-then p q = record {
     later = omega (arith, p.later, q.later);
     inside = omega (arith, p.inside, q.inside);
@@ -95,26 +95,30 @@ module _ (s : List ℕ) (k : ℕ) {at mid next : ℕ} where
   }
 
 -- one field that the code has read
-pub skip-field : (s : List ℕ) (k at : ℕ) {x : Read code.Field} → ShortField s at x → (x.value.number ≡ k → ⊥) → SkipTold s k at x.next
+pub skip-field : (s ks : List ℕ) (at : ℕ) {x : Read code.Field} → ShortField s at x → ((i : ℕ) → i < length ks → x.value.number ≡ get_or ks i 0 → ⊥)
+    → SkipTold s ks at x.next
 unfolding values
-skip-field s k at {x} f d = record {
+skip-field s ks at {x} f d = record {
   later = omega (arith, f.later);
   inside = omega (arith, f.inside, f.later);
   is = λ base. record {
     fields = told_field base s x.value ∷ [];
-    others = values-passed k (value_of base s x.value.value) [] d;
+    others = λ i h. values-passed (get_or ks i 0) (value_of base s x.value.value) [] (d i h);
     cuts = cut_field base s at x (f.is base) (omega (arith, f.later, f.inside));
   };
 }
 
 -- what holds from the place after them holds from the first
-module _ (base : ℕ) {s : List ℕ} {k at next : ℕ} (t : SkipTold s k at next) where
-  -- of a relation that only the occurrences of field k decide
+module _ (base : ℕ) {s ks : List ℕ} {at next : ℕ} (t : SkipTold s ks at next) (i : ℕ) (h : i < length ks) where
+  abbrev k : ℕ
+  k = get_or ks i 0
+
+  -- of a relation that only the occurrences of one of the fields decide
   pub skip-leads : (R : Message → Message → Type 0) → ((m a b : Message) → values k a ≡ values k b → R m a → R m b) → (p : Part)
       → Leads R p (rest_of base s at) → Leads R p (rest_of base s next)
   skip-leads R f p l m w =
       let q = l m w in
       let x = t.is base in
       let r = bind_ok (cut (rest_of base s next)) (λ m. x.fields ++ m) (sym x.cuts ∙ q.1) in
-      let same : values k q.0 ≡ values k r.0 = ap (values k) r.2 ∙ values-append k x.fields r.0 ∙ rw x.others in
+      let same : values k q.0 ≡ values k r.0 = ap (values k) r.2 ∙ values-append k x.fields r.0 ∙ rw (x.others i h) in
       (r.0, r.1, f m q.0 r.0 same q.2)

@@ -15,7 +15,7 @@ use Rattle.declaration_rows.specs.told.Written.{head_cells}
 use Rattle.schema.specs.Reading.{Scope}
 use Rattle.schema.specs.Members.{Head, head, list_in, alias_in, head_in, constructors_in, alias_field, lists_in, after_table}
 use Rattle.schema.specs.told.SchemaTold.{Lent, NamesOf, Scoped, stop_refused}
-use Rattle.schema.specs.told.MembersTold.{Listed, Within, ListedWithin, ListedTold}
+use Rattle.schema.specs.told.MembersTold.{ListWalked, Within, ListedWithin, ListedTold}
 use Rattle.schema.specs.declared.Stop.{Stop}
 use Rattle.descriptors.specs.Defaults.{closed_constructor, closed_function}
 use Rattle.members.specs.Lists.{section_rows}
@@ -50,18 +50,18 @@ pub record BodyHead (kind : ℕ) (payload d2 ends notes : List ℕ) (records : �
       → head_in (eqb kind 1) c m l ≡ ok (head name flags, l)
 
 -- The constructors of a class; a package has none.
-pub record ConstructorsTold (class : Bool) (e : Lent) (msg : List ℕ) (base : ℕ) (s : State) (r : Listed) (S S' T T' : List ℕ) : Type 0 where
+pub record ConstructorsTold (class : Bool) (e : Lent) (msg : List ℕ) (base : ℕ) (s : State) (r : ListWalked) (S S' T T' : List ℕ) : Type 0 where
   pub spends : ListedWithin (list_cost (length msg)) s r
   pub is : (c : Scope) → Scoped e c → (m : Message) → cut (◌from◌ base msg) ≡ ok m
       → ListedTold (constructors_in class c m s.types) closed_constructor s r S S' T T'
 
 -- The aliases after their count.
-abbrev pub AliasesAre : Res (List Alias × ℕ) → State → Listed → (S S' T T' : List ℕ) → Type 0
+abbrev pub AliasesAre : Res (List Alias × ℕ) → State → ListWalked → (S S' T T' : List ℕ) → Type 0
 AliasesAre r s (Ok x) S S' T T' =
     (xs : List Alias) × (b : ℕ) × (r ≡ ok (xs, b)) × (x.count ≡ length xs) × PutRows (aliases_rows xs) b s x.state S S' T T'
 AliasesAre r s (Err stop) S S' T T' = r ≡ stop_refused stop
 
-pub record AliasesTold (class : Bool) (e : Lent) (msg : List ℕ) (base : ℕ) (s : State) (r : Listed) (S S' T T' : List ℕ) : Type 0 where
+pub record AliasesTold (class : Bool) (e : Lent) (msg : List ℕ) (base : ℕ) (s : State) (r : ListWalked) (S S' T T' : List ℕ) : Type 0 where
   pub spends : ListedWithin (aliases_cost (length msg)) s r
   pub is : (c : Scope) → Scoped e c → (m : Message) → cut (◌from◌ base msg) ≡ ok m
       → AliasesAre (list_in (alias_in c) (alias_field class) m s.types) s r S S' T T'

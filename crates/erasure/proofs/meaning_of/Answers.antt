@@ -1,13 +1,19 @@
-use mathlib.Core.Path.{sym, ◌∙◌}
-use Rattle.erasure.proofs.ListedLaws.{means_row, means-past, means-itself}
+use Rattle.std.proofs.Common.{sym, ◌∙◌}
+use Rattle.std.proofs.lemmas.Bool.Decides.{Decides-eqb}
+use Rattle.std.proofs.lemmas.Slice.Eq.{slice_eq-Decides}
+use Rattle.erasure.proofs.ListedLaws.{means_row, means_none, means-itself}
+use Rattle.erasure.proofs.TextLaws.{never_both}
 use Rattle.erasure.proofs.meaning_of.Goals as goal
-use Rattle.erasure.proofs.meaning_of.Goals.{else-row-lt36-via-then-row-lt36+else-is_listed, else-row-lt36-via-else-row-lt36}
 
-pub returns-then-is_listed : goal.returns-then-is_listed
-returns-then-is_listed c = means_row c.args.name.now c.row_of-row.result c.meaning_at.result c.if-row-lt36.true (sym c.is_listed.ensures ∙ c.if-is_listed.true) c.meaning_at.ensures
+pub returns-then-eq : goal.returns-then-eq
+returns-then-eq c =
+    means_row c.args.name.now c.in-Some.row _ c.in-Some.ensures.0
+    ((slice_eq-Decides Decides-eqb _ _ _ c.eq.ensures).0 c.if-eq.true ∙ c.row_at-meaning.ensures.name) c.row_at-meaning.ensures.meaning
 
-pub returns : goal.returns
-returns c = elim c.else-row-lt36.branch [
-  | else-row-lt36-via-then-row-lt36+else-is_listed w ↦ means-itself c.args.name.now c.row_of-row.result c.row_of-row.ensures (sym w.is_listed.ensures ∙ w.if-is_listed.false)
-  | else-row-lt36-via-else-row-lt36 w ↦ means-past c.args.name.now c.row_of-row.result c.row_of-row.ensures w.if-row-lt36.false
-]
+pub returns-else-eq : goal.returns-else-eq
+returns-else-eq c =
+    means-itself c.args.name.now c.in-Some.row c.in-Some.ensures λ e.
+    never_both ((slice_eq-Decides Decides-eqb _ _ _ c.eq.ensures).1 (e ∙ sym c.row_at-meaning.ensures.name)) c.if-eq.false
+
+pub returns-in-None : goal.returns-in-None
+returns-in-None c = means_none c.args.name.now c.in-None.ensures

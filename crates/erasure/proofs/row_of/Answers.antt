@@ -1,17 +1,20 @@
 use Rattle.characters.specs.Characters.{utf8, utf8_of}
 use Rattle.erasure.specs.told.ErasureTold.{row_at, listed_name}
-use Rattle.erasure.proofs.ListedLaws.{hashed, row_with, too_short, too_long, no_kotlin, can_be}
+use Rattle.erasure.proofs.ListedLaws.{hashed, row_with, too_short, too_long, no_kotlin, hashed-row, hashed-past}
 use Rattle.erasure.proofs.row_of.Goals as goal
+use Rattle.erasure.proofs.row_of.Goals.{then-n-lt8-via-then-n-lt8, then-n-lt8-via-else-n-lt8+then-n-gt36, then-n-lt8-via-else-n-lt8+else-n-gt36+then-name-ne107}
 
 pub returns-then-n-lt8 : goal.returns-then-n-lt8
-returns-then-n-lt8 c = too_short c.if-n-lt8.true
+returns-then-n-lt8 c = elim c.then-n-lt8.branch [
+  | then-n-lt8-via-then-n-lt8 w ↦ too_short w.if-n-lt8.true
+  | then-n-lt8-via-else-n-lt8+then-n-gt36 w ↦ too_long w.if-n-gt36.true
+  | then-n-lt8-via-else-n-lt8+else-n-gt36+then-name-ne107 w ↦ no_kotlin w.if-name-ne107.true
+]
 
-pub returns-then-n-gt36 : goal.returns-then-n-gt36
-returns-then-n-gt36 c = too_long c.if-n-gt36.true
-
-pub returns-then-name-ne107 : goal.returns-then-name-ne107
-returns-then-name-ne107 c = no_kotlin c.if-name-ne107.true
-
-pub returns : goal.returns
+pub returns-then-row-lt36 : goal.returns-then-row-lt36
 unfolding hashed row_with row_at listed_name utf8 utf8_of
-returns c = can_be c.args.name.now c.from.ensures c.from-2.ensures c.from-3.ensures
+returns-then-row-lt36 c = (c.if-row-lt36.true, hashed-row c.args.name.now c.from.ensures c.from-2.ensures c.from-row.ensures)
+
+pub returns-else-row-lt36 : goal.returns-else-row-lt36
+unfolding hashed row_with row_at listed_name utf8 utf8_of
+returns-else-row-lt36 c = hashed-past c.args.name.now (hashed-row c.args.name.now c.from.ensures c.from-2.ensures c.from-row.ensures) c.if-row-lt36.false

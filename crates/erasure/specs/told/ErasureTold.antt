@@ -1,10 +1,10 @@
--- What the code's answers tell, in the definitions' words: primitives, classes and fixed parts by their numbers.
+-- What the code's answers tell, in the definitions' words.
 -- Assumes nothing.
 use Rattle.std.specs.Prelude.{◌≡◌, Bool, true, false, ◌||◌, List, [], ◌∷◌, ◌++◌, map, ℕ, ◌+◌, ◌<◌, length, get_or}
 use Rattle.std.specs.Prelude as std
 use Rattle.std.specs.Prelude.{Some, None}
+use Rattle.std.specs.Borrow.{Bor}
 use Rattle.std.proofs.Math.Option.{Option, none, some}
-use Prim.Native.String.{String}
 use Rattle.std.proofs.lemmas.List.Edits.{sets}
 use Rattle.foundation.specs.Choices.{map_option}
 use Rattle.foundation.specs.Texts.{Text, ascii}
@@ -27,6 +27,8 @@ use Rattle.erasure.specs.Erasure.{
   unit,
   nothing,
   mapped,
+  box,
+  kotlin_unit,
   Entry,
   ◌means◌,
   listed,
@@ -42,6 +44,12 @@ use Rattle.erasure.specs.Erasure.{
   returned_as,
   print_returned,
 }
+use Rattle.erasure.specs.declared.Primitive as code
+use Rattle.erasure.specs.declared.Primitive.TheVariants as of_code
+use Rattle.erasure.specs.declared.Class.{Class}
+use Rattle.erasure.specs.declared.Class.TheVariants as classes
+use Rattle.erasure.specs.declared.Part.{Part}
+use Rattle.erasure.specs.declared.Part.TheVariants as parts
 use Rattle.erasure.specs.declared.Meaning as answer
 use Rattle.erasure.specs.declared.Meaning.TheVariants as means
 use Rattle.erasure.specs.declared.Position.{Position}
@@ -52,49 +60,40 @@ use Rattle.erasure.specs.declared.Printed.TheVariants as prints
 abbrev pub primitives : List Primitive
 primitives = boolean ∷ byte ∷ char ∷ short ∷ int ∷ long ∷ float ∷ double ∷ []
 
--- the classes that are printed whatever the input: the boxes, the classes of the table, Unit, and a suspending function's
-abbrev pub fixed_classes : List String
-fixed_classes =
-    "java/lang/Boolean"
-    ∷ "java/lang/Byte"
-    ∷ "java/lang/Character"
-    ∷ "java/lang/Short"
-    ∷ "java/lang/Integer"
-    ∷ "java/lang/Long"
-    ∷ "java/lang/Float"
-    ∷ "java/lang/Double"
-    ∷ "java/lang/Object"
-    ∷ "java/lang/String"
-    ∷ "java/lang/CharSequence"
-    ∷ "java/lang/Throwable"
-    ∷ "java/lang/Number"
-    ∷ "java/lang/Comparable"
-    ∷ "java/lang/Enum"
-    ∷ "java/lang/annotation/Annotation"
-    ∷ "java/lang/Iterable"
-    ∷ "java/util/Collection"
-    ∷ "java/util/List"
-    ∷ "java/util/Set"
-    ∷ "java/util/Map"
-    ∷ "kotlin/Unit"
-    ∷ "kotlin/coroutines/Continuation"
-    ∷ []
+-- A primitive, and a class of the table by its name on the JVM.
+abbrev pub primitive_told : code.Primitive → Primitive
+primitive_told of_code.Boolean = boolean
+primitive_told of_code.Byte = byte
+primitive_told of_code.Char = char
+primitive_told of_code.Short = short
+primitive_told of_code.Int = int
+primitive_told of_code.Long = long
+primitive_told of_code.Float = float
+primitive_told of_code.Double = double
 
--- A primitive and a class by their numbers, past the end the last.
-unfoldable pub primitive_at : ℕ → Primitive
-primitive_at k = get_or primitives k double
-
-unfoldable pub class_at : ℕ → Text
-class_at k = ascii (get_or fixed_classes k "kotlin/coroutines/Continuation")
+abbrev pub class_told : Class → Text
+class_told classes.Object = ascii "java/lang/Object"
+class_told classes.String = ascii "java/lang/String"
+class_told classes.CharSequence = ascii "java/lang/CharSequence"
+class_told classes.Throwable = ascii "java/lang/Throwable"
+class_told classes.Number = ascii "java/lang/Number"
+class_told classes.Comparable = ascii "java/lang/Comparable"
+class_told classes.Enum = ascii "java/lang/Enum"
+class_told classes.Annotation = ascii "java/lang/annotation/Annotation"
+class_told classes.Iterable = ascii "java/lang/Iterable"
+class_told classes.Collection = ascii "java/util/Collection"
+class_told classes.List = ascii "java/util/List"
+class_told classes.Set = ascii "java/util/Set"
+class_told classes.Map = ascii "java/util/Map"
 
 -- What the code says that a class name n means.
 abbrev pub meaning_told : Text → answer.Meaning → erasure.Meaning
-meaning_told n (means.Primitive p) = primitive (primitive_at p)
-meaning_told n (means.PrimitiveArray p) = primitive_array (primitive_at p)
+meaning_told n (means.Primitive p) = primitive (primitive_told p)
+meaning_told n (means.PrimitiveArray p) = primitive_array (primitive_told p)
 meaning_told n means.Array = array
 meaning_told n means.Unit = unit
 meaning_told n means.Nothing = nothing
-meaning_told n (means.Class k) = mapped (class_at k)
+meaning_told n (means.Class k) = mapped (class_told k)
 meaning_told n means.Other = mapped n
 
 -- The answer is right of every name that these bytes write.
@@ -111,37 +110,37 @@ listed_name k = utf8 (row_at k).name
 unfoldable pub listed_meaning : ℕ → erasure.Meaning
 listed_meaning k = (row_at k).meaning
 
--- If these bytes are a row's name, the row is r.
-abbrev pub CanBe : List ℕ → ℕ → Type 0
-CanBe bytes r = (k : ℕ) → k < 36 → bytes ≡ listed_name k → r ≡ k
+-- If these bytes are a row's name, it is this row; without a row they are no name.
+abbrev pub CanBe : List ℕ → std.Option ℕ → Type 0
+CanBe bytes (Some r) = (r < 36) × ((k : ℕ) → k < 36 → bytes ≡ listed_name k → r ≡ k)
+CanBe bytes None = (k : ℕ) → k < 36 → bytes ≡ listed_name k → ⊥
 
--- The answer is the row's meaning.
-abbrev pub MeansRow : ℕ → answer.Meaning → Type 0
-MeansRow k r = (n : Text) → listed_meaning k ≡ meaning_told n r
+-- A row of the code's table has this name and this meaning.
+pub record IsRow (k : ℕ) (r : Bor (List ℕ) × answer.Meaning) : Type 0 where
+  pub name : r.0.now ≡ listed_name k
+  pub meaning : (n : Text) → listed_meaning k ≡ meaning_told n r.1
 
--- The erased parts that are printed whatever the input, by number: the letters, arrays of them, the fixed classes, and V.
-unfoldable pub fixed_part : ℕ → Returned
-fixed_part k =
-    let letters = map (λ p. of_type (base p)) primitives in
-    let arrays = map (λ p. of_type (array_of (base p))) primitives in
-    let classes = map (λ c. of_type (class (ascii c))) fixed_classes in
-    get_or (letters ++ (arrays ++ classes)) k void
-
--- the text of a fixed part after the letters, counted from there
-unfoldable pub row_text : ℕ → List ℕ
-row_text k = print_returned (fixed_part (8 + k))
+-- The erased parts that are printed whatever the input.
+abbrev pub fixed_told : Part → Returned
+fixed_told (parts.Letter p) = of_type (base (primitive_told p))
+fixed_told (parts.LetterArray p) = of_type (array_of (base (primitive_told p)))
+fixed_told (parts.Boxed p) = of_type (class (ascii (box (primitive_told p))))
+fixed_told (parts.Class k) = of_type (class (class_told k))
+fixed_told parts.Unit = of_type (class kotlin_unit)
+fixed_told parts.Continuation = of_type (class (ascii "kotlin/coroutines/Continuation"))
+fixed_told parts.Void = void
 
 -- A text of r bytes was written into an area S from a place on, what stands past the end left out.
 pub record PutSized (text : List ℕ) (at r : ℕ) (S S' : List ℕ) : Type 0 where
   pub size : r ≡ length text
   pub area : S' ≡ sets S at text
 
-abbrev pub PutPart : ℕ → ℕ → ℕ → List ℕ → List ℕ → Type 0
-PutPart k = PutSized (print_returned (fixed_part k))
+abbrev pub PutPart : Part → ℕ → ℕ → List ℕ → List ℕ → Type 0
+PutPart k = PutSized (print_returned (fixed_told k))
 
 -- What the code says is printed of a type: its class is named n, and inner is its first kept argument as an element.
 abbrev pub printed_told : Text → Option Erased → std.Option Printed → Option Returned
-printed_told n inner (Some (prints.Fixed k)) = some (fixed_part k)
+printed_told n inner (Some (prints.Fixed k)) = some (fixed_told k)
 printed_told n inner (Some prints.ThroughArray) = map_option (λ e. of_type (array_of e)) inner
 printed_told n inner (Some prints.ClassItself) = some (of_type (class n))
 printed_told n inner None = none

@@ -12,7 +12,7 @@ use Rattle.schema.specs.told.SchemaTold.{Lent, Scoped, WalkedTold}
 use Rattle.schema.specs.told.MembersTold.{Within, ListedWithin, ListedTold, parameter_cost}
 use Rattle.std.specs.declared.result.Result.TheVariants.{Ok, Err}
 use Rattle.schema.specs.told.SchemaTold.{Walked}
-use Rattle.schema.specs.told.MembersTold.{Listed}
+use Rattle.schema.specs.told.MembersTold.{ListWalked}
 
 abbrev pub WalkedWithin : ℕ → State → Walked → Type 0
 WalkedWithin n s (Ok s') = Within n s s'
@@ -24,13 +24,13 @@ pub record ParameterTold (e : Lent) (msg : List ℕ) (base : ℕ) (s : State) (r
   pub is : (c : Scope) → Scoped e c → (m : Message) → cut (◌from◌ base msg) ≡ ok m → WalkedTold (parameter_in c m s.types) parameter_rows s r S S' T T'
 
 -- The parameters in a field, all of whose messages can be cut.
-pub record ParametersAtTold (e : Lent) (msg : List ℕ) (base number : ℕ) (s : State) (r : Listed) (S S' T T' : List ℕ) : Type 0 where
+pub record ParametersAtTold (e : Lent) (msg : List ℕ) (base number : ℕ) (s : State) (r : ListWalked) (S S' T T' : List ℕ) : Type 0 where
   pub spends : ListedWithin (parameter_cost * length msg) s r
   pub is : (c : Scope) → Scoped e c → (m : Message) → cut (◌from◌ base msg) ≡ ok m → (ms : List Message) → messages number m ≡ ok ms
       → ListedTold (each (parameter_in c) ms s.types) parameter_rows s r S S' T T'
 
 -- The parameters in a field.
-pub record ParametersInTold (e : Lent) (msg : List ℕ) (base number : ℕ) (s : State) (r : Listed) (S S' T T' : List ℕ) : Type 0 where
+pub record ParametersInTold (e : Lent) (msg : List ℕ) (base number : ℕ) (s : State) (r : ListWalked) (S S' T T' : List ℕ) : Type 0 where
   pub spends : ListedWithin (parameter_cost * length msg) s r
   pub is : (c : Scope) → Scoped e c → (m : Message) → cut (◌from◌ base msg) ≡ ok m
       → ListedTold (parameters_in c number m s.types) parameter_rows s r S S' T T'

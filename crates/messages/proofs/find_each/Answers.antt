@@ -5,15 +5,17 @@ use Rattle.wire.specs.declared.WireValue.{WireValue}
 use Rattle.std.proofs.lemmas.List.{get_or-replicate}
 use Rattle.wire.proofs.WalkLaws.{field-inside}
 use Rattle.messages.proofs.SeenLaws.{seen_start, seen_end, seen_never, seen_next}
+use Rattle.messages.proofs.SkippedLaws.{occur-skipped, seen-skipped}
 use Rattle.messages.proofs.find_each.Goals as goal
 
 pub loop-at-init : goal.loop-at-init
-loop-at-init g c = λ i h. rw (get_or-replicate {A = Option WireValue} g.row.N i None None h) (seen_start (get_or c.args.numbers i 0) c.args.base c.args.s.now)
+loop-at-init g c = λ i h. rw (get_or-replicate {A = Option WireValue} g.row.N i None None h) (occur-skipped c.args.base c.skip_fields-at.ensures i (omega arith) (seen_start (get_or c.args.numbers i 0) c.args.base c.args.s.now))
 
 pub loop-at-smaller : goal.loop-at-smaller
 loop-at-smaller g c =
     let a = c.args in
     let h = field-inside a.base a.s.now c.loop-at.at c.in-Ok.read (c.in-Ok.ensures.inside (omega arith)) (omega arith) in
+    let f = c.skip_fields-at-in-loop-at.ensures.later in
     omega arith
 
 pub loop-at-preserved : goal.loop-at-preserved
@@ -21,7 +23,7 @@ loop-at-preserved g c =
     let a = c.args in
     let l = c.loop-at in
     let e = c.in-Ok.ensures.inside (omega arith) in
-    λ i h. seen_next (get_or a.numbers i 0) a.base a.s.now l.at c.loop-at-test.true c.in-Ok.read e (get_or l.found i None) (l.invariant i h) (c.each_found_or-found.ensures i h)
+    λ i h. seen-skipped a.base c.skip_fields-at-in-loop-at.ensures i (omega arith) (get_or c.keep_first.new.found i None) (seen_next (get_or a.numbers i 0) a.base a.s.now l.at c.loop-at-test.true c.in-Ok.read e (get_or l.found i None) (l.invariant i h) (c.keep_first.ensures i h))
 
 pub returns-after-loop-at : goal.returns-after-loop-at
 returns-after-loop-at g c =

@@ -1,17 +1,43 @@
-use Rattle.messages.proofs.BodyLaws.{bodies-start, bodies-end, next_here}
-use Rattle.messages.proofs.SkippedLaws.{next-skipped}
+use native.Mathlib.Omega.{arith}
+use Rattle.wire.proofs.WalkLaws.{field-inside}
+use Rattle.messages.proofs.BodyLaws.{bodies-start, bodies-end, bodies-never, bodies-on, bodies-here}
+use Rattle.messages.proofs.SkippedLaws.{bodies-skipped}
 use Rattle.messages.proofs.next_body.Goals as goal
 
-pub returns-then-s-i : goal.returns-then-s-i
-returns-then-s-i c =
+pub loop-i-init : goal.loop-i-init
+loop-i-init c =
     let a = c.args in
-    let i = c.skip_fields-i.result in
-    next-skipped a.base c.skip_fields-i.ensures (bodies-end a.number a.base a.s.now i i (bodies-start a.number a.base a.s.now i) c.if-s-i.true)
+    (c.skip_fields-i.ensures.later, bodies-skipped a.base c.skip_fields-i.ensures 0 (omega arith) a.at (bodies-start a.number a.base a.s.now a.at))
+
+pub returns-in_default : goal.returns-in_default
+returns-in_default c =
+    let a = c.args in
+    let l = c.loop-i in
+    bodies-never a.number a.base a.s.now a.at l.i l.invariant.1 _ (c.in_default.ensures.inside (omega arith)) c.loop-i-test.true
 
 pub returns-in-Some : goal.returns-in-Some
 returns-in-Some c =
     let a = c.args in
-    next-skipped a.base c.skip_fields-i.ensures (next_here a.number a.base a.s.now c.skip_fields-i.result c.short_found.result c.short_found.ensures c.piece_in.ensures c.in-Some.is)
+    let l = c.loop-i in
+    bodies-here a.number a.base a.s.now a.at l.i l.invariant.1 c.in-Ok.read (c.in-Ok.ensures.inside (omega arith)) c.loop-i-test.true c.body_of.ensures l.invariant.0 c.in-Some.is
 
-pub returns-in-None : goal.returns-in-None
-returns-in-None c = next-skipped c.args.base c.skip_fields-i.ensures c.long_next_body.ensures
+pub loop-i-smaller : goal.loop-i-smaller
+loop-i-smaller c =
+    let a = c.args in
+    let h = field-inside a.base a.s.now c.loop-i.i c.in-Ok.read (c.in-Ok.ensures.inside (omega arith)) (omega arith) in
+    let f = c.skip_fields-i-in-loop-i.ensures.later in
+    omega arith
+
+pub loop-i-preserved : goal.loop-i-preserved
+loop-i-preserved c =
+    let a = c.args in
+    let l = c.loop-i in
+    let h = field-inside a.base a.s.now l.i c.in-Ok.read (c.in-Ok.ensures.inside (omega arith)) (omega arith) in
+    let f = c.skip_fields-i-in-loop-i.ensures.later in
+    (omega arith, bodies-skipped a.base c.skip_fields-i-in-loop-i.ensures 0 (omega arith) a.at (bodies-on a.number a.base a.s.now a.at l.i l.invariant.1 c.in-Ok.read (c.in-Ok.ensures.inside (omega arith)) c.loop-i-test.true c.body_of.ensures c.in_default-body_of.is))
+
+pub returns : goal.returns
+returns c =
+    let a = c.args in
+    let l = c.loop-i in
+    bodies-end a.number a.base a.s.now a.at l.i l.invariant.1 c.loop-i-test.false

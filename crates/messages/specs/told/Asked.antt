@@ -4,15 +4,13 @@ use Rattle.std.specs.Prelude.{◌≡◌, List, [], ◌∷◌, ℕ, ◌≤◌, �
 use Rattle.std.proofs.Math.Option.{Option, none, some}
 use Rattle.std.specs.declared.option.Option as rust
 use Rattle.foundation.specs.Choices.{if_some}
-use Rattle.foundation.specs.declared.Read.{Read}
 use Rattle.foundation.specs.declared.Span.{Span}
 use Rattle.foundation.specs.Results.{Res, ok, Part, ◌from◌}
 use Rattle.wire.specs.Wire.{Value, Message, cut}
 use Rattle.wire.specs.Messages.{values, value, as32, bytes_of, message, bodies_of}
-use Rattle.wire.specs.told.WireTold.{wire_refused, rest_of, value_of, part_between, Inside, ShortField, value_number, piece_of}
+use Rattle.wire.specs.told.WireTold.{wire_refused, rest_of, value_of, part_between, Inside, value_number, piece_of}
 use Rattle.wire.specs.declared.WireError.{WireError}
 use Rattle.wire.specs.declared.WireValue.{WireValue}
-use Rattle.wire.specs.declared.Field as code
 
 -- a part of a slice by its places
 abbrev pub span : ℕ → ℕ → Span
@@ -35,17 +33,6 @@ FoundInside s None = Unit {0}
 pub record FoundTold (base : ℕ) (s : List ℕ) (n : ℕ) (r : rust.Option WireValue) : Type 0 where
   pub is : (m : Message) → cut (◌from◌ base s) ≡ ok m → value n m ≡ found_told base s r
   pub inside : FoundInside s r
-
--- the same from a place on
-pub record FoundFrom (base : ℕ) (s : List ℕ) (n at : ℕ) (r : rust.Option WireValue) : Type 0 where
-  pub is : (m : Message) → cut (rest_of base s at) ≡ ok m → value n m ≡ found_told base s r
-  pub inside : FoundInside s r
-
--- a value that was found is that of the field at a place
-abbrev pub FoundAt : List ℕ → ℕ → ℕ → rust.Option WireValue → Type 0
-FoundAt s n at (Some v) =
-    (x : Read code.Field) × ShortField s at x × (x.value.number ≡ n) × (x.value.value ≡ v)
-FoundAt s n at None = Unit {0}
 
 -- what was found of field k before a field with the number n and the value v, or, of field k itself, that value
 abbrev pub found_or : rust.Option WireValue → ℕ → ℕ → WireValue → rust.Option WireValue

@@ -2,16 +2,9 @@
 -- Assumes nothing.
 use Rattle.std.specs.Prelude.{List, ℕ}
 use Rattle.inputs.specs.Outcomes as definition
+use Rattle.inputs.specs.told.OutcomesTold.{told}
 use Rattle.metadata.specs.declared.Answer.{Answer}
 
 -- an answer, and what both areas hold afterwards
 abbrev pub told_by : Answer → List ℕ → List ℕ → definition.Answer
-told_by r sheet text = record {
-  number = r.number;
-  detail = r.detail;
-  sheet_length = r.sheet;
-  text_length = r.text;
-  types = r.types;
-  sheet = sheet;
-  text = text;
-}
+told_by r sheet text = told r.outcome sheet text

@@ -8,7 +8,7 @@ use Rattle.foundation.specs.Choices.{if_some}
 use Rattle.foundation.specs.Texts.{Text}
 use Rattle.characters.specs.Characters.{width, from_utf8, utf8}
 use Rattle.characters.specs.told.Places.{part_from}
-use Rattle.characters.specs.told.Plain.{instead, with_dots, slashed_character, is_ascii}
+use Rattle.characters.specs.told.Plain.{instead, with_dots, slashed_character}
 use Rattle.characters.specs.told.CharactersTold.{Character}
 use Rattle.names.specs.told.Name.{predefined_list, sized, name_text}
 use Rattle.names.specs.Records.{INTERNAL_TO_CLASS_ID, DESC_TO_CLASS_ID, substituted}
@@ -46,12 +46,6 @@ changed h c = slashed_character h.slashes (with_dots h.dots (with_dollars h.doll
 pub record NoneReplaced (h : Change) : Type 0 where
   pub same : h.from ≡ h.to
   pub dollars : h.dollars ≡ false
-
--- a part that is there, of characters below 128 alone
-pub record PlainPart (s : List ℕ) (start end : ℕ) : Type 0 where
-  pub ordered : start ≤ end
-  pub inside : end ≤ length s
-  pub ascii : is_ascii (part_from start end s) ≡ true
 
 -- a text, with slashes for dots if they are asked for
 abbrev pub slashed_text : Bool → Text → Text

@@ -1,13 +1,17 @@
 -- What the code's answers tell of the whole reading: the first pass, an answer or no room.
 -- Assumes nothing.
-use Rattle.std.specs.Prelude.{◌≡◌, List, ℕ, ◌*◌, ◌≤◌, length, if◌then◌else◌, Option, Some, None, Result, Ok, Err}
-use Rattle.foundation.specs.Results.{Res, ◌>>=◌}
+use Rattle.std.specs.Prelude.{◌≡◌, List, ℕ, ◌*◌, ◌≤◌, length, if◌then◌else◌, Result, Ok, Err}
+use Rattle.foundation.specs.Results.{Res, refused, ◌>>=◌}
 use Rattle.encoding.specs.Encoding.{decoded}
+use Rattle.encoding.specs.declared.DecodeError.{DecodeError}
+use Rattle.encoding.specs.declared.DecodeError.TheVariants as decode
 use Rattle.lookup.specs.told.Strings.{codes_from}
 use Rattle.declaration_rows.specs.Declarations.{Declarations}
-use Rattle.schema.specs.told.SchemaTold.{stop_refused}
 use Rattle.schema.specs.declared.Stop.TheVariants as stop
 use Rattle.inputs.specs.Inputs.{carries_declarations}
+use Rattle.inputs.specs.told.OutcomesTold.{cause_of, place_of}
+use Rattle.inputs.specs.declared.Fault.TheVariants as fault
+use Rattle.inputs.specs.declared.outcome.Refusal.TheVariants as refusal
 use Rattle.declarations.specs.Payload.{payload}
 use Rattle.declarations.specs.told.PayloadTold.{LentRoom}
 use Rattle.names.specs.declared.records.IndexError.{IndexError}
@@ -24,17 +28,25 @@ use Rattle.passes.specs.declared.Reply.{Reply}
 -- why tables aren't noted, as why the first pass stops
 abbrev pub of_index : IndexError → PassError
 of_index index.NoRoom = first.NoRoom
-of_index (index.Wire error) = first.Refused (stop.Wire error)
+of_index (index.Wire error) = first.Refused (refusal.Stop (stop.Wire error))
+
+-- why d1 isn't decoded, the same
+abbrev pub of_decode : DecodeError → PassError
+of_decode decode.TooLong = first.Refused (refusal.Fault fault.D1TooLong)
+of_decode decode.Empty = first.Refused refusal.EmptyPayload
+of_decode (decode.NotAByte unit) = first.Refused (refusal.NotAByte unit)
+of_decode decode.NoRoom = first.NoRoom
 
 abbrev pub FirstTold : ℕ → List ℕ → List ℕ → List ℕ → List ℕ → Result Measured PassError → (S T : List ℕ) → Type 0
 FirstTold kind bytes d2 ends notes (Ok measured) S T = MeasuredAt kind bytes d2 ends notes measured S T
-FirstTold kind bytes d2 ends notes (Err (first.Refused stop)) S T = payload kind (strings d2 ends) bytes ≡ stop_refused stop
+FirstTold kind bytes d2 ends notes (Err (first.Refused r)) S T = payload kind (strings d2 ends) bytes ≡ refused (cause_of r) (place_of r)
 FirstTold kind bytes d2 ends notes (Err first.NoRoom) S T = LentRoom bytes notes → ⊥
 
--- The reply to some reading, or no room, with both areas as they were.
-abbrev pub PassedTold : Asked → Res (Declarations × ℕ) → Type 0 → Option Reply → (S S' T T' : List ℕ) → Type 0
-PassedTold asked reading room (Some r) S S' T T' = TaskTold asked reading r S S' T T'
-PassedTold asked reading room None S S' T T' = (room → ⊥) × (S' ≡ S) × (T' ≡ T)
+-- The reply to some reading or its refusal, or no room, with both areas as they were.
+abbrev pub PassedTold : Asked → Res (Declarations × ℕ) → Type 0 → Result Reply PassError → (S S' T T' : List ℕ) → Type 0
+PassedTold asked reading room (Ok r) S S' T T' = TaskTold asked reading (Ok r) S S' T T'
+PassedTold asked reading room (Err (first.Refused r)) S S' T T' = TaskTold asked reading (Err r) S S' T T'
+PassedTold asked reading room (Err first.NoRoom) S S' T T' = (room → ⊥) × (S' ≡ S) × (T' ≡ T)
 
 -- Room for the decoded bytes and for the notes.
 pub record FrameRoom (d1 bytes notes : List ℕ) : Type 0 where

@@ -1,6 +1,6 @@
 -- What is noted of a record: what it builds, in two words.
 -- Assumes nothing.
-use Rattle.std.specs.Prelude.{◌≡◌, Bool, true, false, ℕ, ◌-◌, ◌/◌, ◌%◌, ◌≤◌, ◌<◌, eqb, if◌then◌else◌, Option, Some, None}
+use Rattle.std.specs.Prelude.{◌≡◌, true, false, ℕ, ◌-◌, ◌/◌, ◌%◌, ◌≤◌, ◌<◌, eqb, if◌then◌else◌, Option, Some, None}
 use Rattle.names.specs.declared.name.Name.{Name}
 use Rattle.record_names.specs.declared.note.Words.{Words}
 
@@ -43,9 +43,6 @@ unfoldable pub noted_class : ℕ → ℕ → Option Name
 noted_class place steps =
     if eqb (steps % 4) 0 then None
     else Some (class_of (noted_name place steps) (place / 65536 / 65536 % 65536) (place / 65536 / 65536 / 65536 % 65536))
-
-abbrev pub noted_as : Bool → ℕ → ℕ → Option Name
-noted_as class place steps = if class then noted_class place steps else noted place steps
 
 -- a name that two words can hold
 pub record NameFits (n : Name) : Type 0 where

@@ -18,8 +18,8 @@ use Rattle.schema.specs.declared.Stop.{Stop}
 use Rattle.schema.specs.declared.Section.{Section}
 
 -- the answer of the reader of a list: what was read is written, up to a state, and how many are kept
-abbrev pub Listed : Type 0
-Listed = Result Section Stop
+abbrev pub ListWalked : Type 0
+ListWalked = Result Section Stop
 
 abbrev pub section : State → ℕ → Section
 section s count = record { state = s; count = count }
@@ -45,7 +45,7 @@ PickedWithin n s (Ok (Some s')) = Within n s s'
 PickedWithin n s (Ok None) = Unit {0}
 PickedWithin n s (Err stop) = Unit {0}
 
-abbrev pub ListedWithin : ℕ → State → Listed → Type 0
+abbrev pub ListedWithin : ℕ → State → ListWalked → Type 0
 ListedWithin n s (Ok x) = Within n s x.state
 ListedWithin n s (Err stop) = Unit {0}
 
@@ -60,7 +60,7 @@ abbrev pub closed_cost : ℕ → ℕ
 closed_cost n = 2 ^ 25 * (1 + n)
 
 -- A list is written, each in its rows, or refused.
-abbrev pub ListedTold : {A : Type 0} → Res (List A × ℕ) → (A → List Row) → State → Listed → (S S' T T' : List ℕ) → Type 0
+abbrev pub ListedTold : {A : Type 0} → Res (List A × ℕ) → (A → List Row) → State → ListWalked → (S S' T T' : List ℕ) → Type 0
 ListedTold {A} r rows s (Ok x) S S' T T' =
     (xs : List A) × (b : ℕ) × (r ≡ ok (xs, b)) × (x.count ≡ length xs) × PutRows (concat (map rows xs)) b s x.state S S' T T'
 ListedTold r rows s (Err stop) S S' T T' = r ≡ stop_refused stop
@@ -71,7 +71,7 @@ pub record MemberTold {A : Type 0} (read : Scope → Message → Read (Option A)
   pub is : (c : Scope) → Scoped e c → (m : Message) → cut (◌from◌ base msg) ≡ ok m → PickedTold (read c m s.types) rows s r S S' T T'
 
 -- The list of members in a field.
-pub record ListTold {A : Type 0} (read : Scope → Message → Read (Option A)) (rows : A → List Row) (cost : ℕ) (e : Lent) (msg : List ℕ) (base number : ℕ) (s : State) (r : Listed) (S S' T T' : List ℕ) : Type 0 where
+pub record ListTold {A : Type 0} (read : Scope → Message → Read (Option A)) (rows : A → List Row) (cost : ℕ) (e : Lent) (msg : List ℕ) (base number : ℕ) (s : State) (r : ListWalked) (S S' T T' : List ℕ) : Type 0 where
   pub spends : ListedWithin cost s r
   pub is : (c : Scope) → Scoped e c → (m : Message) → cut (◌from◌ base msg) ≡ ok m
       → ListedTold (list_in (read c) number m s.types) rows s r S S' T T'

@@ -1,12 +1,9 @@
-use Rattle.std.proofs.Common.{rules}
 use Rattle.declaration_rows.specs.Declarations.{invariant}
 use Rattle.schema.specs.told.SchemaTold.{entries_in, lent}
-use mathlib.Core.Path.{refl, ap, sym, ◌∙◌}
+use mathlib.Core.Path.{refl}
 use native.Mathlib.Omega.{arith}
-use Rattle.type_references.specs.told.ParseTold.{no_entry_area}
-use Rattle.type_references.specs.told.OptionalTold.{optional_of}
-use Rattle.schema.proofs.AnswerLaws.{handed_on}
-use Rattle.type_references.proofs.OptionalLaws.{looked, optional_ok}
+use Rattle.type_references.specs.told.ParseTold.{no_entry_area, roomy}
+use Rattle.type_references.proofs.OptionalLaws.{looked}
 use Rattle.type_references.proofs.CycleLaws.{alone, alone-entry}
 use Rattle.schema.proofs.TypeLaws.{resolve-nowhere}
 use Rattle.schema.proofs.EntryLaws.{entry_in}
@@ -27,11 +24,8 @@ slice_bounds-next_body-end c = let h = entry_in c.args.payload.now (entries_in c
 pub overflow_cast-entry : goal.overflow_cast-entry
 overflow_cast-entry c = let h = entry_in c.args.payload.now (entries_in c.args.tables c.args.notes.now) c.args.tables.types c.args.index c.entry_at.ensures c.in-Some.is in omega (arith, c.requires.payload-short)
 
-pub resolve_at-requires : goal.resolve_at-requires
-resolve_at-requires c = (c.requires, omega arith, no_entry_area (search rules) (alone-entry (lent c.args.payload.now c.args.d2.now c.args.ends.now c.args.notes.now c.args.tables) c.entry_at.ensures c.in-Some.is (alone c.next_body-argument.ensures c.in_default-argument.is)))
+pub entry_in_area-requires : goal.entry_in_area-requires
+entry_in_area-requires c = (c.requires, no_entry_area refl (alone-entry (lent c.args.payload.now c.args.d2.now c.args.ends.now c.args.notes.now c.args.tables) c.entry_at.ensures c.in-Some.is (alone c.next_body-argument.ensures c.in_default-argument.is)), omega arith)
 
-pub returns-in_err-found : goal.returns-in_err-found
-returns-in_err-found c = looked c.resolve_at.result c.resolve_at.ensures (handed_on _ c.from_residual.ensures.1 ∙ ap (optional_of c.args.state) (sym c.in_err-found.was))
-
-pub returns-in_default-argument : goal.returns-in_default-argument
-returns-in_default-argument c = looked c.resolve_at.result c.resolve_at.ensures (optional_ok c.args.state c.in_ok-found.was c.unwrap_or.ensures)
+pub entry_in_area-requires-2 : goal.entry_in_area-requires-2
+entry_in_area-requires-2 c = (c.requires, roomy (omega (arith, c.requires.room.types)), omega arith)

@@ -20,7 +20,7 @@ use Rattle.schema.specs.Reading.{Scope, pure, enter, kept, allowance}
 use Rattle.schema.specs.Types.{max_depth, projection_in, argument_in, type_at}
 use Rattle.schema.specs.told.SchemaTold.{Lent, Scoped, Ready, WalkedSpends, WalkedTold, stop_refused}
 use Rattle.schema.specs.told.PlacesTold.{TableOf}
-use Rattle.schema.specs.told.ArgumentTold.{NoStar}
+use Rattle.schema.specs.told.ArgumentTold.{projection_number, NoStar}
 use Rattle.schema.specs.told.TypesTold.{or_nullable, rows_in}
 use Rattle.schema.specs.declared.Tables.{Tables}
 use Rattle.type_references.specs.told.Pending.{rows_read, prefixed, shown_rows, argument_rows}
@@ -53,9 +53,9 @@ TypeFieldInside b (Err error) = Unit {0}
 abbrev pub ArgumentIs : ℕ → List ℕ → Message → Result ArgumentHead WireError → Type 0
 ArgumentIs base msg m (Ok head.Star) = projection_in m ≡ star
 ArgumentIs base msg m (Ok (head.Inline p b)) =
-    (inner : Message) × (cut (◌from◌ (base + b.start) (part_from b.start b.end msg)) ≡ ok inner) × (message Type-Argument-type m ≡ ok (some inner)) × NoStar p m
+    (inner : Message) × (cut (◌from◌ (base + b.start) (part_from b.start b.end msg)) ≡ ok inner) × (message Type-Argument-type m ≡ ok (some inner)) × NoStar (projection_number p) m
 ArgumentIs base msg m (Ok (head.ByIndex p i)) =
-    (message Type-Argument-type m ≡ ok none) × (index Type-Argument-type_id m ≡ some i) × NoStar p m
+    (message Type-Argument-type m ≡ ok none) × (index Type-Argument-type_id m ≡ some i) × NoStar (projection_number p) m
 ArgumentIs base msg m (Ok head.Nothing) =
     (message Type-Argument-type m ≡ ok none) × (index Type-Argument-type_id m ≡ none) × NoStar (projection_in m) m
 ArgumentIs base msg m (Err error) = (message Type-Argument-type m ≡ wire_refused error) × NoStar (projection_in m) m

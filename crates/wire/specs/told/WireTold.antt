@@ -1,6 +1,6 @@
 -- What the code's answers tell, in the definitions' words.
 -- Assumes nothing.
-use Rattle.std.specs.Prelude.{◌≡◌, List, [], ◌++◌, ℕ, ◌+◌, ◌-◌, ◌^◌, ◌≤◌, ◌<◌, length, take, drop, Option, None, Some, Result, Ok, Err}
+use Rattle.std.specs.Prelude.{◌≡◌, List, [], ◌++◌, ℕ, ◌+◌, ◌-◌, ◌^◌, ◌≤◌, ◌<◌, length, take, drop, get_or, Option, None, Some, Result, Ok, Err}
 use Rattle.foundation.specs.Results.{Res, ok, refused, ◌>>=◌, Cause, varint_cut_short, past_its_message, field_too_large, forbidden_field, wire_type, oversized_varint, Part, ◌from◌, Got, got}
 use Rattle.foundation.specs.declared.Read.{Read}
 use Rattle.foundation.specs.declared.Span.{Span}
@@ -129,13 +129,13 @@ abbrev pub ShortFieldTold : List ℕ → ℕ → Option (Read code.Field) → Ty
 ShortFieldTold s at (Some x) = ShortField s at x
 ShortFieldTold s at None = Unit {0}
 
--- Between two places stand fields, none with the number k.
-pub record Skips (base : ℕ) (s : List ℕ) (k at next : ℕ) : Type 0 where
+-- Between two places stand fields, none with one of the numbers ks.
+pub record Skips (base : ℕ) (s ks : List ℕ) (at next : ℕ) : Type 0 where
   pub fields : Message
-  pub others : values k fields ≡ []
+  pub others : (i : ℕ) → i < length ks → values (get_or ks i 0) fields ≡ []
   pub cuts : cut (rest_of base s at) ≡ (cut (rest_of base s next) >>= λ m. ok (fields ++ m))
 
-pub record SkipTold (s : List ℕ) (k at next : ℕ) : Type 0 where
+pub record SkipTold (s ks : List ℕ) (at next : ℕ) : Type 0 where
   pub later : at ≤ next
   pub inside : next ≤ at + (length s - at)
-  pub is : (base : ℕ) → Skips base s k at next
+  pub is : (base : ℕ) → Skips base s ks at next

@@ -7,8 +7,8 @@ use Rattle.descriptors.proofs.defaults.parameter_parts.Goals as goal
 pub loop-parameter-init : goal.loop-parameter-init
 loop-parameter-init c = (parts-start (lent c.args.payload.now c.args.d2.now c.args.ends.now c.args.notes.now c.args.tables) c.args.msg.now c.args.base c.args.number c.args.at c.args.area.now c.requires.stands, refl)
 
-pub returns-in_default : goal.returns-in_default
-returns-in_default c = parts-end c.loop-parameter.invariant.0 c.next_body.ensures c.in_default.is
+pub returns : goal.returns
+returns c = parts-end c.loop-parameter.invariant.0 c.next_body.ensures c.in_default.is
 
 pub slice_bounds-type_part-count : goal.slice_bounds-type_part-count
 slice_bounds-type_part-count c = let h = part_in c.loop-parameter.invariant.0 c.next_body.ensures c.in-Some.is in omega (arith, c.requires.stands.inside, c.requires.payload-short)

@@ -8,5 +8,5 @@ use Rattle.line.proofs.input.signed_at.Goals as goal
 pub returns : goal.returns
 returns c =
     let a = c.args in
-    signed_back (number_at 4 a.bytes.now a.at) (c.cast_signed.ensures ∙ signed_is c.four_in.result) (c.four_in.ensures.0 ∙ number-whole 4 a.bytes.now a.at)
-    (omega (arith, c.four_in.ensures.1))
+    signed_back (number_at 4 a.bytes.now a.at) (c.cast_signed.ensures ∙ signed_is c.four_in-n.result) (c.four_in-n.ensures.0 ∙ number-whole 4 a.bytes.now a.at)
+    (omega (arith, c.four_in-n.ensures.1))

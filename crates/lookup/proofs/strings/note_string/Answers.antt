@@ -3,7 +3,7 @@ use Rattle.lookup.proofs.StringLaws.{string-noted, part-fits}
 use Rattle.lookup.proofs.strings.note_string.Goals as goal
 
 pub utf8_size-size-requires : goal.utf8_size-size-requires
-utf8_size-size-requires c = (c.if-units-part.false, omega (arith, part-fits c.args.units.now c.in-Some.part.start c.in-Some.part.end c.requires.0))
+utf8_size-size-requires c = omega (arith, part-fits c.args.units.now c.in-Some.part.start c.in-Some.part.end c.requires.0)
 
 pub overflow_mul-notes : goal.overflow_mul-notes
 overflow_mul-notes c = record { fits = omega (arith, part-fits c.args.units.now c.in-Some.part.start c.in-Some.part.end c.requires.0, c.utf8_size-size.ensures) }

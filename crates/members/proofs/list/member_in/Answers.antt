@@ -13,10 +13,10 @@ pub alias_in-requires : goal.alias_in-requires
 alias_in-requires c = (affords-less c.requires.0 (member_cost (length c.args.msg.now)) (omega arith), c.requires.1.inside)
 
 pub returns-in-Constructor : goal.returns-in-Constructor
-returns-in-Constructor c = of-kind member.Constructor c.in-Constructor.is c.closed_constructor.ensures
+returns-in-Constructor c = of-kind member.Constructor c.in-Constructor.is c.closed.ensures
 
 pub returns-in-Function : goal.returns-in-Function
-returns-in-Function c = of-kind member.Function c.in-Function.is c.closed_function.ensures
+returns-in-Function c = of-kind member.Function c.in-Function.is c.closed-in-Function.ensures
 
 pub returns-in-Property : goal.returns-in-Property
 returns-in-Property c = of-kind member.Property c.in-Property.is (costs_less (omega arith) c.property_in.ensures)

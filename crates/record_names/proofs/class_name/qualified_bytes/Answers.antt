@@ -5,8 +5,8 @@ use Rattle.record_names.proofs.class_name.qualified_bytes.Goals as goal
 
 pub returns-in_default : goal.returns-in_default
 unfolding predefined_list
-returns-in_default c = class-stays c.args.payload.now c.args.name c.requires c.base_part-s.result.now c.base_part-s.ensures c.in_default.ensures refl
+returns-in_default c = class-stays c.args.payload.now c.args.name c.requires c.base_text-s.result.now c.base_text-s.ensures c.in_default.ensures refl
 
 pub returns : goal.returns
 unfolding predefined_list
-returns c = class-cut c.args.payload.now c.args.name c.requires c.base_part-s.result.now c.base_part-s.ensures c.in-Some.ensures (rw c.within.ensures at c.qualified_part.ensures)
+returns c = class-cut c.args.payload.now c.args.name c.requires c.base_text-s.result.now c.base_text-s.ensures c.in-Some.ensures (rw c.within.ensures at c.qualified_part.ensures)

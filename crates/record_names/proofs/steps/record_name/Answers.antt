@@ -1,17 +1,15 @@
-use mathlib.Core.Path.{refl}
-use native.Mathlib.Omega.{arith}
-use Rattle.record_names.proofs.PartLaws.{record-nothing, record-cut, record-built}
+use Rattle.record_names.proofs.PartLaws.{absent-made, record-nothing, record-cut, record-built}
 use Rattle.record_names.proofs.steps.record_name.Goals as goal
 
 pub returns-in_default : goal.returns-in_default
 returns-in_default c = record {
-  bytes = rw c.absent.ensures (omega arith, refl, omega arith, omega arith, omega arith, refl);
+  bytes = absent-made c.absent.ensures;
   is = λ d2 end h. record-nothing c.args.payload.now c.args.from c.args.read c.base_of.ensures c.absent.result d2 end h c.in_default.is c.absent.ensures;
 }
 
 pub returns-in_default-substring_of : goal.returns-in_default-substring_of
 returns-in_default-substring_of c = record {
-  bytes = rw c.absent-in_default-substring_of.ensures (omega arith, refl, omega arith, omega arith, omega arith, refl);
+  bytes = absent-made c.absent-in_default-substring_of.ensures;
   is = λ d2 end h. record-cut c.args.payload.now c.args.from c.args.read c.base_of.ensures c.absent-in_default-substring_of.result d2 end h c.in-Some.is c.substring_of.ensures c.in_default-substring_of.is c.absent-in_default-substring_of.ensures;
 }
 

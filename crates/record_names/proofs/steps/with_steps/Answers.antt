@@ -2,7 +2,7 @@ use mathlib.Core.Bool.{false, ◌&&◌}
 use mathlib.Core.Path.{◌≡◌, refl, sym, ◌∙◌}
 use native.Mathlib.Omega.{arith}
 use Rattle.characters.specs.Characters.{is_scalar}
-use Rattle.record_names.proofs.PartLaws.{scalar_least, known-low, not-both, steps-none, steps-both, steps-absent}
+use Rattle.record_names.proofs.PartLaws.{absent-made, scalar_least, known-low, not-both, steps-none, steps-both, steps-absent}
 use Rattle.record_names.proofs.steps.with_steps.Goals as goal
 use Rattle.record_names.proofs.steps.with_steps.Goals.{else-is_scalar-via-then-is_scalar+else-is_scalar-2, else-is_scalar-via-else-is_scalar}
 
@@ -29,6 +29,6 @@ returns c =
       | else-is_scalar-via-else-is_scalar w ↦ rw (← c.is_scalar.ensures, w.if-is_scalar.false)
     ] in
     record {
-      bytes = λ h. rw c.absent.ensures (omega arith, refl, omega arith, omega arith, omega arith, refl);
+      bytes = λ h. absent-made c.absent.ensures;
       is = λ payload d2. steps-absent payload d2 c.args.base c.args.operation c.in-Both.is f c.absent.ensures;
     }

@@ -1,9 +1,0 @@
-use mathlib.Core.Path.{◌≡◌}
-use Prim.Native.Nat.{ℕ, ◌<◌}
-use lib.ListN.{length, get_or}
-use Rattle.std.specs.Prelude.{None}
-use Rattle.messages.specs.told.Asked.{found_or}
-use Rattle.messages.proofs.each_found_or.Given as goal
-
-abbrev pub invariant-loop-i : goal.invariant-loop-i
-invariant-loop-i g l = (length l.found ≡ g.row.N) × ((k : ℕ) → k < l.i → get_or l.found k None ≡ found_or (get_or l.seen k None) (get_or l.numbers k 0) l.field.number l.field.value)
