@@ -7,7 +7,7 @@ ghost use Rattle.std.specs.Iterator.{at_most};
 ghost use Rattle.foundation.specs.Results.{got};
 ghost use Rattle.foundation.specs.Digits.{number};
 ghost use Rattle.wire.specs.Wire.{group, read_fixed, read_value, is_field_number, read_field, read_varint};
-ghost use Rattle.wire.specs.told.WireTold.{rest_of, value_number, piece_of, GroupsTold, VarintAt, DelimitedAt, ValueTold, FieldTold, FieldAt, ShortTold, ShortFieldTold, SkipTold, FieldsNext};
+ghost use Rattle.wire.specs.told.WireTold.{rest_of, value_number, piece_of, GroupsTold, VarintAt, DelimitedAt, ValueTold, FieldTold, FieldAt, ShortTold, ShortFieldTold, FieldsNext};
 
 use foundation::{Read, Span};
 
@@ -319,21 +319,6 @@ fn is_among<const N: usize>(numbers: [u32; N], number: u32) -> bool
     false
 }
 
-// A place reached from `at` by passing over whole fields, none of which has one of these numbers: over as many short ones as follow each other.
-// It costs less than reading them one by one.
-fn skip_fields<const N: usize>(s: &[u8], numbers: [u32; N], at: usize) -> usize
-    ensures { SkipTold s.now numbers.entry at result }
-{
-    let mut next = at;
-    while let Some(read) = short_field(s, next) {
-        if is_among(numbers, read.value.number) {
-            break;
-        }
-        next = read.next;
-    }
-    next
-}
-
 // A walk over the fields of a slice that is asked for some numbers: short fields with none of them are passed over. It ends at the slice's end, and after a
 // field that is refused.
 #[derive(Clone, Copy)]
@@ -355,18 +340,30 @@ impl<'a, const N: usize> Iterator for Fields<'a, N> {
 
     #[inline(always)]
     fn next(&mut self) -> Option<Result<Field, WireError>> {
-        let at = skip_fields(self.s, self.numbers, self.at);
-        if self.s.len() <= at {
+        let Fields {
+            s,
+            base,
+            numbers,
+            mut at,
+        } = *self;
+        while let Some(read) = short_field(s, at) {
+            if is_among(numbers, read.value.number) {
+                self.at = read.next;
+                return Some(Ok(read.value));
+            }
+            at = read.next;
+        }
+        if s.len() <= at {
             self.at = at;
             return None;
         }
-        match field_at(self.s, self.base, at) {
+        match field_at(s, base, at) {
             Ok(read) => {
                 self.at = read.next;
                 Some(Ok(read.value))
             }
             Err(error) => {
-                self.at = self.s.len();
+                self.at = s.len();
                 Some(Err(error))
             }
         }
