@@ -106,7 +106,7 @@ def count(root):
             places[form].append(f"{path}:{line_of(code, at)} {what}")
 
         for at, name, variants in enums(code):
-            if re.search(r"(Error|Fault|Stop)$", name):  # an error, which an answer holds
+            if re.search(r"(Error|Fault|Stop|Refusal)$", name):  # an error, which an answer holds
                 continue
             if result_shape(variants):
                 add("1 enum of the shape of Result", at, name)

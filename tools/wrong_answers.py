@@ -26,6 +26,8 @@ TABLE = ROOT / 'tools' / 'wrong_answers.tsv'
 AT_GOAL, BY_HAND, WRONG = 'refused at a goal', 'refused in a proof by hand', 'not refused so'
 MISFIT = 'its proof no longer fits'
 FUNCTION = re.compile(r'^( *)(?:pub(?:\(crate\))? )?(?:extern "C" )?fn (\w+)', re.M)
+# an `impl`'s type, or its trait and its type; or a trait
+HEADER = re.compile(r"^(?:pub(?:\(crate\))? )?(impl|trait)(?:<[^>]*>)? ([\w:<>'&\[\]]+)(?: for ([\w:<>'&\[\]]+))?", re.M)
 # what the check says of a goal: where it stands in the code, or in the file that answers it
 UNMET = r'note: src/(?P<file>\S+\.rt):(?P<line>\d+):\d+: it is not proved that '
 REFUSED = r'(?:\./)?proofs/(?P<place>\S+)/(?:Answers|Proof)\.antt:\d+:\d+: error: `'
@@ -61,6 +63,16 @@ class Function:
         return self.path.split('::')[-1]
 
 
+def spelled(name):
+    """A type as the prover spells it in a function's path."""
+    if name.startswith('&'):
+        return 'Ref' + spelled(name[1:])
+    if name.startswith('['):
+        of = spelled(name[1:-1])
+        return 'Slice' + of[0].upper() + of[1:]
+    return name.split('<')[0]
+
+
 def functions_of(crate):
     """The functions of a crate by their paths, as the prover prints them: module, name; of an `impl` its type's module, the type, name."""
     found, texts, homes = {}, {}, {}
@@ -71,11 +83,14 @@ def functions_of(crate):
     for file, (module, text) in texts.items():
         for match in FUNCTION.finditer(text):
             start, indent = match.start(), match.group(1)
+            header = HEADER.findall(text[:start])[-1:] if indent else []
+            if header and header[0][0] == 'trait':  # what its methods promise; they have no code
+                continue
             end = text.index(f'\n{indent}}}\n', start)
-            # the type, and of a trait's `impl` the trait after it, as TFromU
-            owner = re.findall(r"^impl(?:<[^>]*>)? ([\w:<>']+)(?: for (\w+))?", text[:start], re.M)[-1:] if indent else []
-            home = homes.get(owner[0][1] or owner[0][0].split('<')[0], module) if owner else module
-            names = [of + re.sub(r"\W", '', first) if of else first.split('<')[0] for first, of in owner]
+            # the type, and of a trait's `impl` the trait after it, as TFromU and RefSliceU8FromU
+            owner = [(of or first, re.sub(r"\W", '', first) if of else '') for _, first, of in header]
+            home = next((homes[name.split('<')[0]] for name, _ in owner if name.split('<')[0] in homes), module)
+            names = [spelled(name) + trait for name, trait in owner]
             path = '::'.join(home + names + [match.group(2)])
             found[path] = Function(path, file.name, start, end, text)
     return found

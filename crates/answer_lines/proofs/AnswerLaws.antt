@@ -32,8 +32,10 @@ use Rattle.inputs.specs.Outcomes.{refusal}
 use Rattle.declarations.specs.Payload.{declaration_rows}
 use Rattle.passes.specs.Answered.{answered, written, sheet_written, accepted, text_limit}
 use Rattle.metadata.specs.Read.{read, reading}
-use Rattle.metadata.specs.declared.Answer.{Answer}
-use Rattle.metadata.specs.told.ReadTold.{told_by}
+use Rattle.inputs.specs.Refusals.{number_of, detail_of}
+use Rattle.inputs.specs.told.OutcomesTold.{refusal_cause, refusal_place, told}
+use Rattle.inputs.specs.declared.outcome.Sizes.{Sizes}
+use Rattle.inputs.specs.declared.outcome.Refusal.{Refusal}
 use Rattle.line.specs.declared.input.Counts.{Counts}
 use Rattle.line.specs.declared.stream.Taken.{Taken}
 use Rattle.line.specs.Input.{d1_place, d2_place, ends_place, number_at, numbers_at, signed_of, counts_of, input_end, input_of, whole_input}
@@ -139,8 +141,9 @@ wrote_whole bs t s h {kept} e {r} {S} {S'} w =
     subst (λ (l : List ℕ). Wrote l 0 r S S') (sym p) (subst (λ (k : List ℕ). WroteKept k t.counts r S S') e w)
 
 -- what the entry answers lies in the areas
-pub entry_inside : (S T : List ℕ) (i : Input) (r : Answer) {S' T' : List ℕ} → read S T i ≡ told_by r S' T' → Inside S T (told_by r S' T')
-entry_inside S T i r e = subst (Inside S T) e (read-inside S T i)
+pub entry_inside : (S T : List ℕ) (i : Input) (o : Std.Result Sizes Refusal) {S' T' : List ℕ} → read S T i ≡ told o S' T' → {sizes : Sizes}
+    → o ≡ Std.Ok sizes → Inside S T (told (Std.Ok sizes) S' T')
+entry_inside S T i o {S'} {T'} e f = subst (Inside S T) (e ∙ ap (λ (x : Std.Result Sizes Refusal). told x S' T') f) (read-inside S T i)
 
 -- what was taken from the bytes kept is what the counts announce
 pub numbers_kept : (w : ℕ) (bs : List ℕ) (at at' n m r : ℕ) (S S' : List ℕ) → at ≡ at' → length S ≡ m → r ≡ min n (length S)
@@ -172,19 +175,29 @@ pub zeros-are : blank 65536 ≡ zeros
 unfolding zeros
 zeros-are = refl
 
--- the line of the answer, from the entry's answer and the line that was put
-pub wrote_read : (kept d1 d2 ends : List ℕ) (r : Answer) {S T S' T' : List ℕ} {k : ℤ} {version : List ℤ}
-    → read S T (input k version d1 d2 ends) ≡ told_by r S' T'
-    → k ≡ signed_of (number_at 4 kept 0) → version ≡ version_at kept → S ≡ zeros → T ≡ zeros
-    → {n : ℕ} {A A' : List ℕ} → Wrote (line_of r.number r.detail (take r.sheet S') (take r.text T')) 0 n A A'
-    → WroteRead kept d1 d2 ends n A A'
-wrote_read kept d1 d2 ends r {S} {T} {S'} {T'} {k} {version} h p q u v {n} {A} {A'} w =
-    let i : input k version d1 d2 ends ≡ input_with kept d1 d2 ends = rw (p, q) in
-    let e : read S T (input k version d1 d2 ends) ≡ read zeros zeros (input_with kept d1 d2 ends) =
-    ap (λ (x : List ℕ). read x T (input k version d1 d2 ends)) u
-    ∙ ap (λ (x : List ℕ). read zeros x (input k version d1 d2 ends)) v
-    ∙ ap (read zeros zeros) i in
-    subst (λ (l : List ℕ). Wrote l 0 n A A') (sym (ap answer_line h) ∙ ap answer_line e) w
+-- the line of the answer, from the entry's outcome and the line that was put
+module _ (kept d1 d2 ends S' T' : List ℕ) {S T : List ℕ} {k : ℤ} {version : List ℤ} {o : Std.Result Sizes Refusal}
+    (h : read S T (input k version d1 d2 ends) ≡ told o S' T')
+    (p : k ≡ signed_of (number_at 4 kept 0)) (q : version ≡ version_at kept) (u : S ≡ zeros) (v : T ≡ zeros)
+    {n : ℕ} {A A' : List ℕ}
+  where
+    wrote_outcome : (x : Std.Result Sizes Refusal) → o ≡ x → Wrote (answer_line (told x S' T')) 0 n A A' → WroteRead kept d1 d2 ends n A A'
+    wrote_outcome x f w =
+        let i : input k version d1 d2 ends ≡ input_with kept d1 d2 ends = rw (p, q) in
+        let e : read S T (input k version d1 d2 ends) ≡ read zeros zeros (input_with kept d1 d2 ends) =
+        ap (λ (x : List ℕ). read x T (input k version d1 d2 ends)) u
+        ∙ ap (λ (x : List ℕ). read zeros x (input k version d1 d2 ends)) v
+        ∙ ap (read zeros zeros) i in
+        let told_is = h ∙ ap (λ (x : Std.Result Sizes Refusal). told x S' T') f in
+        subst (λ (l : List ℕ). Wrote l 0 n A A') (sym (ap answer_line told_is) ∙ ap answer_line e) w
+
+    pub wrote_read : {sizes : Sizes} → o ≡ Std.Ok sizes → Wrote (line_of 0 0 (take sizes.sheet S') (take sizes.text T')) 0 n A A'
+        → WroteRead kept d1 d2 ends n A A'
+    wrote_read {sizes} f w = wrote_outcome (Std.Ok sizes) f w
+
+    pub wrote_refused : {x : Refusal} → o ≡ Std.Err x → {c : ℕ × ℕ} → c ≡ (number_of (refusal_cause x), detail_of (refusal_cause x) (refusal_place x))
+        → Wrote (line_of c.0 c.1 [] []) 0 n A A' → WroteRead kept d1 d2 ends n A A'
+    wrote_refused {x} f e w = wrote_outcome (Std.Err x) f (subst (λ (y : ℕ × ℕ). Wrote (line_of y.0 y.1 [] []) 0 n A A') e w)
 
 -- signed numbers are handed on as bits
 module _ (kept : List ℕ) (bytes : (i : ℕ) → get_or kept i 0 < 256) where

@@ -20,16 +20,13 @@ fn put_read(kept: &[u8], d1: &[u16], d2: &[u16], ends: &[u32], area: &mut [u8]) 
     let version = [signed_at(kept, 4), signed_at(kept, 8), signed_at(kept, 12)];
     let mut sheet = [0u8; 65536];
     let mut text = [0u8; 65536];
-    let answer = read(k, version, d1, d2, ends, &mut sheet, &mut text);
-    let sheet_length = answer.sheet;
-    let text_length = answer.text;
-    put_line(
-        area,
-        answer.number,
-        answer.detail,
-        &sheet[..sheet_length],
-        &text[..text_length],
-    )
+    match read(k, version, d1, d2, ends, &mut sheet, &mut text).outcome {
+        Ok(sizes) => put_line(area, 0, 0, &sheet[..sizes.sheet], &text[..sizes.text]),
+        Err(refusal) => {
+            let (number, detail) = refusal.numbered();
+            put_line(area, number, detail, &[], &[])
+        }
+    }
 }
 
 // The same with d1, d2 and ends from what is kept, by the counts.

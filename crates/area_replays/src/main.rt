@@ -43,9 +43,17 @@ fn show(
 ) -> io::Result<bool> {
     let k = signed_at(kept, 0);
     let version = [signed_at(kept, 4), signed_at(kept, 8), signed_at(kept, 12)];
-    let answer = read(k, version, d1, d2, ends, sheet, text);
-    print!(rt; "{} {} {} ", answer.sheet, answer.text, answer.types)?;
-    print_line(rt, answer.number, answer.detail, sheet, text)
+    match read(k, version, d1, d2, ends, sheet, text).outcome {
+        Ok(sizes) => {
+            print!(rt; "{} {} {} ", sizes.sheet, sizes.text, sizes.types)?;
+            print_line(rt, 0, 0, sheet, text)
+        }
+        Err(refusal) => {
+            print!(rt; "0 0 0 ")?;
+            let (number, detail) = refusal.numbered();
+            print_line(rt, number, detail, sheet, text)
+        }
+    }
 }
 
 // The same with d1, d2 and ends from what is kept.

@@ -11,27 +11,33 @@ ghost use Rattle.names.specs.told.Name.{name_text};
 ghost use Rattle.sheet.specs.Rows.{num, ref, bit, row, body_bytes};
 ghost use Rattle.sheet.specs.told.Put.{PutCells, PutHead, PutRows};
 ghost use Rattle.declaration_rows.specs.Rows.{name_cell, signature_cells};
-ghost use Rattle.declaration_rows.specs.told.Written.{RecordRoom, kind_told, signature_by, init_by, head_cells, head_counts, constructor_cells, function_cells, property_flags, property_signatures, property_cells, parameter_cells, alias_cells};
+ghost use Rattle.declaration_rows.specs.told.Written.{RecordRoom, role_number, record_number, signature_by, init_by, head_cells, head_counts, constructor_cells, function_cells, property_flags, property_signatures, property_cells, parameter_cells, alias_cells};
 
 use names::name::{Name, is_there};
 use names::stream::put_name;
 use sheet::{State, put, put_absent, put_all, put_bit, put_number, put_ref};
 
-// Roles of types: a return or property type, a receiver, a parameter, a vararg element, an argument, an alias's underlying and its expanded
-// type. As in specs/Rows.antt.
-pub const RETURN_ROLE: u8 = 1;
+// The role of a type: a return or property type, a receiver, a parameter, a vararg element, an argument, an alias's underlying and its expanded
+// type.
+#[derive(Clone, Copy)]
+pub enum Role {
+    Return = 1,
+    Receiver = 2,
+    Parameter = 3,
+    VarargElement = 4,
+    Argument = 5,
+    Underlying = 6,
+    Expanded = 7,
+}
 
-pub const RECEIVER_ROLE: u8 = 2;
-
-pub const PARAMETER_ROLE: u8 = 3;
-
-pub const VARARG_ROLE: u8 = 4;
-
-pub const ARGUMENT_ROLE: u8 = 5;
-
-pub const UNDERLYING_ROLE: u8 = 6;
-
-pub const EXPANDED_ROLE: u8 = 7;
+impl Role {
+    // Its number on the sheet.
+    pub fn number(self) -> u8
+        ensures { result ≡ role_number self }
+    {
+        self as u8
+    }
+}
 
 // The kinds of records that are written here.
 #[derive(Clone, Copy)]
@@ -94,7 +100,7 @@ pub fn put_named(
 }
 
 fn number_of(kind: Record) -> u8
-    ensures { result ≡ kind_told kind }
+    ensures { result ≡ record_number kind }
 {
     kind as u8
 }
@@ -102,7 +108,7 @@ fn number_of(kind: Record) -> u8
 // A record begins: its kind.
 fn put_kind(kind: Record, state: State, sheet: &mut [u8]) -> State
     requires { state.sheet ≤ 2 ^ 63 }
-    ensures { (T : List ℕ) → PutHead (kind_told kind) [] state.types state result sheet.old sheet.new T T }
+    ensures { (T : List ℕ) → PutHead (record_number kind) [] state.types state result sheet.old sheet.new T T }
 {
     let at = state.sheet;
     put(sheet, at, number_of(kind));

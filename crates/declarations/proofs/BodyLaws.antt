@@ -7,7 +7,6 @@ use mathlib.Core.Option.{Option, none}
 use Prim.Native.Nat.{ℕ, ◌+◌, ◌^◌, ◌≤◌}
 use native.Mathlib.Nat.{add_assoc}
 use native.Mathlib.Omega.{arith}
-use borrow.Author.Tests.{eq-eqb, ne_eqb}
 use lib.Dec.{eqb}
 use lib.ListN.{length, length-append}
 use lib.Seq.{sets}
@@ -55,17 +54,17 @@ module _ (kind : ℕ) (payload d2 ends notes : List ℕ) (records : ℕ) (msg : 
   head-spent n flags p =
       within_less head_cost (omega arith) (head-within a (head_cells kind (name_text payload d2 n) flags) (head_small (affords-places a) kind n flags) 1 p)
 
-  pub head-package : (n : Name) → (kind ≡ 1 → ⊥) → n ≡ absent_name → PutHead 1 (head_cells kind (name_text payload d2 n) 6) s.types s s' S S' T T'
+  pub head-package : (n : Name) → eqb kind 1 ≡ false → n ≡ absent_name → PutHead 1 (head_cells kind (name_text payload d2 n) 6) s.types s s' S S' T T'
       → BodyHead kind payload d2 ends notes records msg base s s' S S' T T'
   head-package n g q p = record {
     name = none;
     flags = 6;
     put = subst (λ (o : Option Text). PutHead 1 (head_cells kind o 6) s.types s s' S S' T T') (ap (name_text payload d2) q ∙ no_name payload d2) p;
     spends = head-spent n 6 p;
-    is = λ c w m e l. rw (ne_eqb kind 1 g);
+    is = λ c w m e l. rw g;
   }
 
-  pub head-class : (n : Name) (flags : ℕ) → kind ≡ 1
+  pub head-class : (n : Name) (flags : ℕ) → eqb kind 1 ≡ true
       → ((m : Message) → cut (◌from◌ base msg) ≡ ok m → flags_in Class-flags m ≡ flags)
       → ((c : Scope) → NamesOf payload d2 ends notes records c.names → (m : Message) → cut (◌from◌ base msg) ≡ ok m → (l : ℕ)
       → class_name_in c Class-fq_name m l ≡ ok (name_text payload d2 n, l))
@@ -76,7 +75,7 @@ module _ (kind : ℕ) (payload d2 ends notes : List ℕ) (records : ℕ) (msg : 
     flags = flags;
     put = p;
     spends = head-spent n flags p;
-    is = λ c w m e l. rw (eq-eqb kind 1 g, h c w m e l, f m e);
+    is = λ c w m e l. rw (g, h c w m e l, f m e);
   }
 
 -- The constructors.

@@ -4,6 +4,7 @@ ghost use Rattle.std.specs.Prelude.{◌≡◌, length};
 ghost use Rattle.schema.specs.Members.{function_field, property_field, alias_field};
 ghost use Rattle.schema.specs.told.SchemaTold.{lent, Stands};
 ghost use Rattle.schema.specs.told.MembersTold.{Affords};
+ghost use Rattle.inputs.specs.told.KindTold.{kind_number};
 ghost use Rattle.declarations.specs.told.BodyTold.{head_cost, list_cost, aliases_cost, lists_cost, body_cost, BodyHead, ConstructorsTold, AliasesTold, ListsTold, BodyWalked};
 
 use declaration_rows::{put_aliases, put_count, put_head, put_head_counts};
@@ -11,6 +12,7 @@ use fields::{
     CLASS_CONSTRUCTOR, CLASS_FLAGS, CLASS_FQ_NAME, CLASS_FUNCTION, CLASS_PROPERTY,
     CLASS_TYPE_ALIAS, OMITTED_FLAGS, PACKAGE_FUNCTION, PACKAGE_PROPERTY, PACKAGE_TYPE_ALIAS,
 };
+use inputs::Kind;
 use members::list::{Member, MemberList, members_in};
 use names::name::absent;
 use schema::flags::flags_in;
@@ -60,7 +62,7 @@ fn alias_field(class: bool) -> u32
 
 // The head up to its counts. A package has no class name, and flags 6.
 fn head_in(
-    kind: u8,
+    kind: Kind,
     msg: &[u8],
     base: u32,
     payload: &[u8],
@@ -73,13 +75,13 @@ fn head_in(
     text: &mut [u8],
 ) -> State
     requires { Affords payload.now d2.now head_cost state }
-    ensures { BodyHead kind payload.now d2.now ends.now notes.now records msg.now base state result sheet.old sheet.new text.old text.new }
+    ensures { BodyHead (kind_number kind) payload.now d2.now ends.now notes.now records msg.now base state result sheet.old sheet.new text.old text.new }
 {
-    if kind != 1 {
+    if !kind.is_class() {
         return put_head(
             payload,
             d2,
-            kind,
+            kind.number(),
             absent(),
             OMITTED_FLAGS,
             state,
@@ -89,7 +91,7 @@ fn head_in(
     }
     let flags = flags_in(msg, base, CLASS_FLAGS, OMITTED_FLAGS);
     let name = class_name_in(msg, base, CLASS_FQ_NAME, payload, d2, ends, notes, records);
-    put_head(payload, d2, kind, name, flags, state, sheet, text)
+    put_head(payload, d2, kind.number(), name, flags, state, sheet, text)
 }
 
 // The constructors of a class; a package has none.
@@ -250,7 +252,7 @@ fn lists_in(
 // A whole body, after its type table.
 // Callers show `Affords` and `Stands`: passes begins at places 0, and its body is the payload's rest, within the limits (`InLimits`).
 pub fn body_in(
-    kind: u8,
+    kind: Kind,
     msg: &[u8],
     base: u32,
     payload: &[u8],
@@ -263,7 +265,7 @@ pub fn body_in(
     text: &mut [u8],
 ) -> Result<Sections, Stop>
     requires { Affords payload.now d2.now (body_cost (length msg.now)) state × Stands payload.now msg.now base }
-    ensures { BodyWalked kind (lent payload.now d2.now ends.now notes.now tables) msg.now base state result sheet.old sheet.new text.old text.new }
+    ensures { BodyWalked (kind_number kind) (lent payload.now d2.now ends.now notes.now tables) msg.now base state result sheet.old sheet.new text.old text.new }
 {
     let begun = head_in(
         kind,
@@ -284,7 +286,7 @@ pub fn body_in(
         ..begun
     };
     let sections = lists_in(
-        kind == 1,
+        kind.is_class(),
         msg,
         base,
         payload,

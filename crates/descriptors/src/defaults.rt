@@ -13,6 +13,7 @@ ghost use Rattle.descriptors.specs.told.DefaultsTold.{part_cost, PartWithin, Par
 ghost use Rattle.descriptors.specs.told.PartsTold.{PartRoom, PartOf, TypeGiven, type_part, FunctionGiven, receiver_part, before_part, after_part};
 
 use crate::erased::{Placement, put_erased};
+use declaration_rows::Role;
 use erasure::{Class, Part, Position, put_part};
 use fields::{
     CONSTRUCTOR_VALUE_PARAMETER, FUNCTION_FLAGS, FUNCTION_RECEIVER_TYPE, FUNCTION_RECEIVER_TYPE_ID,
@@ -89,7 +90,7 @@ fn parameter_parts(
             TypeSlot {
                 inline: VALUE_PARAMETER_TYPE,
                 indexed: VALUE_PARAMETER_TYPE_ID,
-                role: 0,
+                role: Role::Parameter,
             },
             Position::Parameter,
             payload,
@@ -159,7 +160,7 @@ fn receiver_part(
             TypeSlot {
                 inline: FUNCTION_RECEIVER_TYPE,
                 indexed: FUNCTION_RECEIVER_TYPE_ID,
-                role: 0,
+                role: Role::Receiver,
             },
             Position::Parameter,
             payload,
@@ -249,7 +250,7 @@ fn after_part(
         TypeSlot {
             inline: FUNCTION_RETURN_TYPE,
             indexed: FUNCTION_RETURN_TYPE_ID,
-            role: 0,
+            role: Role::Return,
         },
         Position::Return,
         payload,

@@ -1,1 +1,2 @@
 pub mod OutcomesTold
+pub mod KindTold

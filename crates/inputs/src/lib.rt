@@ -2,9 +2,10 @@
 // tell them: specs/told/OutcomesTold.antt.
 #![tactic(auto)]
 
-ghost use Rattle.std.specs.Prelude.{◌≡◌, ℤ};
+ghost use Rattle.std.specs.Prelude.{◌≡◌, eqb, ℤ};
 ghost use Rattle.names.specs.Names.{ends_fit};
-ghost use Rattle.inputs.specs.Inputs.{kind_of, fault_of, input};
+ghost use Rattle.inputs.specs.Inputs.{kind_of, carries_declarations, fault_of, input};
+ghost use Rattle.inputs.specs.told.KindTold.{kind_number};
 ghost use Rattle.inputs.specs.told.OutcomesTold.{fault_told};
 
 use encoding::UNIT_LIMIT;
@@ -25,16 +26,53 @@ pub enum Fault {
     NewerVersion,
 }
 
-// The metadata kind, 1 to 5; another k counts as 1.
-pub fn kind_of(k: i32) -> u8
-    ensures { result ≡ kind_of k }
+// A metadata kind.
+#[derive(Clone, Copy, Debug, PartialEq, Eq)]
+pub enum Kind {
+    Class,
+    FileFacade,
+    SyntheticClass,
+    MultiFileClassFacade,
+    MultiFileClassPart,
+}
+
+impl Kind {
+    // Its number, 1 to 5, as a sheet has it.
+    pub fn number(self) -> u8
+        ensures { result ≡ kind_number self }
+    {
+        match self {
+            Kind::Class => 1,
+            Kind::FileFacade => 2,
+            Kind::SyntheticClass => 3,
+            Kind::MultiFileClassFacade => 4,
+            Kind::MultiFileClassPart => 5,
+        }
+    }
+
+    pub fn is_class(self) -> bool
+        ensures { result ≡ eqb (kind_number self) 1 }
+    {
+        matches!(self, Kind::Class)
+    }
+
+    pub fn carries_declarations(self) -> bool
+        ensures { result ≡ carries_declarations (kind_number self) }
+    {
+        !matches!(self, Kind::SyntheticClass | Kind::MultiFileClassFacade)
+    }
+}
+
+// The metadata kind by its number; another k counts as a class.
+pub fn kind_of(k: i32) -> Kind
+    ensures { kind_number result ≡ kind_of k }
 {
     match k {
-        2 => 2,
-        3 => 3,
-        4 => 4,
-        5 => 5,
-        _ => 1,
+        2 => Kind::FileFacade,
+        3 => Kind::SyntheticClass,
+        4 => Kind::MultiFileClassFacade,
+        5 => Kind::MultiFileClassPart,
+        _ => Kind::Class,
     }
 }
 

@@ -7,6 +7,7 @@ use mathlib.Core.Option.{Option, none, some}
 use Prim.Native.Nat.{ℕ, ◌+◌, ◌*◌}
 use native.Mathlib.Omega.{arith}
 use lib.ListN.{length}
+use Rattle.declaration_rows.specs.declared.Role.TheVariants as roles
 use Rattle.foundation.specs.Choices.{is_some}
 use Rattle.foundation.specs.Results as Results
 use Rattle.foundation.specs.Results.{ok, ◌from◌}
@@ -52,8 +53,8 @@ module _ {payload d2 : List ℕ} {n : ℕ} {s s₁ : State} (h : Affords payload
 -- An alias.
 abbrev alias_pair : TypePair
 alias_pair = record {
-  first = record { inline = TypeAlias-underlying_type; indexed = TypeAlias-underlying_type_id; role = underlying_role };
-  second = record { inline = TypeAlias-expanded_type; indexed = TypeAlias-expanded_type_id; role = expanded_role };
+  first = record { inline = TypeAlias-underlying_type; indexed = TypeAlias-underlying_type_id; role = roles.Underlying };
+  second = record { inline = TypeAlias-expanded_type; indexed = TypeAlias-expanded_type_id; role = roles.Expanded };
 }
 
 alias_of : Text → Message → Option Ty × Option Ty → Alias

@@ -20,6 +20,7 @@ use Rattle.sheet.specs.declared.State.{State}
 use Rattle.sheet.proofs.PutLaws.{put-types, rows_then}
 use Rattle.declaration_rows.specs.Declarations.{Ty}
 use Rattle.declaration_rows.specs.Rows.{type_rows}
+use Rattle.declaration_rows.specs.told.Written.{role_number}
 use Rattle.schema.specs.Reading.{Read, pure, ◌>>=◌, Scope, name_in}
 use Rattle.schema.specs.Types.{declared_type}
 use Rattle.schema.specs.told.SchemaTold.{Lent, NamesOf, Scoped, Spends, WalkedSpends, WalkedTold, PickedTold}
@@ -83,11 +84,11 @@ module _ {A B : Type 0} (f : Read A) (g : Read B) where
 
 -- The first type, then the second.
 module _ (p : TypePair) {e : Lent} {msg : List ℕ} {base : ℕ} {s : State} {own : Walked} {S S₁ T T₁ : List ℕ}
-    (t : OptionalTold e msg base p.first.inline p.first.indexed p.first.role s own S S₁ T T₁) where
+    (t : OptionalTold e msg base p.first.inline p.first.indexed (role_number p.first.role) s own S S₁ T T₁) where
   own_is : (c : Scope) → Scoped e c → (m : Message) → cut (◌from◌ base msg) ≡ ok m → {y : Walked} → own ≡ y
-      → WalkedTold (declared_type c p.first.inline p.first.indexed m s.types) (type_rows p.first.role) s y S S₁ T T₁
+      → WalkedTold (declared_type c p.first.inline p.first.indexed m s.types) (type_rows (role_number p.first.role)) s y S S₁ T T₁
   own_is c o m k {y} q =
-      subst (λ (w : Walked). WalkedTold (declared_type c p.first.inline p.first.indexed m s.types) (type_rows p.first.role) s w S S₁ T T₁)
+      subst (λ (w : Walked). WalkedTold (declared_type c p.first.inline p.first.indexed m s.types) (type_rows (role_number p.first.role)) s w S S₁ T T₁)
       q (t.is c o m k)
 
   pub pair-refused : {stop : Stop} → own ≡ Err stop → PairTold p e msg base s (Err stop) S S₁ T T₁
@@ -95,17 +96,17 @@ module _ (p : TypePair) {e : Lent} {msg : List ℕ} {base : ℕ} {s : State} {ow
     spends = tt;
     is = λ c o m k.
         both-refused (declared_type c p.first.inline p.first.indexed m) (declared_type c p.second.inline p.second.indexed m)
-        (type_rows p.first.role) (type_rows p.second.role) s (Err stop) S S₁ T T₁ refl (own_is c o m k q);
+        (type_rows (role_number p.first.role)) (type_rows (role_number p.second.role)) s (Err stop) S S₁ T T₁ refl (own_is c o m k q);
   }
 
   pub pair_then : {s₁ : State} → own ≡ Ok s₁ → {w : Walked} {S₂ T₂ : List ℕ}
-      → OptionalTold e msg base p.second.inline p.second.indexed p.second.role s₁ w S₁ S₂ T₁ T₂
+      → OptionalTold e msg base p.second.inline p.second.indexed (role_number p.second.role) s₁ w S₁ S₂ T₁ T₂
       → PairTold p e msg base s w S S₂ T T₂
   pair_then {s₁} q {w} {S₂} {T₂} u = record {
     spends = walked_spends s s₁ w (subst (WalkedSpends s) q t.spends) u.spends;
     is = λ c o m k.
         both-then (declared_type c p.first.inline p.first.indexed m) (declared_type c p.second.inline p.second.indexed m)
-        (type_rows p.first.role) (type_rows p.second.role) s s₁ w S S₁ S₂ T T₁ T₂ (own_is c o m k q) (u.is c o m k);
+        (type_rows (role_number p.first.role)) (type_rows (role_number p.second.role)) s s₁ w S S₁ S₂ T T₁ T₂ (own_is c o m k q) (u.is c o m k);
   }
 
 -- A declaration of two types, which is skipped without a name.

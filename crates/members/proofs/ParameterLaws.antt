@@ -7,6 +7,7 @@ use mathlib.Core.Option.{Option, some}
 use Prim.Native.Nat.{ℕ, ◌+◌, ◌*◌}
 use native.Mathlib.Omega.{arith}
 use lib.ListN.{length}
+use Rattle.declaration_rows.specs.declared.Role.TheVariants as roles
 use Rattle.foundation.specs.Results as Results
 use Rattle.foundation.specs.Results.{Res, ok, ◌from◌}
 use Rattle.foundation.specs.Texts.{Text}
@@ -73,8 +74,8 @@ module _ {payload d2 : List ℕ} {n : ℕ} {s s₁ : State} (h : Affords payload
 -- A parameter.
 abbrev parameter_pair : TypePair
 parameter_pair = record {
-  first = record { inline = ValueParameter-type; indexed = ValueParameter-type_id; role = parameter_role };
-  second = record { inline = ValueParameter-vararg_element_type; indexed = ValueParameter-vararg_element_type_id; role = vararg_role };
+  first = record { inline = ValueParameter-type; indexed = ValueParameter-type_id; role = roles.Parameter };
+  second = record { inline = ValueParameter-vararg_element_type; indexed = ValueParameter-vararg_element_type_id; role = roles.VarargElement };
 }
 
 parameter_of : Option Text → Message → Option Ty × Option Ty → Parameter

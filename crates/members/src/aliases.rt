@@ -7,7 +7,7 @@ ghost use Rattle.schema.specs.told.SchemaTold.{lent};
 ghost use Rattle.schema.specs.told.MembersTold.{Affords, member_cost, MemberTold};
 
 use crate::pairs::{TypePair, type_pair};
-use declaration_rows::{EXPANDED_ROLE, UNDERLYING_ROLE, put_alias};
+use declaration_rows::{Role, put_alias};
 use fields::{
     OMITTED_FLAGS, TYPE_ALIAS_EXPANDED_TYPE, TYPE_ALIAS_EXPANDED_TYPE_ID, TYPE_ALIAS_FLAGS,
     TYPE_ALIAS_NAME, TYPE_ALIAS_UNDERLYING_TYPE, TYPE_ALIAS_UNDERLYING_TYPE_ID,
@@ -52,12 +52,12 @@ pub(crate) fn alias_in(
         first: TypeSlot {
             inline: TYPE_ALIAS_UNDERLYING_TYPE,
             indexed: TYPE_ALIAS_UNDERLYING_TYPE_ID,
-            role: UNDERLYING_ROLE,
+            role: Role::Underlying,
         },
         second: TypeSlot {
             inline: TYPE_ALIAS_EXPANDED_TYPE,
             indexed: TYPE_ALIAS_EXPANDED_TYPE_ID,
-            role: EXPANDED_ROLE,
+            role: Role::Expanded,
         },
     };
     let last = type_pair(

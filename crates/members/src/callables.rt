@@ -8,9 +8,7 @@ ghost use Rattle.members.specs.told.CallablesTold.{function_head_cost, FunctionH
 
 use crate::parameters::parameters_in;
 use crate::signatures::{Signed, names_of, or_name, signature_in};
-use declaration_rows::{
-    RECEIVER_ROLE, RETURN_ROLE, SignatureNames, put_constructor, put_count, put_function,
-};
+use declaration_rows::{Role, SignatureNames, put_constructor, put_count, put_function};
 use fields::{
     CONSTRUCTOR_CONSTRUCTOR_SIGNATURE, CONSTRUCTOR_FLAGS, CONSTRUCTOR_VALUE_PARAMETER,
     FUNCTION_FLAGS, FUNCTION_METHOD_SIGNATURE, FUNCTION_NAME, FUNCTION_RECEIVER_TYPE,
@@ -121,7 +119,7 @@ fn function_types(
     let received = TypeSlot {
         inline: FUNCTION_RECEIVER_TYPE,
         indexed: FUNCTION_RECEIVER_TYPE_ID,
-        role: RECEIVER_ROLE,
+        role: Role::Receiver,
     };
     let next = declared_type(
         msg, base, received, payload, d2, ends, notes, tables, state, sheet, text,
@@ -130,7 +128,7 @@ fn function_types(
     let returned = TypeSlot {
         inline: FUNCTION_RETURN_TYPE,
         indexed: FUNCTION_RETURN_TYPE_ID,
-        role: RETURN_ROLE,
+        role: Role::Return,
     };
     declared_type(
         msg, base, returned, payload, d2, ends, notes, tables, next, sheet, text,

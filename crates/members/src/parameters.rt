@@ -10,7 +10,7 @@ ghost use Rattle.schema.specs.told.MembersTold.{Affords, parameter_cost};
 ghost use Rattle.members.specs.told.ParametersTold.{ParameterTold, ParametersAtTold, ParametersInTold};
 
 use crate::pairs::{TypePair, type_pair};
-use declaration_rows::{PARAMETER_ROLE, VARARG_ROLE, put_parameter};
+use declaration_rows::{Role, put_parameter};
 use fields::{
     OMITTED_SMALL_FLAGS, VALUE_PARAMETER_FLAGS, VALUE_PARAMETER_NAME, VALUE_PARAMETER_TYPE,
     VALUE_PARAMETER_TYPE_ID, VALUE_PARAMETER_VARARG_ELEMENT_TYPE,
@@ -61,12 +61,12 @@ fn parameter_in(
         first: TypeSlot {
             inline: VALUE_PARAMETER_TYPE,
             indexed: VALUE_PARAMETER_TYPE_ID,
-            role: PARAMETER_ROLE,
+            role: Role::Parameter,
         },
         second: TypeSlot {
             inline: VALUE_PARAMETER_VARARG_ELEMENT_TYPE,
             indexed: VALUE_PARAMETER_VARARG_ELEMENT_TYPE_ID,
-            role: VARARG_ROLE,
+            role: Role::VarargElement,
         },
     };
     type_pair(

@@ -10,7 +10,7 @@ ghost use Rattle.schema.specs.told.MembersTold.{Affords, member_cost, MemberTold
 ghost use Rattle.members.specs.told.PropertiesTold.{PropertyRecordTold, NamedPropertyTold};
 
 use crate::signatures::{PropertyNames, check_accessors, names_of, property_signatures};
-use declaration_rows::{PropertyFlags, RECEIVER_ROLE, RETURN_ROLE, put_property};
+use declaration_rows::{PropertyFlags, Role, put_property};
 use fields::{
     OMITTED_FLAGS, OMITTED_SMALL_FLAGS, PROPERTY_FLAGS, PROPERTY_GETTER_FLAGS, PROPERTY_NAME,
     PROPERTY_RECEIVER_TYPE, PROPERTY_RECEIVER_TYPE_ID, PROPERTY_RETURN_TYPE,
@@ -96,7 +96,7 @@ fn named_property(
     let receiver = TypeSlot {
         inline: PROPERTY_RECEIVER_TYPE,
         indexed: PROPERTY_RECEIVER_TYPE_ID,
-        role: RECEIVER_ROLE,
+        role: Role::Receiver,
     };
     let next = declared_type(
         msg, base, receiver, payload, d2, ends, notes, tables, written, sheet, text,
@@ -105,7 +105,7 @@ fn named_property(
     let returned = TypeSlot {
         inline: PROPERTY_RETURN_TYPE,
         indexed: PROPERTY_RETURN_TYPE_ID,
-        role: RETURN_ROLE,
+        role: Role::Return,
     };
     let last = declared_type(
         msg, base, returned, payload, d2, ends, notes, tables, next, sheet, text,

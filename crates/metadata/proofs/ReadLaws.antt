@@ -36,6 +36,7 @@ use Rattle.declaration_rows.proofs.WrittenLaws.{head-room, head_small}
 use Rattle.declarations.specs.Payload.{declaration_rows}
 use Rattle.declarations.proofs.BodyLaws.{no_name}
 use Rattle.inputs.specs.Inputs.{Input, kind_of, carries_declarations, string_limit, supported_major, major, later_fault, fault_of, input}
+use Rattle.inputs.specs.told.KindTold.{kind_number}
 use Rattle.inputs.specs.told.OutcomesTold.{fault_cause, fault_told, told}
 use Rattle.inputs.specs.Outcomes as definition
 use Rattle.inputs.specs.declared.Fault.{Fault}
@@ -56,26 +57,6 @@ use Rattle.passes.specs.declared.Asked.{Asked}
 use Rattle.passes.specs.declared.Reply.{Reply}
 use Rattle.metadata.specs.Read.{reading, read}
 use Rattle.passes.proofs.TaskLaws.{reply_room}
-
-kind_bounds : (k : ℤ) → (1 ≤ kind_of k) × (kind_of k ≤ 5)
-kind_bounds (pos m) =
-    if_ind (λ (n : ℕ). (1 ≤ n) × (n ≤ 5)) (leb 1 m && leb m 5)
-    (λ t. (leb-true 1 m (and_left (leb 1 m) (leb m 5) t), leb-true m 5 (and_right (leb 1 m) (leb m 5) t)))
-    (λ t. (omega arith, omega arith))
-kind_bounds (negsuc m) = (omega arith, omega arith)
-
-pub kind-within : {r : ℕ} (k : ℤ) → r ≡ kind_of k → (1 ≤ r) × (r ≤ 5)
-kind-within k e = rw e (kind_bounds k)
-
-pub carries : (kind : ℕ) → 1 ≤ kind → kind ≤ 5 → (kind ≡ 3 → ⊥) → (kind ≡ 4 → ⊥) → carries_declarations kind ≡ true
-carries kind h i f g = go (eqb kind 1) refl (eqb kind 2) refl
-  where
-    go : (a : Bool) → eqb kind 1 ≡ a → (b : Bool) → eqb kind 2 ≡ b → (eqb kind 1 || (eqb kind 2 || eqb kind 5)) ≡ true
-    go true p b q = rw p
-    go false p true q = rw (p, q)
-    go false p false q =
-        let n : kind ≡ 5 = omega (arith, borrow.Author.Tests.eqb-false kind 1 p, borrow.Author.Tests.eqb-false kind 2 q, f, g) in
-        rw (p, q, eq-eqb kind 5 n)
 
 -- of a choice that gives none
 if_none_lem : (t : Bool) (c : Cause) (x : Option Cause) → (if t then some c else x) ≡ none → (t ≡ false) × (x ≡ none)
@@ -132,23 +113,23 @@ module _ (k : ℤ) (mv : List ℤ) (d1 d2 ends : List ℕ) (f : Result (Unit {0}
 
 -- By the kind.
 module _ (asked : Asked) (d1 d2 ends : List ℕ) (r : Result Reply Refusal) (S S' T T' : List ℕ) where
-  pub kind-alone : (n : ℕ) → carries_declarations n ≡ false → asked.kind ≡ n → TaskTold asked nothing_read r S S' T T'
-      → TaskTold asked (reading_by asked.kind d1 d2 ends) r S S' T T'
-  kind-alone n c e h =
-      let nothing : reading_by asked.kind d1 d2 ends ≡ nothing_read = rw (ap carries_declarations e ∙ c) in
+  pub kind-alone : carries_declarations (kind_number asked.kind) ≡ false → TaskTold asked nothing_read r S S' T T'
+      → TaskTold asked (reading_by (kind_number asked.kind) d1 d2 ends) r S S' T T'
+  kind-alone c h =
+      let nothing : reading_by (kind_number asked.kind) d1 d2 ends ≡ nothing_read = rw c in
       subst (λ (x : Res (Declarations × ℕ)). TaskTold asked x r S S' T T') (sym nothing) h
 
-  pub kind-carries : 1 ≤ asked.kind → asked.kind ≤ 5 → (asked.kind ≡ 3 → ⊥) → (asked.kind ≡ 4 → ⊥)
-      → TaskTold asked (reading_of asked.kind d1 d2 ends) r S S' T T' → TaskTold asked (reading_by asked.kind d1 d2 ends) r S S' T T'
-  kind-carries a b f g h =
-      let body : reading_by asked.kind d1 d2 ends ≡ reading_of asked.kind d1 d2 ends = rw (carries asked.kind a b f g) in
+  pub kind-carries : carries_declarations (kind_number asked.kind) ≡ true → TaskTold asked (reading_of (kind_number asked.kind) d1 d2 ends) r S S' T T'
+      → TaskTold asked (reading_by (kind_number asked.kind) d1 d2 ends) r S S' T T'
+  kind-carries c h =
+      let body : reading_by (kind_number asked.kind) d1 d2 ends ≡ reading_of (kind_number asked.kind) d1 d2 ends = rw c in
       subst (λ (x : Res (Declarations × ℕ)). TaskTold asked x r S S' T T') (sym body) h
 
 -- Where a room is asked for, it is told whatever areas are lent.
 pub room_anywhere : (asked : Asked) (x : Res (Declarations × ℕ)) (r : Result Reply Refusal) (A A' B B' S T : List ℕ) → asked.task ≡ task.Room
     → TaskTold asked x r A A' B B' → TaskTold asked x r S S T T
 room_anywhere asked x r A A' B B' S T e h =
-    reply_room asked x S T r e (subst (λ (t : Task). TaskToldBy t asked.kind x r A A' B B') e h).0
+    reply_room asked x S T r e (subst (λ (t : Task). TaskToldBy t (kind_number asked.kind) x r A A' B B') e h).0
 
 -- The head alone, with the count of no aliases.
 abbrev alone : ℕ → List Row

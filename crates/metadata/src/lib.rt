@@ -6,10 +6,11 @@
 ghost use Rattle.std.specs.Prelude.{◌≡◌, ◌+◌, ◌*◌, ◌^◌, ◌≤◌, length};
 ghost use Rattle.lookup.specs.told.Strings.{codes_from};
 ghost use Rattle.inputs.specs.Inputs.{input, kind_of};
+ghost use Rattle.inputs.specs.told.KindTold.{kind_number};
 ghost use Rattle.inputs.specs.told.OutcomesTold.{told};
 ghost use Rattle.passes.specs.Answered.{nothing_read, answered};
 ghost use Rattle.passes.specs.told.AreaTold.{InLimits};
-ghost use Rattle.passes.specs.told.TaskTold.{RoomTold, TaskTold};
+ghost use Rattle.passes.specs.told.TaskTold.{RoomTold, TaskToldBy, TaskTold};
 ghost use Rattle.passes.specs.told.PassTold.{reading_of, reading_by};
 ghost use Rattle.metadata.specs.Read.{reading, read};
 ghost use Rattle.metadata.specs.told.ReadTold.{told_by};
@@ -17,7 +18,7 @@ ghost use Rattle.metadata.specs.told.ReadTold.{told_by};
 use declaration_rows::{put_aliases, put_count, put_head, put_head_counts};
 use fields::OMITTED_FLAGS;
 use inputs::outcome::{Refusal, Sizes};
-use inputs::{fault_of, kind_of};
+use inputs::{Kind, fault_of, kind_of};
 use names::name::absent;
 use passes::{Asked, PassError, Reply, Task, decode_in, start, without_lists};
 use sheet::State;
@@ -37,8 +38,8 @@ const HEAD_ALONE: Sizes = Sizes {
 };
 
 // Metadata kinds 3 and 4: the head alone, and that there are no aliases.
-fn head_alone(kind: u8, sheet: &mut [u8], text: &mut [u8]) -> Result<Sizes, Refusal>
-    ensures { answered sheet.old text.old kind nothing_read ≡ told result sheet.new text.new }
+fn head_alone(kind: Kind, sheet: &mut [u8], text: &mut [u8]) -> Result<Sizes, Refusal>
+    ensures { answered sheet.old text.old (kind_number kind) nothing_read ≡ told result sheet.new text.new }
 {
     if sheet.len() < HEAD_ALONE.sheet {
         return Err(Refusal::SheetTooLong);
@@ -48,23 +49,20 @@ fn head_alone(kind: u8, sheet: &mut [u8], text: &mut [u8]) -> Result<Sizes, Refu
     let head = put_head(
         &payload,
         &d2,
-        kind,
+        kind.number(),
         absent(),
         OMITTED_FLAGS,
         start(),
         sheet,
         text,
     );
-    let place = head.sheet;
-    let past = place + 6;
     let after = State {
-        sheet: past,
-        text: head.text,
-        types: head.types,
+        sheet: head.sheet + 6,
+        ..head
     };
     let begun = put_aliases(after, sheet);
     put_count(sheet, begun.sheet, 0);
-    put_head_counts(sheet, place, 0, 0, 0);
+    put_head_counts(sheet, head.sheet, 0, 0, 0);
     Ok(HEAD_ALONE)
 }
 
@@ -88,7 +86,7 @@ fn in_frame_of<const BYTES: usize, const NOTES: usize, const SHEET: usize, const
     text: &mut [u8],
 ) -> Result<Reply, Refusal>
     requires { InLimits d1.now d2.now ends.now × (length d1.now ≤ BYTES) × (3 * BYTES ≤ 2 * codes_from NOTES) × (BYTES + NOTES + SHEET + TEXT ≤ 2 ^ 20) }
-    ensures { TaskTold asked (reading_of asked.kind d1.now d2.now ends.now) result sheet.old sheet.new text.old text.new }
+    ensures { TaskTold asked (reading_of (kind_number asked.kind) d1.now d2.now ends.now) result sheet.old sheet.new text.old text.new }
 {
     let mut bytes = [0u8; BYTES];
     let mut notes = [0u64; NOTES];
@@ -123,7 +121,7 @@ fn in_longer(
     text: &mut [u8],
 ) -> Result<Reply, Refusal>
     requires { InLimits d1.now d2.now ends.now }
-    ensures { TaskTold asked (reading_of asked.kind d1.now d2.now ends.now) result sheet.old sheet.new text.old text.new }
+    ensures { TaskTold asked (reading_of (kind_number asked.kind) d1.now d2.now ends.now) result sheet.old sheet.new text.old text.new }
 {
     if d1.len() <= 8192 {
         return in_frame_of::<8192, 14368, 14336, 45056>(asked, d1, d2, ends, sheet, text);
@@ -144,7 +142,7 @@ fn in_frame(
     text: &mut [u8],
 ) -> Result<Reply, Refusal>
     requires { InLimits d1.now d2.now ends.now }
-    ensures { TaskTold asked (reading_of asked.kind d1.now d2.now ends.now) result sheet.old sheet.new text.old text.new }
+    ensures { TaskTold asked (reading_of (kind_number asked.kind) d1.now d2.now ends.now) result sheet.old sheet.new text.old text.new }
 {
     if d1.len() <= 256 {
         return in_frame_of::<256, 560, 512, 1024>(asked, d1, d2, ends, sheet, text);
@@ -171,13 +169,10 @@ fn of_kind(
     sheet: &mut [u8],
     text: &mut [u8],
 ) -> Result<Reply, Refusal>
-    requires { InLimits d1.now d2.now ends.now × (1 ≤ asked.kind) × (asked.kind ≤ 5) }
-    ensures { TaskTold asked (reading_by asked.kind d1.now d2.now ends.now) result sheet.old sheet.new text.old text.new }
+    requires { InLimits d1.now d2.now ends.now }
+    ensures { TaskTold asked (reading_by (kind_number asked.kind) d1.now d2.now ends.now) result sheet.old sheet.new text.old text.new }
 {
-    if asked.kind == 3 {
-        return alone(asked, sheet, text);
-    }
-    if asked.kind == 4 {
+    if !asked.kind.carries_declarations() {
         return alone(asked, sheet, text);
     }
     in_frame(asked, d1, d2, ends, sheet, text)
@@ -194,7 +189,7 @@ fn reply_to(
     sheet: &mut [u8],
     text: &mut [u8],
 ) -> Result<Reply, Refusal>
-    ensures { TaskTold (record { task = task; kind = kind_of k }) (reading (input k version d1.now d2.now ends.now)) result sheet.old sheet.new text.old text.new }
+    ensures { TaskToldBy task (kind_of k) (reading (input k version d1.now d2.now ends.now)) result sheet.old sheet.new text.old text.new }
 {
     fault_of(d1, d2, ends, version)?;
     let asked = Asked {

@@ -6,6 +6,7 @@ use mathlib.Core.Option.{some}
 use Prim.Native.Nat.{ℕ, ◌≤◌}
 use native.Mathlib.Omega.{arith}
 use lib.ListN.{length, take}
+use Rattle.inputs.specs.told.KindTold.{kind_number}
 use Rattle.foundation.specs.Results as Results
 use Rattle.foundation.specs.Results.{Res, ok, refused}
 use Rattle.foundation.proofs.ResultLaws.{gives-ok}
@@ -52,13 +53,13 @@ module _ (asked : Asked) (d1 d2 ends before after : List ℕ) (answer : Decoded)
     pub bytes-kept : InLimits (take n after) d2 ends
     bytes-kept = record { bytes-short = omega (arith, bytes-few, k.bytes-short); d2-short = k.d2-short; fit = k.fit }
 
-    by-bytes : (r : Result Reply Refusal) (S S' T T' : List ℕ) → TaskTold asked (payload asked.kind (strings d2 ends) (take n after)) r S S' T T'
-        → TaskTold asked (reading_of asked.kind d1 d2 ends) r S S' T T'
-    by-bytes r S S' T T' h = subst (λ (x : Res (List ℕ)). TaskTold asked (Results.◌>>=◌ x (payload asked.kind (strings d2 ends))) r S S' T T') (sym bytes-are) h
+    by-bytes : (r : Result Reply Refusal) (S S' T T' : List ℕ) → TaskTold asked (payload (kind_number asked.kind) (strings d2 ends) (take n after)) r S S' T T'
+        → TaskTold asked (reading_of (kind_number asked.kind) d1 d2 ends) r S S' T T'
+    by-bytes r S S' T T' h = subst (λ (x : Res (List ℕ)). TaskTold asked (Results.◌>>=◌ x (payload (kind_number asked.kind) (strings d2 ends))) r S S' T T') (sym bytes-are) h
 
     pub bytes_read_lem : (notes : List ℕ) (y : Result Reply PassError) (S S' T T' : List ℕ)
-        → PassedTold asked (payload asked.kind (strings d2 ends) (take n after)) (LentRoom (take n after) notes) y S S' T T'
-        → PassedTold asked (reading_of asked.kind d1 d2 ends) (FrameRoom d1 after notes) y S S' T T'
+        → PassedTold asked (payload (kind_number asked.kind) (strings d2 ends) (take n after)) (LentRoom (take n after) notes) y S S' T T'
+        → PassedTold asked (reading_of (kind_number asked.kind) d1 d2 ends) (FrameRoom d1 after notes) y S S' T T'
     bytes_read_lem notes (Ok r) S S' T T' h = by-bytes (Ok r) S S' T T' h
     bytes_read_lem notes (Err (first.Refused refusal)) S S' T T' h = by-bytes (Err refusal) S S' T T' h
     bytes_read_lem notes (Err first.NoRoom) S S' T T' (h, p, q) = (
@@ -71,14 +72,14 @@ module _ (asked : Asked) (d1 d2 ends before after : List ℕ) (answer : Decoded)
     )
 
   decode-refused : (error : DecodeError) → answer ≡ Err error → (refusal : Refusal) → encoding.tells (Err error) after ≡ some (refused (refusal_cause refusal) 0)
-      → refusal_place refusal ≡ 0 → (S T : List ℕ) → TaskTold asked (reading_of asked.kind d1 d2 ends) (Err refusal) S S T T
+      → refusal_place refusal ≡ 0 → (S T : List ℕ) → TaskTold asked (reading_of (kind_number asked.kind) d1 d2 ends) (Err refusal) S S T T
   decode-refused error e refusal f p S T =
-      reply_refused asked _ refusal S T
-      (ap (λ (x : Res (List ℕ)). Results.◌>>=◌ x (payload asked.kind (strings d2 ends))) (arm_is (Err error) e f) ∙ ap (refused (refusal_cause refusal)) (sym p))
+      reply_refused asked.task (kind_number asked.kind) _ refusal S T
+      (ap (λ (x : Res (List ℕ)). Results.◌>>=◌ x (payload (kind_number asked.kind) (strings d2 ends))) (arm_is (Err error) e f) ∙ ap (refused (refusal_cause refusal)) (sym p))
 
   -- why it isn't decoded is passed on
   pub decode-stops : (error : DecodeError) → answer ≡ Err error → length after ≡ length before → (notes S T : List ℕ) → (e : PassError) → e ≡ of_decode error
-      → PassedTold asked (reading_of asked.kind d1 d2 ends) (FrameRoom d1 after notes) (Err e) S S T T
+      → PassedTold asked (reading_of (kind_number asked.kind) d1 d2 ends) (FrameRoom d1 after notes) (Err e) S S T T
   decode-stops decode.TooLong g l notes S T e f = rw f (decode-refused decode.TooLong g (why.Fault fault.D1TooLong) refl refl S T)
   decode-stops decode.Empty g l notes S T e f = rw f (decode-refused decode.Empty g why.EmptyPayload refl refl S T)
   decode-stops (decode.NotAByte unit) g l notes S T e f = rw f (decode-refused (decode.NotAByte unit) g (why.NotAByte unit) refl refl S T)
@@ -92,7 +93,7 @@ opened-stops bytes d2 ends notes index.NoRoom t e f kind S T = rw f t
 opened-stops bytes d2 ends notes (index.Wire error) t e f kind S T = rw f (t kind (strings d2 ends))
 
 -- Where the first pass stops.
-pub first-stops : (asked : Asked) (bytes d2 ends notes : List ℕ) (e : PassError) (SS TT : List ℕ) → FirstTold asked.kind bytes d2 ends notes (Err e) SS TT
-    → (S T : List ℕ) → PassedTold asked (payload asked.kind (strings d2 ends) bytes) (LentRoom bytes notes) (Err e) S S T T
-first-stops asked bytes d2 ends notes (first.Refused refusal) SS TT t S T = reply_refused asked _ refusal S T t
+pub first-stops : (asked : Asked) (bytes d2 ends notes : List ℕ) (e : PassError) (SS TT : List ℕ) → FirstTold (kind_number asked.kind) bytes d2 ends notes (Err e) SS TT
+    → (S T : List ℕ) → PassedTold asked (payload (kind_number asked.kind) (strings d2 ends) bytes) (LentRoom bytes notes) (Err e) S S T T
+first-stops asked bytes d2 ends notes (first.Refused refusal) SS TT t S T = reply_refused asked.task (kind_number asked.kind) _ refusal S T t
 first-stops asked bytes d2 ends notes first.NoRoom SS TT t S T = (t, refl, refl)

@@ -4,6 +4,7 @@ use mathlib.Core.Path.{◌≡◌, refl, ap, sym, subst, ◌∙◌}
 use mathlib.Core.List.{List}
 use Prim.Native.Nat.{ℕ}
 use native.Mathlib.Omega.{arith}
+use Rattle.inputs.specs.told.KindTold.{kind_number}
 use Rattle.foundation.specs.Results.{Res, refused}
 use Rattle.sheet.specs.declared.State.{State}
 use Rattle.declaration_rows.specs.Declarations.{Declarations}
@@ -35,25 +36,25 @@ pub lists_none : {s : State} → s ≡ start
 lists_none e = rw e
 
 -- A refusal tells the same for every task, and leaves both areas as they are.
-pub reply_refused : (asked : Asked) (x : Res (Declarations × ℕ)) (refusal : Refusal) (S T : List ℕ) → x ≡ refused (refusal_cause refusal) (refusal_place refusal)
-    → TaskTold asked x (Err refusal) S S T T
-reply_refused asked x refusal S T e =
-    subst (λ (y : Res (Declarations × ℕ)). TaskTold asked y (Err refusal) S S T T) (sym e) (by-task asked.task)
+pub reply_refused : (t : Task) (kind : ℕ) (x : Res (Declarations × ℕ)) (refusal : Refusal) (S T : List ℕ) → x ≡ refused (refusal_cause refusal) (refusal_place refusal)
+    → TaskToldBy t kind x (Err refusal) S S T T
+reply_refused t kind x refusal S T e =
+    subst (λ (y : Res (Declarations × ℕ)). TaskToldBy t kind y (Err refusal) S S T T) (sym e) (by-task t)
   where
-    by-task : (t : Task) → TaskToldBy t asked.kind (refused (refusal_cause refusal) (refusal_place refusal)) (Err refusal) S S T T
+    by-task : (t : Task) → TaskToldBy t kind (refused (refusal_cause refusal) (refusal_place refusal)) (Err refusal) S S T T
     by-task task.Read = refl
     by-task task.Room = (λ sheet text. refl, refl, refl)
 
 -- An answer is what the task Read asks for,
 pub reply_answered : (asked : Asked) (x : Res (Declarations × ℕ)) (S S' T T' : List ℕ) (r : Result Reply Refusal) {o : Result Sizes Refusal} → asked.task ≡ task.Read
-    → answered S T asked.kind x ≡ told o S' T' → sizes_of r ≡ o → TaskTold asked x r S S' T T'
+    → answered S T (kind_number asked.kind) x ≡ told o S' T' → sizes_of r ≡ o → TaskTold asked x r S S' T T'
 reply_answered asked x S S' T T' r e h f =
-    subst (λ (t : Task). TaskToldBy t asked.kind x r S S' T T') (sym e) (h ∙ ap (λ (p : Result Sizes Refusal). told p S' T') (sym f))
+    subst (λ (t : Task). TaskToldBy t (kind_number asked.kind) x r S S' T T') (sym e) (h ∙ ap (λ (p : Result Sizes Refusal). told p S' T') (sym f))
 
 -- and the room what the task Room does.
-pub reply_room : (asked : Asked) (x : Res (Declarations × ℕ)) (S T : List ℕ) (r : Result Reply Refusal) → asked.task ≡ task.Room → RoomTold asked.kind x r
+pub reply_room : (asked : Asked) (x : Res (Declarations × ℕ)) (S T : List ℕ) (r : Result Reply Refusal) → asked.task ≡ task.Room → RoomTold (kind_number asked.kind) x r
     → TaskTold asked x r S S T T
-reply_room asked x S T r e h = subst (λ (t : Task). TaskToldBy t asked.kind x r S S T T) (sym e) (h, refl, refl)
+reply_room asked x S T r e h = subst (λ (t : Task). TaskToldBy t (kind_number asked.kind) x r S S T T) (sym e) (h, refl, refl)
 
 -- What was measured, told.
 pub measured_room : (kind : ℕ) (bytes d2 ends notes : List ℕ) (x : Measured) (SS TT : List ℕ) → MeasuredAt kind bytes d2 ends notes x SS TT → (r : Reply)

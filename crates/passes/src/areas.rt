@@ -2,11 +2,13 @@
 // if these hold the whole, else walked again. What the functions tell: specs/told/AreaTold.antt.
 ghost use Rattle.std.specs.Prelude.{◌≡◌, ◌≤◌, length};
 ghost use Rattle.inputs.specs.told.OutcomesTold.{told};
+ghost use Rattle.inputs.specs.told.KindTold.{kind_number};
 ghost use Rattle.declarations.specs.Payload.{payload};
 ghost use Rattle.passes.specs.Answered.{answered};
 ghost use Rattle.passes.specs.told.AreaTold.{strings, InLimits, last_of, MeasuredAt, WrittenOut};
 
 use crate::{Measured, sizes_at, walk};
+use inputs::Kind;
 use inputs::outcome::{Refusal, Sizes};
 use sheet::put_all;
 
@@ -15,7 +17,7 @@ const TEXT_LIMIT: usize = 65534;
 
 // What was measured fits both areas: copied from the scratch areas if these hold the whole, else walked again.
 fn write_out(
-    kind: u8,
+    kind: Kind,
     measured: Measured,
     bytes: &[u8],
     d2: &[u16],
@@ -26,8 +28,8 @@ fn write_out(
     sheet: &mut [u8],
     text: &mut [u8],
 )
-    requires { InLimits bytes.now d2.now ends.now × ((last_of measured).sheet ≤ length sheet.old) × ((last_of measured).text ≤ length text.old) × MeasuredAt kind bytes.now d2.now ends.now notes.now measured scratch_sheet.now scratch_text.now }
-    ensures { WrittenOut kind (payload kind (strings d2.now ends.now) bytes.now) sheet.old sheet.new text.old text.new }
+    requires { InLimits bytes.now d2.now ends.now × ((last_of measured).sheet ≤ length sheet.old) × ((last_of measured).text ≤ length text.old) × MeasuredAt (kind_number kind) bytes.now d2.now ends.now notes.now measured scratch_sheet.now scratch_text.now }
+    ensures { WrittenOut (kind_number kind) (payload (kind_number kind) (strings d2.now ends.now) bytes.now) sheet.old sheet.new text.old text.new }
 {
     let end = measured.sections.aliases.state;
     let size = end.sheet;
@@ -52,7 +54,7 @@ fn write_out(
 
 // 11, 12, or both areas written.
 pub(crate) fn write_in(
-    kind: u8,
+    kind: Kind,
     measured: Measured,
     bytes: &[u8],
     d2: &[u16],
@@ -63,8 +65,8 @@ pub(crate) fn write_in(
     sheet: &mut [u8],
     text: &mut [u8],
 ) -> Result<Sizes, Refusal>
-    requires { InLimits bytes.now d2.now ends.now × MeasuredAt kind bytes.now d2.now ends.now notes.now measured scratch_sheet.now scratch_text.now }
-    ensures { answered sheet.old text.old kind (payload kind (strings d2.now ends.now) bytes.now) ≡ told result sheet.new text.new }
+    requires { InLimits bytes.now d2.now ends.now × MeasuredAt (kind_number kind) bytes.now d2.now ends.now notes.now measured scratch_sheet.now scratch_text.now }
+    ensures { answered sheet.old text.old (kind_number kind) (payload (kind_number kind) (strings d2.now ends.now) bytes.now) ≡ told result sheet.new text.new }
 {
     let end = measured.sections.aliases.state;
     let size = end.sheet;

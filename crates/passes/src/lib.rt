@@ -5,6 +5,7 @@
 
 ghost use Rattle.std.specs.Prelude.{◌≡◌, ◌-◌, ◌≤◌};
 ghost use Rattle.schema.specs.Reading.{allowance};
+ghost use Rattle.inputs.specs.told.KindTold.{kind_number};
 ghost use Rattle.declarations.specs.Payload.{payload};
 ghost use Rattle.declarations.specs.told.PayloadTold.{LentAt, LentRoom};
 ghost use Rattle.declarations.specs.told.BodyTold.{BodyTold};
@@ -19,8 +20,8 @@ use areas::write_in;
 use declarations::body::{Sections, body_in};
 use declarations::payload::open_lent;
 use encoding::{DecodeError, decode};
-use inputs::Fault;
 use inputs::outcome::{Refusal, Sizes};
+use inputs::{Fault, Kind};
 use names::records::IndexError;
 use schema::{ALLOWANCE, Section, Stop, Tables};
 use sheet::State;
@@ -93,7 +94,7 @@ pub enum Task {
 #[derive(Clone, Copy)]
 pub struct Asked {
     pub task: Task,
-    pub kind: u8,
+    pub kind: Kind,
 }
 
 // Both lengths and the types; and, where a room is told, how far both areas reach after each list and how many it has.
@@ -161,7 +162,7 @@ fn told_room(measured: Measured) -> Reply
 
 // The body of the decoded bytes, from the start of two areas.
 fn walk(
-    kind: u8,
+    kind: Kind,
     at: usize,
     tables: Tables,
     bytes: &[u8],
@@ -172,7 +173,7 @@ fn walk(
     text: &mut [u8],
 ) -> Result<Sections, Stop>
     requires { InLimits bytes.now d2.now ends.now × LentAt bytes.now d2.now ends.now notes.now at tables }
-    ensures { BodyTold kind (payload kind (strings d2.now ends.now) bytes.now) definition.start result sheet.old sheet.new text.old text.new }
+    ensures { BodyTold (kind_number kind) (payload (kind_number kind) (strings d2.now ends.now) bytes.now) definition.start result sheet.old sheet.new text.old text.new }
 {
     body_in(
         kind,
@@ -191,7 +192,7 @@ fn walk(
 
 // Refusals 7 to 10, both lengths and the types, with no area touched but the scratch.
 fn measure(
-    kind: u8,
+    kind: Kind,
     bytes: &[u8],
     d2: &[u16],
     ends: &[u32],
@@ -200,7 +201,7 @@ fn measure(
     scratch_text: &mut [u8],
 ) -> Result<Measured, PassError>
     requires { InLimits bytes.now d2.now ends.now }
-    ensures { FirstTold kind bytes.now d2.now ends.now notes.new result scratch_sheet.new scratch_text.new }
+    ensures { FirstTold (kind_number kind) bytes.now d2.now ends.now notes.new result scratch_sheet.new scratch_text.new }
 {
     let opened = open_lent(bytes, d2, ends, notes)?;
     let sections = walk(
@@ -234,7 +235,7 @@ fn read_in(
     text: &mut [u8],
 ) -> Result<Reply, PassError>
     requires { InLimits bytes.now d2.now ends.now }
-    ensures { PassedTold asked (payload asked.kind (strings d2.now ends.now) bytes.now) (LentRoom bytes.now notes.new) result sheet.old sheet.new text.old text.new }
+    ensures { PassedTold asked (payload (kind_number asked.kind) (strings d2.now ends.now) bytes.now) (LentRoom bytes.now notes.new) result sheet.old sheet.new text.old text.new }
 {
     let measured = measure(
         asked.kind,
@@ -280,7 +281,7 @@ pub fn decode_in(
     text: &mut [u8],
 ) -> Result<Reply, PassError>
     requires { InLimits d1.now d2.now ends.now }
-    ensures { PassedTold asked (reading_of asked.kind d1.now d2.now ends.now) (FrameRoom d1.now bytes.new notes.new) result sheet.old sheet.new text.old text.new }
+    ensures { PassedTold asked (reading_of (kind_number asked.kind) d1.now d2.now ends.now) (FrameRoom d1.now bytes.new notes.new) result sheet.old sheet.new text.old text.new }
 {
     let length = decode(d1, bytes)?;
     read_in(

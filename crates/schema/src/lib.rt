@@ -6,6 +6,7 @@ ghost use Rattle.std.specs.Prelude.{◌≡◌};
 ghost use Rattle.schema.specs.declared.Stop.TheVariants.{Wire};
 ghost use Rattle.schema.specs.told.SchemaTold.{entry_nullable};
 
+use declaration_rows::Role;
 use sheet::State;
 use wire::WireError;
 
@@ -50,7 +51,7 @@ impl Tables {
 pub struct TypeSlot {
     pub inline: u32,
     pub indexed: u32,
-    pub role: u8,
+    pub role: Role,
 }
 
 // Why a reading stops.

@@ -8,12 +8,13 @@ ghost use Rattle.names.specs.told.Name.{name_text};
 ghost use Rattle.sheet.specs.Rows.{row};
 ghost use Rattle.sheet.specs.told.Put.{PutRows};
 ghost use Rattle.declaration_rows.specs.Rows.{type_cells};
+ghost use Rattle.declaration_rows.specs.told.Written.{role_number};
 ghost use Rattle.schema.specs.told.ArgumentTold.{projection_number};
 ghost use Rattle.schema.specs.told.SchemaTold.{lent, Ready};
 ghost use Rattle.type_references.specs.told.ParseTold.{CountedTold, EnterTold, StarTold};
 
 use crate::arguments::count_kept;
-use declaration_rows::{ARGUMENT_ROLE, put_named};
+use declaration_rows::{Role, put_named};
 use fields::TYPE_ARGUMENT;
 use messages::check_messages;
 use names::name::{Name, absent};
@@ -27,7 +28,7 @@ use wire::WireError;
 // How a type's record shows it, apart from what its message says: its role and its projection.
 #[derive(Clone, Copy)]
 pub(crate) struct Shown {
-    pub role: u8,
+    pub role: Role,
     pub projection: Projection,
 }
 
@@ -35,7 +36,7 @@ pub(crate) struct Shown {
 #[derive(Clone, Copy)]
 pub(crate) struct TypePlace {
     pub left: usize,
-    pub role: u8,
+    pub role: Role,
     pub projection: Projection,
     pub nullable: bool,
 }
@@ -53,11 +54,11 @@ fn put_type(
     text: &mut [u8],
 ) -> State
     requires { Ready payload.now d2.now state × (1 ≤ state.types) }
-    ensures { PutRows (row 6 (type_cells shown.role nullable (name_text payload.now d2.now name) count (projection_number shown.projection)) ∷ []) (state.types - 1) state result sheet.old sheet.new text.old text.new }
+    ensures { PutRows (row 6 (type_cells (role_number shown.role) nullable (name_text payload.now d2.now name) count (projection_number shown.projection)) ∷ []) (state.types - 1) state result sheet.old sheet.new text.old text.new }
 {
     let at = state.sheet;
     put(sheet, at, 6);
-    put_number(sheet, at + 1, 1, shown.role as u64);
+    put_number(sheet, at + 1, 1, shown.role.number() as u64);
     put_bit(sheet, at + 2, nullable);
     let entered = State {
         sheet: at + 3,
@@ -112,7 +113,7 @@ pub(crate) fn enter_star(
         return Err(Stop::TooManyTypes);
     }
     let shown = Shown {
-        role: ARGUMENT_ROLE,
+        role: Role::Argument,
         projection: Projection::Star,
     };
     Ok(put_type(shown, false, payload, d2, absent(), 0, state, sheet, text))
@@ -133,7 +134,7 @@ pub(crate) fn enter_type(
     text: &mut [u8],
 ) -> Result<State, Stop>
     requires { Ready payload.now d2.now state × (base + length msg.now ≤ length payload.now) }
-    ensures { EnterTold (lent payload.now d2.now ends.now notes.now tables) msg.now base place.left place.role (projection_number place.projection) place.nullable state result sheet.old sheet.new text.old text.new }
+    ensures { EnterTold (lent payload.now d2.now ends.now notes.now tables) msg.now base place.left (role_number place.role) (projection_number place.projection) place.nullable state result sheet.old sheet.new text.old text.new }
 {
     if state.types == 0 {
         return Err(Stop::TooManyTypes);

@@ -4,6 +4,7 @@
 #![tactic(auto)]
 
 ghost use Rattle.std.specs.Prelude.{◌+◌, ◌≤◌, length};
+ghost use Rattle.declaration_rows.specs.told.Written.{role_number};
 ghost use Rattle.schema.specs.Reading.{allowance};
 ghost use Rattle.schema.specs.told.ArgumentTold.{projection_number};
 ghost use Rattle.schema.specs.told.SchemaTold.{lent, Ready};
@@ -12,6 +13,7 @@ ghost use Rattle.type_references.specs.told.ParseTold.{FitsEntry, FitsType};
 ghost use Rattle.type_references.specs.told.OptionalTold.{LookedTold, OptionalTold};
 
 use arguments::{TypeField, type_field};
+use declaration_rows::Role;
 use enter::{Shown, TypePlace};
 use fields::TYPE_ARGUMENT;
 use messages::next_body;
@@ -41,7 +43,7 @@ fn type_in_area<const N: usize>(
     text: &mut [u8],
 ) -> Result<State, Stop>
     requires { Ready payload.now d2.now state × (base + length msg.now ≤ length payload.now) × (place.left ≤ 64) × FitsType (lent payload.now d2.now ends.now notes.now tables) base msg.now state.types N × (N ≤ allowance) }
-    ensures { ParseTold (lent payload.now d2.now ends.now notes.now tables) msg.now base place.left place.role (projection_number place.projection) place.nullable state result sheet.old sheet.new text.old text.new }
+    ensures { ParseTold (lent payload.now d2.now ends.now notes.now tables) msg.now base place.left (role_number place.role) (projection_number place.projection) place.nullable state result sheet.old sheet.new text.old text.new }
 {
     let mut nest = [0u64; N];
     parse_at(
@@ -66,7 +68,7 @@ fn own_type(
     text: &mut [u8],
 ) -> Result<State, Stop>
     requires { Ready payload.now d2.now state × (base + length msg.now ≤ length payload.now) × (place.left ≤ 64) }
-    ensures { ParseTold (lent payload.now d2.now ends.now notes.now tables) msg.now base place.left place.role (projection_number place.projection) place.nullable state result sheet.old sheet.new text.old text.new }
+    ensures { ParseTold (lent payload.now d2.now ends.now notes.now tables) msg.now base place.left (role_number place.role) (projection_number place.projection) place.nullable state result sheet.old sheet.new text.old text.new }
 {
     let Some(_) = next_body(msg, base, TYPE_ARGUMENT, 0) else {
         return type_in_area::<0>(
@@ -86,7 +88,7 @@ fn own_type(
 // The type at an index of the type table, or nothing, in an area for so many that wait.
 fn entry_in_area<const N: usize>(
     index: u32,
-    role: u8,
+    role: Role,
     payload: &[u8],
     d2: &[u16],
     ends: &[u32],
@@ -97,7 +99,7 @@ fn entry_in_area<const N: usize>(
     text: &mut [u8],
 ) -> Result<State, Stop>
     requires { Ready payload.now d2.now state × FitsEntry (lent payload.now d2.now ends.now notes.now tables) index state.types N × (N ≤ allowance) }
-    ensures { LookedTold (lent payload.now d2.now ends.now notes.now tables) index role state result sheet.old sheet.new text.old text.new }
+    ensures { LookedTold (lent payload.now d2.now ends.now notes.now tables) index (role_number role) state result sheet.old sheet.new text.old text.new }
 {
     let mut nest = [0u64; N];
     let shown = Shown {
@@ -113,7 +115,7 @@ fn entry_in_area<const N: usize>(
 // The same in the area that is enough for it, as above.
 fn looked_up(
     index: u32,
-    role: u8,
+    role: Role,
     payload: &[u8],
     d2: &[u16],
     ends: &[u32],
@@ -124,7 +126,7 @@ fn looked_up(
     text: &mut [u8],
 ) -> Result<State, Stop>
     requires { Ready payload.now d2.now state }
-    ensures { LookedTold (lent payload.now d2.now ends.now notes.now tables) index role state result sheet.old sheet.new text.old text.new }
+    ensures { LookedTold (lent payload.now d2.now ends.now notes.now tables) index (role_number role) state result sheet.old sheet.new text.old text.new }
 {
     let Some(entry) = entry_at(payload, notes, tables, index) else {
         return Ok(state);
@@ -161,7 +163,7 @@ pub fn declared_type(
     text: &mut [u8],
 ) -> Result<State, Stop>
     requires { Ready payload.now d2.now state × (base + length msg.now ≤ length payload.now) }
-    ensures { OptionalTold (lent payload.now d2.now ends.now notes.now tables) msg.now base slot.inline slot.indexed slot.role state result sheet.old sheet.new text.old text.new }
+    ensures { OptionalTold (lent payload.now d2.now ends.now notes.now tables) msg.now base slot.inline slot.indexed (role_number slot.role) state result sheet.old sheet.new text.old text.new }
 {
     let Some(field) = type_field(msg, base, slot.inline, slot.indexed)? else {
         return Ok(state);

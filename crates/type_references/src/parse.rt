@@ -2,6 +2,7 @@
 // which a look-up takes one, and the bytes of the message (`remaining`). Types inside types are a loop, since an input can nest 2,048 of them:
 // what falls there is the bytes left. What is told: specs/told/ParseTold.antt and schema's specs/told/TypesTold.antt.
 ghost use Rattle.std.specs.Prelude.{◌≤◌, length};
+ghost use Rattle.declaration_rows.specs.told.Written.{role_number};
 ghost use Rattle.schema.specs.told.ArgumentTold.{projection_number};
 ghost use Rattle.schema.specs.told.SchemaTold.{lent, Ready};
 ghost use Rattle.schema.specs.told.TypesTold.{ParseTold, ResolveTold};
@@ -10,7 +11,7 @@ ghost use Rattle.type_references.specs.told.ParseTold.{ArgumentsTold, FitsEntry,
 use crate::arguments::argument_at;
 use crate::enter::{Shown, TypePlace, enter_star, enter_type};
 use crate::waiting::{push, waiting_at};
-use declaration_rows::ARGUMENT_ROLE;
+use declaration_rows::Role;
 use fields::TYPE_ARGUMENT;
 use messages::next_body;
 use schema::argument::ArgumentHead;
@@ -61,7 +62,7 @@ fn arguments_at(
             ArgumentHead::Inline { projection, body } => {
                 let place = TypePlace {
                     left: deep,
-                    role: ARGUMENT_ROLE,
+                    role: Role::Argument,
                     projection,
                     nullable: false,
                 };
@@ -86,7 +87,7 @@ fn arguments_at(
             }
             ArgumentHead::ByIndex { projection, index } => {
                 let shown = Shown {
-                    role: ARGUMENT_ROLE,
+                    role: Role::Argument,
                     projection,
                 };
                 let found = resolve_at(
@@ -127,7 +128,7 @@ pub(crate) fn parse_at(
     text: &mut [u8],
 ) -> Result<State, Stop>
     requires { ParseRoom (lent payload.now d2.now ends.now notes.now tables) msg.now nest.old base place.left state }
-    ensures { ParseTold (lent payload.now d2.now ends.now notes.now tables) msg.now base place.left place.role (projection_number place.projection) place.nullable state result sheet.old sheet.new text.old text.new }
+    ensures { ParseTold (lent payload.now d2.now ends.now notes.now tables) msg.now base place.left (role_number place.role) (projection_number place.projection) place.nullable state result sheet.old sheet.new text.old text.new }
 {
     let after = enter_type(
         msg, base, place, payload, d2, ends, notes, tables, state, sheet, text,
@@ -168,7 +169,7 @@ pub(crate) fn resolve_at(
     text: &mut [u8],
 ) -> Result<Option<State>, Stop>
     requires { Ready payload.now d2.now state × (left ≤ 64) × FitsEntry (lent payload.now d2.now ends.now notes.now tables) index state.types (length nest.old) }
-    ensures { ResolveTold (lent payload.now d2.now ends.now notes.now tables) index left shown.role (projection_number shown.projection) state result sheet.old sheet.new text.old text.new }
+    ensures { ResolveTold (lent payload.now d2.now ends.now notes.now tables) index left (role_number shown.role) (projection_number shown.projection) state result sheet.old sheet.new text.old text.new }
 {
     if left == 0 {
         return Ok(None);

@@ -1,6 +1,6 @@
-use Rattle.declaration_rows.specs.told.Written.{kind_told}
+use Rattle.declaration_rows.specs.told.Written.{record_number}
 use Rattle.declaration_rows.proofs.WrittenLaws.{kind-put}
 use Rattle.declaration_rows.proofs.put_kind.Goals as goal
 
 pub returns : goal.returns
-returns c = λ T. kind-put c.args.state c.args.sheet.now T (kind_told c.args.kind) (rw (← c.number_of.ensures) c.put.ensures)
+returns c = λ T. kind-put c.args.state c.args.sheet.now T (record_number c.args.kind) (rw (← c.number_of.ensures) c.put.ensures)

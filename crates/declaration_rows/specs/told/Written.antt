@@ -9,20 +9,31 @@ use Rattle.sheet.specs.Rows.{Cell, num, bit}
 use Rattle.sheet.specs.declared.State.{State}
 use Rattle.declaration_rows.specs.Declarations.{Signature, signed}
 use Rattle.declaration_rows.specs.declared.SignatureNames.{SignatureNames}
+use Rattle.declaration_rows.specs.declared.Role.{Role}
+use Rattle.declaration_rows.specs.declared.Role.TheVariants as role
 use Rattle.declaration_rows.specs.declared.Record.{Record}
 use Rattle.declaration_rows.specs.declared.Record.TheVariants as record_kind
-use Rattle.declaration_rows.specs.Rows.{name_cell, signature_cells}
+use Rattle.declaration_rows.specs.Rows.{name_cell, signature_cells, return_role, receiver_role, parameter_role, vararg_role, argument_role, underlying_role, expanded_role}
 
--- A kind of records by its number on the sheet.
-abbrev pub kind_told : Record → ℕ
-kind_told record_kind.Head = 1
-kind_told record_kind.Constructor = 2
-kind_told record_kind.Function = 3
-kind_told record_kind.Property = 4
-kind_told record_kind.Parameter = 5
-kind_told record_kind.Default = 7
-kind_told record_kind.Alias = 8
-kind_told record_kind.Aliases = 9
+-- A role, and a kind of records, by its number on the sheet.
+abbrev pub role_number : Role → ℕ
+role_number role.Return = return_role
+role_number role.Receiver = receiver_role
+role_number role.Parameter = parameter_role
+role_number role.VarargElement = vararg_role
+role_number role.Argument = argument_role
+role_number role.Underlying = underlying_role
+role_number role.Expanded = expanded_role
+
+abbrev pub record_number : Record → ℕ
+record_number record_kind.Head = 1
+record_number record_kind.Constructor = 2
+record_number record_kind.Function = 3
+record_number record_kind.Property = 4
+record_number record_kind.Parameter = 5
+record_number record_kind.Default = 7
+record_number record_kind.Alias = 8
+record_number record_kind.Aliases = 9
 
 -- The decoded bytes and d2 are of 32,768 at most, and the places that are counted stay within `most`.
 pub record RecordRoom (most : ℕ) (bytes units : List ℕ) (s : State) : Type 0 where

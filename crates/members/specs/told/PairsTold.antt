@@ -8,6 +8,7 @@ use Rattle.sheet.specs.Rows.{Row}
 use Rattle.sheet.specs.declared.State.{State}
 use Rattle.declaration_rows.specs.Declarations.{Ty}
 use Rattle.declaration_rows.specs.Rows.{type_rows}
+use Rattle.declaration_rows.specs.told.Written.{role_number}
 use Rattle.schema.specs.Reading.{Read, pure, ◌>>=◌, Scope}
 use Rattle.schema.specs.Types.{declared_type}
 use Rattle.schema.specs.told.SchemaTold.{Lent, Scoped, WalkedSpends, WalkedTold}
@@ -23,7 +24,7 @@ pair_in p c m =
     both (declared_type c p.first.inline p.first.indexed m) (declared_type c p.second.inline p.second.indexed m)
 
 abbrev pub pair_rows : TypePair → Option Ty × Option Ty → List Row
-pair_rows p ts = type_rows p.first.role ts.0 ++ type_rows p.second.role ts.1
+pair_rows p ts = type_rows (role_number p.first.role) ts.0 ++ type_rows (role_number p.second.role) ts.1
 
 pub record PairTold (p : TypePair) (e : Lent) (msg : List ℕ) (base : ℕ) (s : State) (r : Walked) (S S' T T' : List ℕ) : Type 0 where
   pub spends : WalkedSpends s r

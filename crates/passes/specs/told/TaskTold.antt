@@ -7,6 +7,7 @@ use Rattle.declaration_rows.specs.Declarations.{Declarations}
 use Rattle.schema.specs.Reading.{allowance}
 use Rattle.members.specs.Lists.{section_rows}
 use Rattle.members.specs.declared.list.Member.TheVariants as member
+use Rattle.inputs.specs.told.KindTold.{kind_number}
 use Rattle.inputs.specs.told.OutcomesTold.{told, RefusedAs}
 use Rattle.inputs.specs.declared.outcome.Sizes.{Sizes}
 use Rattle.inputs.specs.declared.outcome.Refusal.{Refusal}
@@ -68,4 +69,4 @@ TaskToldBy task.Read kind reading r S S' T T' = answered S T kind reading ≡ to
 TaskToldBy task.Room kind reading r S S' T T' = RoomTold kind reading r × (S' ≡ S) × (T' ≡ T)
 
 abbrev pub TaskTold : Asked → Res (Declarations × ℕ) → Result Reply Refusal → (S S' T T' : List ℕ) → Type 0
-TaskTold asked = TaskToldBy asked.task asked.kind
+TaskTold asked = TaskToldBy asked.task (kind_number asked.kind)

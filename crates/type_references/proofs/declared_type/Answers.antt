@@ -1,4 +1,5 @@
 use mathlib.Core.Path.{refl, ap, ◌∙◌}
+use Rattle.declaration_rows.specs.told.Written.{role_number}
 use Rattle.schema.proofs.AnswerLaws.{handed_on}
 use Rattle.type_references.proofs.ArgumentLaws.{inline-field, refused-field, absent-field, absent-index, by-index-field, by-index-index}
 use native.Mathlib.Omega.{arith}
@@ -30,13 +31,13 @@ pub own_type-requires : goal.own_type-requires
 own_type-requires c = let h = inline_in c.args.base c.args.msg.now c.args.slot.inline (inline-field c.type_field.ensures (c.in_ok-field.was ∙ ap Ok (c.in-Some.is ∙ ap Some c.in-Inline.is))) refl in (c.requires.0, part-inside c.args.msg.now c.args.base c.in-Inline.body.start c.in-Inline.body.end c.requires.1 h.0 h.1, omega arith)
 
 pub returns-in-Inline : goal.returns-in-Inline
-returns-in-Inline c = optional (picked_of c.own_type.result) (declared (type-inline (lent c.args.payload.now c.args.d2.now c.args.ends.now c.args.notes.now c.args.tables) c.args.msg.now c.args.base c.args.slot.inline c.args.slot.indexed 64 c.args.slot.role c.args.state (inline-field c.type_field.ensures (c.in_ok-field.was ∙ ap Ok (c.in-Some.is ∙ ap Some c.in-Inline.is))) refl c.own_type.ensures refl)) (walked_optional c.args.state c.own_type.result)
+returns-in-Inline c = optional (picked_of c.own_type.result) (declared (type-inline (lent c.args.payload.now c.args.d2.now c.args.ends.now c.args.notes.now c.args.tables) c.args.msg.now c.args.base c.args.slot.inline c.args.slot.indexed 64 (role_number c.args.slot.role) c.args.state (inline-field c.type_field.ensures (c.in_ok-field.was ∙ ap Ok (c.in-Some.is ∙ ap Some c.in-Inline.is))) refl c.own_type.ensures refl)) (walked_optional c.args.state c.own_type.result)
 
 pub returns-in-ByIndex : goal.returns-in-ByIndex
-returns-in-ByIndex c = optional c.looked_up.ensures.found (declared (type-indexed (lent c.args.payload.now c.args.d2.now c.args.ends.now c.args.notes.now c.args.tables) c.args.msg.now c.args.base c.args.slot.inline c.args.slot.indexed 64 c.args.slot.role c.args.state (by-index-field c.type_field.ensures (c.in_ok-field.was ∙ ap Ok (c.in-Some.is ∙ ap Some c.in-ByIndex.is))) refl (by-index-index c.type_field.ensures (c.in_ok-field.was ∙ ap Ok (c.in-Some.is ∙ ap Some c.in-ByIndex.is))) refl c.looked_up.ensures.told)) c.looked_up.ensures.is
+returns-in-ByIndex c = optional c.looked_up.ensures.found (declared (type-indexed (lent c.args.payload.now c.args.d2.now c.args.ends.now c.args.notes.now c.args.tables) c.args.msg.now c.args.base c.args.slot.inline c.args.slot.indexed 64 (role_number c.args.slot.role) c.args.state (by-index-field c.type_field.ensures (c.in_ok-field.was ∙ ap Ok (c.in-Some.is ∙ ap Some c.in-ByIndex.is))) refl (by-index-index c.type_field.ensures (c.in_ok-field.was ∙ ap Ok (c.in-Some.is ∙ ap Some c.in-ByIndex.is))) refl c.looked_up.ensures.told)) c.looked_up.ensures.is
 
 pub returns-in_default : goal.returns-in_default
-returns-in_default c = optional _ (declared (type-nowhere (lent c.args.payload.now c.args.d2.now c.args.ends.now c.args.notes.now c.args.tables) c.args.msg.now c.args.base c.args.slot.inline c.args.slot.indexed 64 c.args.slot.role c.args.state (absent-field c.type_field.ensures (c.in_ok-field.was ∙ ap Ok c.in_default.is)) refl (absent-index c.type_field.ensures (c.in_ok-field.was ∙ ap Ok c.in_default.is)) refl)) refl
+returns-in_default c = optional _ (declared (type-nowhere (lent c.args.payload.now c.args.d2.now c.args.ends.now c.args.notes.now c.args.tables) c.args.msg.now c.args.base c.args.slot.inline c.args.slot.indexed 64 (role_number c.args.slot.role) c.args.state (absent-field c.type_field.ensures (c.in_ok-field.was ∙ ap Ok c.in_default.is)) refl (absent-index c.type_field.ensures (c.in_ok-field.was ∙ ap Ok c.in_default.is)) refl)) refl
 
 pub returns-in_err-field : goal.returns-in_err-field
-returns-in_err-field c = rw (handed_on _ c.from_residual.ensures.1) (optional _ (declared (type-refused (lent c.args.payload.now c.args.d2.now c.args.ends.now c.args.notes.now c.args.tables) c.args.msg.now c.args.base c.args.slot.inline c.args.slot.indexed 64 c.args.slot.role c.args.state (refused-field c.type_field.ensures c.in_err-field.was) refl)) refl)
+returns-in_err-field c = rw (handed_on _ c.from_residual.ensures.1) (optional _ (declared (type-refused (lent c.args.payload.now c.args.d2.now c.args.ends.now c.args.notes.now c.args.tables) c.args.msg.now c.args.base c.args.slot.inline c.args.slot.indexed 64 (role_number c.args.slot.role) c.args.state (refused-field c.type_field.ensures c.in_err-field.was) refl)) refl)

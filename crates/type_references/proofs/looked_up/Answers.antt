@@ -1,3 +1,4 @@
+use Rattle.declaration_rows.specs.told.Written.{role_number}
 use Rattle.declaration_rows.specs.Declarations.{invariant}
 use Rattle.schema.specs.told.SchemaTold.{entries_in, lent}
 use mathlib.Core.Path.{refl}
@@ -10,7 +11,7 @@ use Rattle.schema.proofs.EntryLaws.{entry_in}
 use Rattle.type_references.proofs.looked_up.Goals as goal
 
 pub returns-in_default : goal.returns-in_default
-returns-in_default c = looked _ (resolve-nowhere (lent c.args.payload.now c.args.d2.now c.args.ends.now c.args.notes.now c.args.tables) c.args.index 64 c.args.role invariant c.args.state c.entry_at.ensures c.in_default.is) refl
+returns-in_default c = looked _ (resolve-nowhere (lent c.args.payload.now c.args.d2.now c.args.ends.now c.args.notes.now c.args.tables) c.args.index 64 (role_number c.args.role) invariant c.args.state c.entry_at.ensures c.in_default.is) refl
 
 pub slice_bounds-next_body-count : goal.slice_bounds-next_body-count
 slice_bounds-next_body-count c = let h = entry_in c.args.payload.now (entries_in c.args.tables c.args.notes.now) c.args.tables.types c.args.index c.entry_at.ensures c.in-Some.is in omega arith

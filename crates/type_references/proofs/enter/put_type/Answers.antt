@@ -12,4 +12,4 @@ pub overflow_add-ended : goal.overflow_add-ended
 overflow_add-ended c = let h = cell-sheet (name_cell (name_text c.args.payload.now c.args.d2.now c.args.name)) c.put_named-head.ensures in omega (arith, c.requires.0.room.sheet)
 
 pub returns : goal.returns
-returns c = rw (← c.number.ensures) (type_put c.args.shown.role c.number.result c.args.nullable (name_text c.args.payload.now c.args.d2.now c.args.name) c.args.count c.args.state c.args.sheet.now c.args.text.now c.put.ensures c.put_number.ensures c.put_bit.ensures c.put_named-head.ensures c.put_number-2.ensures c.put_number-3.ensures)
+returns c = rw (← c.number.ensures, ← c.number-2.ensures) (type_put c.number.result c.number-2.result c.args.nullable (name_text c.args.payload.now c.args.d2.now c.args.name) c.args.count c.args.state c.args.sheet.now c.args.text.now c.put.ensures c.put_number.ensures c.put_bit.ensures c.put_named-head.ensures c.put_number-2.ensures c.put_number-3.ensures)

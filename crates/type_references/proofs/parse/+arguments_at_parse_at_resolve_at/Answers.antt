@@ -1,3 +1,4 @@
+use Rattle.declaration_rows.specs.told.Written.{role_number}
 use Rattle.schema.specs.told.SchemaTold.{entries_in, lent}
 use mathlib.Core.Path.{refl, ap, sym, subst, ◌∙◌}
 use Rattle.std.specs.declared.result.Result.TheVariants.{Ok}
@@ -122,10 +123,10 @@ pub parse_at-returns : goal.parse_at-returns
 parse_at-returns t c = parse-entered c.enter_type.ensures c.in_ok-after.was c.saturating_sub.ensures c.arguments_at.ensures
 
 pub resolve_at-returns-then-left-eq0 : goal.resolve_at-returns-then-left-eq0
-resolve_at-returns-then-left-eq0 t c = resolve-none-left (lent c.args.payload.now c.args.d2.now c.args.ends.now c.args.notes.now c.args.tables) c.args.index c.args.left c.args.shown.role (projection_number c.args.shown.projection) c.args.state c.if-left-eq0.true
+resolve_at-returns-then-left-eq0 t c = resolve-none-left (lent c.args.payload.now c.args.d2.now c.args.ends.now c.args.notes.now c.args.tables) c.args.index c.args.left (role_number c.args.shown.role) (projection_number c.args.shown.projection) c.args.state c.if-left-eq0.true
 
 pub resolve_at-returns-in_default : goal.resolve_at-returns-in_default
-resolve_at-returns-in_default t c = resolve-nowhere (lent c.args.payload.now c.args.d2.now c.args.ends.now c.args.notes.now c.args.tables) c.args.index c.args.left c.args.shown.role (projection_number c.args.shown.projection) c.args.state c.entry_at.ensures c.in_default.is
+resolve_at-returns-in_default t c = resolve-nowhere (lent c.args.payload.now c.args.d2.now c.args.ends.now c.args.notes.now c.args.tables) c.args.index c.args.left (role_number c.args.shown.role) (projection_number c.args.shown.projection) c.args.state c.entry_at.ensures c.in_default.is
 
 pub resolve_at-overflow_sub-place : goal.resolve_at-overflow_sub-place
 resolve_at-overflow_sub-place t c = omega (arith, c.if-left-eq0.false)
@@ -140,10 +141,10 @@ pub resolve_at-parse_at-requires : goal.resolve_at-parse_at-requires
 resolve_at-parse_at-requires t c = let h = entry_in c.args.payload.now (entries_in c.args.tables c.args.notes.now) c.args.tables.types c.args.index c.entry_at.ensures c.in-Some.is in (falls_entry c.args.left c.decreases c.if-left-eq0.false c.args.payload.now c.requires.0.payload-short c.in-Some.entry.start c.in-Some.entry.end h.0 h.1, entry-room (lent c.args.payload.now c.args.d2.now c.args.ends.now c.args.notes.now c.args.tables) c.entry_at.ensures c.in-Some.is {nest = c.args.nest.now} c.requires.0 c.requires.1 c.requires.2)
 
 pub resolve_at-returns-in_err-after : goal.resolve_at-returns-in_err-after
-resolve_at-returns-in_err-after t c = resolve-found (lent c.args.payload.now c.args.d2.now c.args.ends.now c.args.notes.now c.args.tables) c.args.index c.args.left c.args.shown.role (projection_number c.args.shown.projection) c.args.state c.entry_at.ensures c.in-Some.is c.if-left-eq0.false c.is_nullable.ensures c.parse_at.ensures (handed_on _ c.from_residual.ensures.1 ∙ ap picked_of (sym c.in_err-after.was))
+resolve_at-returns-in_err-after t c = resolve-found (lent c.args.payload.now c.args.d2.now c.args.ends.now c.args.notes.now c.args.tables) c.args.index c.args.left (role_number c.args.shown.role) (projection_number c.args.shown.projection) c.args.state c.entry_at.ensures c.in-Some.is c.if-left-eq0.false c.is_nullable.ensures c.parse_at.ensures (handed_on _ c.from_residual.ensures.1 ∙ ap picked_of (sym c.in_err-after.was))
 
 pub resolve_at-returns : goal.resolve_at-returns
-resolve_at-returns t c = resolve-found (lent c.args.payload.now c.args.d2.now c.args.ends.now c.args.notes.now c.args.tables) c.args.index c.args.left c.args.shown.role (projection_number c.args.shown.projection) c.args.state c.entry_at.ensures c.in-Some.is c.if-left-eq0.false c.is_nullable.ensures c.parse_at.ensures (ap picked_of (sym c.in_ok-after.was))
+resolve_at-returns t c = resolve-found (lent c.args.payload.now c.args.d2.now c.args.ends.now c.args.notes.now c.args.tables) c.args.index c.args.left (role_number c.args.shown.role) (projection_number c.args.shown.projection) c.args.state c.entry_at.ensures c.in-Some.is c.if-left-eq0.false c.is_nullable.ensures c.parse_at.ensures (ap picked_of (sym c.in_ok-after.was))
 
 pub arguments_at-slice_bounds-resolve_at-start : goal.arguments_at-slice_bounds-resolve_at-start
 arguments_at-slice_bounds-resolve_at-start t c = loop-height c.loop-part.invariant.0 (subst (λ (n : ℕ). WaitingRoom c.args.tables c.args.state.types (length c.args.msg.now) n) (sym c.loop-part.invariant.1) c.requires.room)
