@@ -58,9 +58,16 @@ def named(text):
 
 
 def contracts():
-    """The files that the exported functions' contracts name."""
-    paths = (ROOT / 'crates/sheet_calls/src').glob('*.rt')
-    return set().union(*(named(path.read_text(encoding='utf-8')) for path in paths))
+    """The files that the exported functions' contracts name: those of the `ghost use` lines that bring a word of theirs."""
+    found = set()
+    for path in (ROOT / 'crates/sheet_calls/src').glob('*.rt'):
+        text = path.read_text(encoding='utf-8')
+        exported = ' '.join(re.findall(r'^pub extern "C" fn .*?^\{', text, re.M | re.S))
+        words = set(re.findall(r'[^\s(){},;.]+', exported))
+        for place, names in re.findall(r'^ghost use (\S+)\.\{(.*?)\};', text, re.M):
+            if words & set(names.split(', ')):
+                found |= named(place)
+    return found
 
 
 def closed(found):
