@@ -8,7 +8,7 @@ use lib.ListN.{length, take, drop, length-drop}
 use Rattle.foundation.specs.Results.{Res, ok, refused, ◌>>=◌, Part, ◌from◌, got}
 use Rattle.wire.specs.Wire.{Value, read_varint, read_field, Message, cut, packed}
 use Rattle.wire.specs.Messages.{values, varints_in, joined, varints}
-use Rattle.wire.specs.told.WireTold.{wire_refused, rest_of, part_between, value_of, Inside, SpanInside, FieldTold}
+use Rattle.wire.specs.told.WireTold.{SkipTold, wire_refused, rest_of, part_between, value_of, Inside, SpanInside, FieldTold}
 use Rattle.messages.specs.told.Asked.{CheckedTold}
 use Rattle.messages.specs.told.Repeated.{first_two, first_two_of, two_told, pushed, pushed_all, pushed_to}
 use Rattle.std.specs.Prelude.{Result, Ok, Err}
@@ -21,6 +21,7 @@ use Rattle.foundation.specs.declared.Span.{Span}
 use Rattle.messages.specs.declared.repeated.Two.{Two}
 use Rattle.messages.specs.declared.repeated.Two.TheVariants.{Neither, Both}
 use Rattle.wire.proofs.Progress.{none_empty, packed_none, packed_next}
+use Rattle.wire.proofs.SkipLaws.{skip-leads}
 use Rattle.wire.proofs.WalkLaws.{bind_ok, byte_left, Leads, leads-start, leads-next, leads-never, leads-end, values-found, values-passed}
 use Rattle.messages.proofs.BodyLaws.{part-is}
 
@@ -103,6 +104,10 @@ module _ (k base : ℕ) (s : List ℕ) where
 
     R : Message → Message → Type 0
     R m rest = pushed_to Neither (varints k m) ≡ pushed_to t (varints k rest)
+
+    pub pushing-skipped : {next : ℕ} → SkipTold s (k ∷ []) at next → Pushing k base s next t
+    unfolding varints R
+    pushing-skipped h = skip-leads base h 0 (omega arith) R (λ m a b e c. c ∙ ap (λ (vs : List Value). pushed_to t (joined vs)) e) (◌from◌ base s) o
 
     pub pushing-never : {A : Type 0} (error : WireError) → FieldTold base s (read_field (rest_of base s at)) (Err error) → at < length s
         → (m : Message) → cut (◌from◌ base s) ≡ ok m → A

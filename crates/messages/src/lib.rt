@@ -13,16 +13,14 @@ pub mod repeated; // repeated.rt: repeated numbers, single and packed
 pub mod reader; // reader.rt: a reader over a message
 
 use foundation::Span;
-use wire::{Field, WireError, WireValue, field_at, skip_fields};
+use wire::{Field, WireError, WireValue, fields_from};
 
 // Cuts what is left of a slice from a place on.
 pub fn check_from(s: &[u8], base: u32, at: usize) -> Result<(), WireError>
     ensures { CheckedTold (cut (rest_of base s.now at)) result }
 {
-    let mut i = skip_fields(s, [], at);
-    while i < s.len() {
-        let read = field_at(s, base, i)?;
-        i = skip_fields(s, [], read.next);
+    for field in fields_from(s, base, [], at) {
+        field?;
     }
     Ok(())
 }
@@ -50,15 +48,13 @@ fn check_part(s: &[u8], base: u32, part: Span) -> Result<(), WireError>
 pub fn find(s: &[u8], base: u32, number: u32) -> Option<WireValue>
     ensures { FoundTold base s.now number result }
 {
-    let mut at = skip_fields(s, [number], 0);
-    while at < s.len() {
-        let Ok(read) = field_at(s, base, at) else {
+    for read in fields_from(s, base, [number], 0) {
+        let Ok(field) = read else {
             return None;
         };
-        if read.value.number == number {
-            return Some(read.value.value);
+        if field.number == number {
+            return Some(field.value);
         }
-        at = skip_fields(s, [number], read.next);
     }
     None
 }
@@ -79,13 +75,11 @@ pub fn find_each<const N: usize>(s: &[u8], base: u32, numbers: [u32; N]) -> [Opt
     ensures { (i : ℕ) → i < N → FoundTold base s.now (get_or numbers.entry i 0) (get_or result i None) }
 {
     let mut found = [None; N];
-    let mut at = skip_fields(s, numbers, 0);
-    while at < s.len() {
-        let Ok(read) = field_at(s, base, at) else {
+    for read in fields_from(s, base, numbers, 0) {
+        let Ok(field) = read else {
             break;
         };
-        keep_first(&mut found, numbers, read.value);
-        at = skip_fields(s, numbers, read.next);
+        keep_first(&mut found, numbers, field);
     }
     found
 }
@@ -155,15 +149,13 @@ fn body_of(asked: u32, field: Field) -> Option<Span>
 pub fn next_body(s: &[u8], base: u32, number: u32, at: usize) -> Option<Span>
     ensures { NextBodyTold base s.now number at result }
 {
-    let mut i = skip_fields(s, [number], at);
-    while i < s.len() {
-        let Ok(read) = field_at(s, base, i) else {
+    for read in fields_from(s, base, [number], at) {
+        let Ok(field) = read else {
             return None;
         };
-        if let Some(body) = body_of(number, read.value) {
+        if let Some(body) = body_of(number, field) {
             return Some(body);
         }
-        i = skip_fields(s, [number], read.next);
     }
     None
 }

@@ -7,7 +7,7 @@ ghost use Rattle.wire.specs.told.WireTold.{rest_of, value_of, Inside};
 ghost use Rattle.messages.specs.told.Asked.{CheckedTold};
 ghost use Rattle.messages.specs.told.Repeated.{pushed, pushed_to, first_two_of, two_told};
 
-use wire::{WireError, WireValue, field_at, varint_at};
+use wire::{WireError, WireValue, fields_from, varint_at};
 
 // The first two numbers of a list, mod 2^32, as far as it has them.
 #[derive(Clone, Copy)]
@@ -60,15 +60,13 @@ fn push_value(s: &[u8], base: u32, value: WireValue, two: Two) -> Result<Two, Wi
 pub fn first_two(s: &[u8], base: u32, number: u32) -> Result<Two, WireError>
     ensures { (m : Message) → cut (◌from◌ base s.now) ≡ ok m → first_two_of (varints number m) ≡ two_told result }
 {
-    let mut at = 0;
     let mut two = Two::Neither;
-    while at < s.len() {
-        let Ok(read) = field_at(s, base, at) else {
+    for read in fields_from(s, base, [number], 0) {
+        let Ok(field) = read else {
             return Ok(two);
         };
-        at = read.next;
-        if read.value.number == number {
-            two = push_value(s, base, read.value.value, two)?;
+        if field.number == number {
+            two = push_value(s, base, field.value, two)?;
         }
     }
     Ok(two)

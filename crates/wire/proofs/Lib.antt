@@ -8,4 +8,5 @@ pub mod Places
 pub mod Later
 pub mod Bounds
 pub mod SkipLaws
+pub mod FieldsLaws
 pub mod Numbers

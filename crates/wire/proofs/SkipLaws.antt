@@ -6,10 +6,11 @@ use mathlib.Core.List.{List, [], ◌∷◌, ◌++◌, append_assoc}
 use Prim.Native.Nat.{ℕ, ◌+◌, ◌-◌, ◌*◌, ◌/◌, ◌%◌, ◌≤◌, ◌<◌}
 use native.Mathlib.Omega.{arith}
 use lib.ListN.{length, get_or}
+use Rattle.std.specs.Prelude.{Some, Ok}
 use Rattle.foundation.specs.Results.{Res, ok, refused, ◌>>=◌, Part, map_got}
 use Rattle.wire.specs.Wire.{varint, body, field, is_field_number, Message, cut}
 use Rattle.wire.specs.Messages.{values}
-use Rattle.wire.specs.told.WireTold.{rest_of, value_of, told_field, ShortRead, ShortField, Skips, SkipTold}
+use Rattle.wire.specs.told.WireTold.{rest_of, value_of, told_field, ShortRead, ShortField, Skips, SkipTold, FieldsNext}
 use Rattle.wire.specs.declared.WireValue.TheVariants as wire
 use Rattle.wire.specs.declared.Field as code
 use Rattle.foundation.specs.declared.Read.{Read}
@@ -122,3 +123,8 @@ module _ (base : ℕ) {s ks : List ℕ} {at next : ℕ} (t : SkipTold s ks at ne
       let r = bind_ok (cut (rest_of base s next)) (λ m. x.fields ++ m) (sym x.cuts ∙ q.1) in
       let same : values k q.0 ≡ values k r.0 = ap (values k) r.2 ∙ values-append k x.fields r.0 ∙ rw (x.others i h) in
       (r.0, r.1, f m q.0 r.0 same q.2)
+
+-- a walk's step to a short field after skipped ones
+pub step-short : (base : ℕ) (s ks : List ℕ) {at next : ℕ} (x : Read code.Field) → SkipTold s ks at next → ShortField s next x
+    → FieldsNext base s ks at (Some (Ok x.value)) x.next
+step-short base s ks {next = next} x t f = record { gives = (next, t, omega (arith, f.later, f.inside), f.is base) }

@@ -2,11 +2,12 @@
 // `at`. The definitions: specs/Wire.antt; how the answers tell them: specs/told/WireTold.antt.
 #![tactic(auto)]
 
-ghost use Rattle.std.specs.Prelude.{◌≡◌, List, ℕ, ◌+◌, ◌-◌, ◌^◌, ◌≤◌, ◌<◌, ◌≢◌, false, length, get_or, take, drop};
+ghost use Rattle.std.specs.Prelude.{◌≡◌, List, ℕ, ◌+◌, ◌-◌, ◌^◌, ◌≤◌, ◌<◌, ◌≢◌, false, length, get_or, take, drop, ⊤};
+ghost use Rattle.std.specs.Iterator.{at_most};
 ghost use Rattle.foundation.specs.Results.{got};
 ghost use Rattle.foundation.specs.Digits.{number};
 ghost use Rattle.wire.specs.Wire.{group, read_fixed, read_value, is_field_number, read_field, read_varint};
-ghost use Rattle.wire.specs.told.WireTold.{rest_of, value_number, piece_of, GroupsTold, VarintAt, DelimitedAt, ValueTold, FieldTold, FieldAt, ShortTold, ShortFieldTold, SkipTold};
+ghost use Rattle.wire.specs.told.WireTold.{rest_of, value_number, piece_of, GroupsTold, VarintAt, DelimitedAt, ValueTold, FieldTold, FieldAt, ShortTold, ShortFieldTold, FieldsNext};
 
 use foundation::{Read, Span};
 
@@ -318,17 +319,70 @@ fn is_among<const N: usize>(numbers: [u32; N], number: u32) -> bool
     false
 }
 
-// A place reached from `at` by passing over whole fields, none of which has one of these numbers: over as many short ones as follow each other.
-// It costs less than reading them one by one.
-pub fn skip_fields<const N: usize>(s: &[u8], numbers: [u32; N], at: usize) -> usize
-    ensures { SkipTold s.now numbers.entry at result }
-{
-    let mut next = at;
-    while let Some(read) = short_field(s, next) {
-        if is_among(numbers, read.value.number) {
-            break;
+// A walk over the fields of a slice that is asked for some numbers: short fields with none of them are passed over. It ends at the slice's end, and after a
+// field that is refused.
+#[derive(Clone, Copy)]
+pub struct Fields<'a, const N: usize> {
+    s: &'a [u8],
+    base: u32,
+    numbers: [u32; N],
+    at: usize,
+}
+
+impl<'a, const N: usize> Iterator for Fields<'a, N> {
+    type Item = Result<Field, WireError>;
+
+    ghost can_next = { λ i. ⊤ };
+
+    ghost next_gives = { λ i r t. FieldsNext i.base i.s.now i.numbers i.at r t.at × (t.base ≡ i.base) × (t.s ≡ i.s) × (t.numbers ≡ i.numbers) };
+
+    ghost remaining = { λ i. at_most (length i.s.now - i.at) };
+
+    #[inline(always)]
+    fn next(&mut self) -> Option<Result<Field, WireError>> {
+        let Fields {
+            s,
+            base,
+            numbers,
+            mut at,
+        } = *self;
+        while let Some(read) = short_field(s, at) {
+            if is_among(numbers, read.value.number) {
+                self.at = read.next;
+                return Some(Ok(read.value));
+            }
+            at = read.next;
         }
-        next = read.next;
+        if s.len() <= at {
+            self.at = at;
+            return None;
+        }
+        match field_at(s, base, at) {
+            Ok(read) => {
+                self.at = read.next;
+                Some(Ok(read.value))
+            }
+            Err(error) => {
+                self.at = s.len();
+                Some(Err(error))
+            }
+        }
     }
-    next
+}
+
+// The fields with some numbers, from a place on; others may come between them.
+pub fn fields_from<'a, const N: usize>(
+    s: &'a [u8],
+    base: u32,
+    numbers: [u32; N],
+    at: usize,
+) -> Fields<'a, N>
+    ensures { (result.s ≡ s.entry) × (result.base ≡ base) × (result.numbers ≡ numbers.entry) × (result.at ≡ at) }
+{
+    Fields {
+        s,
+        base,
+        numbers,
+        at,
+    }
 }

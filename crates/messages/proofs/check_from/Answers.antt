@@ -1,35 +1,37 @@
 use mathlib.Core.List.{[]}
-use native.Mathlib.Omega.{arith}
-use Rattle.std.specs.Prelude.{Ok, Err}
+use Prim.Native.Nat.{ℕ}
+use Rattle.std.specs.Prelude.{Result, Ok, Err}
 use Rattle.foundation.proofs.ErrorLaws.{handed_on}
-use Rattle.wire.proofs.WalkLaws.{field-inside, cut-end, cut-refused}
-use Rattle.messages.proofs.CheckLaws.{checked-field, skip-checked}
+use Rattle.wire.specs.Wire.{cut}
+use Rattle.wire.specs.told.WireTold.{rest_of}
+use Rattle.wire.specs.declared.WireError.{WireError}
+use Rattle.wire.proofs.FieldsLaws.{walks-start, walks-next}
+use Rattle.messages.specs.told.Asked.{CheckedTold}
+use Rattle.messages.proofs.SkippedLaws.{checked-over, checked-refused, checked-next}
 use Rattle.messages.proofs.check_from.Goals as goal
 
-pub loop-i-init : goal.loop-i-init
-loop-i-init c = skip-checked c.args.base c.skip_fields-i.ensures
-
-pub returns-in_err-read : goal.returns-in_err-read
-returns-in_err-read c =
+pub loop-field-init : goal.loop-field-init
+loop-field-init c =
     let a = c.args in
-    let l = c.loop-i in
-    rw (handed_on _ c.from_residual.ensures.1) (l.invariant (Err c.in_err-read.field-0.0) (cut-refused a.base a.s.now l.i _ (c.in_err-read.ensures.inside (omega arith)) c.loop-i-test.true))
+    let P : ℕ → Type 0 = λ x. (r : Result Unit WireError) → CheckedTold (cut (rest_of a.base a.s.now x)) r → CheckedTold (cut (rest_of a.base a.s.now a.at)) r in
+    walks-start c.into_iter-field-iterator.ensures.into_iter_gives c.fields_from-field-items.ensures P (λ r h. h)
 
-pub loop-i-smaller : goal.loop-i-smaller
-loop-i-smaller c =
+pub returns-in_err-field : goal.returns-in_err-field
+returns-in_err-field c =
     let a = c.args in
-    let h = field-inside a.base a.s.now c.loop-i.i c.in_ok-read.read (c.in_ok-read.ensures.inside (omega arith)) (omega arith) in
-    let f = c.skip_fields-i-in-loop-i.ensures.later in
-    omega arith
+    let l = c.loop-field.invariant in
+    let n = walks-next l.0 c.in-Some.ensures.steps in
+    rw (handed_on _ c.from_residual.ensures.1) (l.1 (Err c.in_err-field.field-0.0) (checked-refused a.base a.s.now [] n.0 c.in_err-field.was))
 
-pub loop-i-preserved : goal.loop-i-preserved
-loop-i-preserved c =
+pub loop-field-preserved : goal.loop-field-preserved
+loop-field-preserved c =
     let a = c.args in
-    let l = c.loop-i in
-    λ r h. l.invariant r (checked-field a.base a.s.now l.i c.in_ok-read.read (c.in_ok-read.ensures.inside (omega arith)) c.loop-i-test.true r (skip-checked a.base c.skip_fields-i-in-loop-i.ensures r h))
+    let l = c.loop-field.invariant in
+    let n = walks-next l.0 c.in-Some.ensures.steps in
+    (n.1, λ r h. l.1 r (checked-next a.base a.s.now [] n.0 c.in_ok-field.was r h))
 
 pub returns : goal.returns
 returns c =
     let a = c.args in
-    let l = c.loop-i in
-    l.invariant (Ok tt) ([], cut-end a.base a.s.now l.i c.loop-i-test.false)
+    let l = c.loop-field.invariant in
+    l.1 (Ok tt) (checked-over a.base a.s.now [] (walks-next l.0 c.in-None.ensures.steps).0)

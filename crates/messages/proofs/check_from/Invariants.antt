@@ -1,14 +1,13 @@
-use Prim.Native.Nat.{◌-◌}
-use lib.ListN.{length}
+use mathlib.Core.List.{[]}
+use Rattle.std.specs.Prelude.{Result}
 use Rattle.wire.specs.Wire.{cut}
 use Rattle.wire.specs.told.WireTold.{rest_of}
-use Rattle.messages.specs.told.Asked.{CheckedTold}
-use Rattle.std.specs.Prelude.{Result}
 use Rattle.wire.specs.declared.WireError.{WireError}
+use Rattle.wire.proofs.FieldsLaws.{Walks}
+use Rattle.messages.specs.told.Asked.{CheckedTold}
 use Rattle.messages.proofs.check_from.Given as goal
 
-abbrev pub invariant-loop-i : goal.invariant-loop-i
-invariant-loop-i l = (c : Result Unit WireError) → CheckedTold (cut (rest_of l.base l.s l.i)) c → CheckedTold (cut (rest_of l.base l.s l.at)) c
-
-abbrev pub decreases-loop-i : goal.decreases-loop-i
-decreases-loop-i l = length l.s - l.i
+abbrev pub invariant-loop-field : goal.invariant-loop-field
+invariant-loop-field l =
+    Walks l.field-iterator l.base l.s []
+    × ((c : Result Unit WireError) → CheckedTold (cut (rest_of l.base l.s l.field-iterator.at)) c → CheckedTold (cut (rest_of l.base l.s l.at)) c)

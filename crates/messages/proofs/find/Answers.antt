@@ -1,41 +1,36 @@
+use mathlib.Core.List.{[], ◌∷◌}
 use native.Mathlib.Omega.{arith}
-use Rattle.wire.proofs.WalkLaws.{field-inside}
-use Rattle.messages.proofs.FindLaws.{find-start, find-end, find-never, find-found, find-passed}
-use Rattle.messages.proofs.SkippedLaws.{occur-skipped}
+use Rattle.wire.proofs.FieldsLaws.{walks-start, walks-next}
+use Rattle.messages.proofs.FindLaws.{Occur, find-start}
+use Rattle.messages.proofs.SkippedLaws.{occur-over, occur-never, occur-found, occur-passed}
 use Rattle.messages.proofs.find.Goals as goal
 
-pub loop-at-init : goal.loop-at-init
-loop-at-init c =
+pub loop-read-init : goal.loop-read-init
+loop-read-init c =
     let a = c.args in
-    occur-skipped a.base c.skip_fields-at.ensures 0 (omega arith) (find-start a.number a.base a.s.now)
+    walks-start c.into_iter-read-iterator.ensures.into_iter_gives c.fields_from-read-items.ensures (Occur a.number a.base a.s.now) (find-start a.number a.base a.s.now)
 
 pub returns-in_default : goal.returns-in_default
 returns-in_default c =
     let a = c.args in
-    let l = c.loop-at in
-    find-never a.number a.base a.s.now l.at l.invariant _ (c.in_default.ensures.inside (omega arith)) c.loop-at-test.true
+    let l = c.loop-read.invariant in
+    occur-never a.base a.s.now (a.number ∷ []) 0 (omega arith) (walks-next l.0 c.in-Some.ensures.steps).0 c.in_default.is l.1
 
-pub returns-then-read-number : goal.returns-then-read-number
-returns-then-read-number c =
+pub returns-then-field-number : goal.returns-then-field-number
+returns-then-field-number c =
     let a = c.args in
-    let l = c.loop-at in
-    find-found a.number a.base a.s.now l.at l.invariant c.in-Ok.read (c.in-Ok.ensures.inside (omega arith)) c.loop-at-test.true c.if-read-number.true
+    let l = c.loop-read.invariant in
+    occur-found a.base a.s.now (a.number ∷ []) 0 (omega arith) (walks-next l.0 c.in-Some.ensures.steps).0 c.in-Ok.is l.1 c.if-field-number.true
 
-pub loop-at-smaller : goal.loop-at-smaller
-loop-at-smaller c =
+pub loop-read-preserved : goal.loop-read-preserved
+loop-read-preserved c =
     let a = c.args in
-    let h = field-inside a.base a.s.now c.loop-at.at c.in-Ok.read (c.in-Ok.ensures.inside (omega arith)) (omega arith) in
-    let f = c.skip_fields-at-in-loop-at.ensures.later in
-    omega arith
-
-pub loop-at-preserved : goal.loop-at-preserved
-loop-at-preserved c =
-    let a = c.args in
-    let l = c.loop-at in
-    occur-skipped a.base c.skip_fields-at-in-loop-at.ensures 0 (omega arith) (find-passed a.number a.base a.s.now l.at l.invariant c.in-Ok.read (c.in-Ok.ensures.inside (omega arith)) c.loop-at-test.true c.if-read-number.false)
+    let l = c.loop-read.invariant in
+    let n = walks-next l.0 c.in-Some.ensures.steps in
+    (n.1, occur-passed a.base a.s.now (a.number ∷ []) 0 (omega arith) n.0 c.in-Ok.is l.1 c.if-field-number.false)
 
 pub returns : goal.returns
 returns c =
     let a = c.args in
-    let l = c.loop-at in
-    find-end a.number a.base a.s.now l.at l.invariant c.loop-at-test.false
+    let l = c.loop-read.invariant in
+    occur-over a.base a.s.now (a.number ∷ []) 0 (omega arith) (walks-next l.0 c.in-None.ensures.steps).0 l.1

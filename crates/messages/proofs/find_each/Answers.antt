@@ -1,39 +1,38 @@
+use Prim.Native.Nat.{ℕ, ◌<◌}
 use native.Mathlib.Omega.{arith}
-use lib.ListN.{get_or}
+use lib.ListN.{get_or, replicate}
 use Rattle.std.specs.Prelude.{Option, None}
-use Rattle.wire.specs.declared.WireValue.{WireValue}
 use Rattle.std.proofs.lemmas.List.{get_or-replicate}
-use Rattle.wire.proofs.WalkLaws.{field-inside}
-use Rattle.messages.proofs.SeenLaws.{seen_start, seen_end, seen_never, seen_next}
-use Rattle.messages.proofs.SkippedLaws.{occur-skipped, seen-skipped}
+use Rattle.wire.specs.declared.WireValue.{WireValue}
+use Rattle.wire.proofs.FieldsLaws.{walks-start, walks-next}
+use Rattle.messages.proofs.SeenLaws.{SeenBefore, seen_start}
+use Rattle.messages.proofs.SkippedLaws.{seen-over, seen-never, seen-next}
 use Rattle.messages.proofs.find_each.Goals as goal
 
-pub loop-at-init : goal.loop-at-init
-loop-at-init g c = λ i h. rw (get_or-replicate {A = Option WireValue} g.row.N i None None h) (occur-skipped c.args.base c.skip_fields-at.ensures i (omega arith) (seen_start (get_or c.args.numbers i 0) c.args.base c.args.s.now))
-
-pub loop-at-smaller : goal.loop-at-smaller
-loop-at-smaller g c =
+pub loop-read-init : goal.loop-read-init
+loop-read-init g c =
     let a = c.args in
-    let h = field-inside a.base a.s.now c.loop-at.at c.in-Ok.read (c.in-Ok.ensures.inside (omega arith)) (omega arith) in
-    let f = c.skip_fields-at-in-loop-at.ensures.later in
-    omega arith
-
-pub loop-at-preserved : goal.loop-at-preserved
-loop-at-preserved g c =
-    let a = c.args in
-    let l = c.loop-at in
-    let e = c.in-Ok.ensures.inside (omega arith) in
-    λ i h. seen-skipped a.base c.skip_fields-at-in-loop-at.ensures i (omega arith) (get_or c.keep_first.new.found i None) (seen_next (get_or a.numbers i 0) a.base a.s.now l.at c.loop-at-test.true c.in-Ok.read e (get_or l.found i None) (l.invariant i h) (c.keep_first.ensures i h))
-
-pub returns-after-loop-at : goal.returns-after-loop-at
-returns-after-loop-at g c =
-    let a = c.args in
-    let l = c.loop-at in
-    λ i h. seen_end (get_or a.numbers i 0) a.base a.s.now l.at c.loop-at-test.false (get_or l.found i None) (l.invariant i h)
+    let P : ℕ → Type 0 = λ x. (i : ℕ) → i < g.row.N → SeenBefore (get_or a.numbers i 0) a.base a.s.now x (get_or (replicate {A = Option WireValue} g.row.N None) i None) in
+    walks-start c.into_iter-read-iterator.ensures.into_iter_gives c.fields_from-read-items.ensures P
+    (λ i h. rw (get_or-replicate {A = Option WireValue} g.row.N i None None h) (seen_start (get_or a.numbers i 0) a.base a.s.now))
 
 pub returns-in_default : goal.returns-in_default
 returns-in_default g c =
     let a = c.args in
-    let l = c.loop-at in
-    let e = c.in_default.ensures.inside (omega arith) in
-    λ i h. seen_never (get_or a.numbers i 0) a.base a.s.now l.at c.loop-at-test.true _ e (get_or l.found i None) (l.invariant i h)
+    let l = c.loop-read in
+    let n = walks-next l.invariant.0 c.in-Some.ensures.steps in
+    λ i h. seen-never a.base a.s.now a.numbers i (omega arith) n.0 c.in_default.is (get_or l.found i None) (l.invariant.1 i h)
+
+pub loop-read-preserved : goal.loop-read-preserved
+loop-read-preserved g c =
+    let a = c.args in
+    let l = c.loop-read in
+    let n = walks-next l.invariant.0 c.in-Some.ensures.steps in
+    (n.1, λ i h. seen-next a.base a.s.now a.numbers i (omega arith) n.0 c.in-Ok.is (get_or l.found i None) (l.invariant.1 i h) (c.keep_first.ensures i h))
+
+pub returns-in-None : goal.returns-in-None
+returns-in-None g c =
+    let a = c.args in
+    let l = c.loop-read in
+    let n = walks-next l.invariant.0 c.in-None.ensures.steps in
+    λ i h. seen-over a.base a.s.now a.numbers i (omega arith) n.0 (get_or l.found i None) (l.invariant.1 i h)

@@ -1,43 +1,40 @@
+use mathlib.Core.List.{[], ◌∷◌}
+use Prim.Native.Nat.{ℕ, ◌≤◌}
 use native.Mathlib.Omega.{arith}
-use Rattle.wire.proofs.WalkLaws.{field-inside}
-use Rattle.messages.proofs.BodyLaws.{bodies-start, bodies-end, bodies-never, bodies-on, bodies-here}
-use Rattle.messages.proofs.SkippedLaws.{bodies-skipped}
+use Rattle.wire.proofs.FieldsLaws.{walks-start, walks-next}
+use Rattle.messages.proofs.BodyLaws.{Bodies, bodies-start}
+use Rattle.messages.proofs.SkippedLaws.{bodies-over, bodies-refused, bodies-passed, bodies-found, step-later}
 use Rattle.messages.proofs.next_body.Goals as goal
 
-pub loop-i-init : goal.loop-i-init
-loop-i-init c =
+pub loop-read-init : goal.loop-read-init
+loop-read-init c =
     let a = c.args in
-    (c.skip_fields-i.ensures.later, bodies-skipped a.base c.skip_fields-i.ensures 0 (omega arith) a.at (bodies-start a.number a.base a.s.now a.at))
+    let P : ℕ → Type 0 = λ x. (a.at ≤ x) × Bodies a.number a.base a.s.now a.at x in
+    let w = walks-start c.into_iter-read-iterator.ensures.into_iter_gives c.fields_from-read-items.ensures P (omega arith, bodies-start a.number a.base a.s.now a.at) in
+    (w.0, w.1.0, w.1.1)
 
 pub returns-in_default : goal.returns-in_default
 returns-in_default c =
     let a = c.args in
-    let l = c.loop-i in
-    bodies-never a.number a.base a.s.now a.at l.i l.invariant.1 _ (c.in_default.ensures.inside (omega arith)) c.loop-i-test.true
+    let l = c.loop-read.invariant in
+    bodies-refused a.base a.s.now (a.number ∷ []) 0 (omega arith) (walks-next l.0 c.in-Some.ensures.steps).0 c.in_default.is a.at l.2
 
-pub returns-in-Some : goal.returns-in-Some
-returns-in-Some c =
+pub returns-in-Some-body_of : goal.returns-in-Some-body_of
+returns-in-Some-body_of c =
     let a = c.args in
-    let l = c.loop-i in
-    bodies-here a.number a.base a.s.now a.at l.i l.invariant.1 c.in-Ok.read (c.in-Ok.ensures.inside (omega arith)) c.loop-i-test.true c.body_of.ensures l.invariant.0 c.in-Some.is
+    let l = c.loop-read.invariant in
+    bodies-found a.base a.s.now (a.number ∷ []) 0 (omega arith) (walks-next l.0 c.in-Some.ensures.steps).0 c.in-Ok.is a.at l.2 c.body_of.ensures l.1 c.in-Some-body_of.is
 
-pub loop-i-smaller : goal.loop-i-smaller
-loop-i-smaller c =
+pub loop-read-preserved : goal.loop-read-preserved
+loop-read-preserved c =
     let a = c.args in
-    let h = field-inside a.base a.s.now c.loop-i.i c.in-Ok.read (c.in-Ok.ensures.inside (omega arith)) (omega arith) in
-    let f = c.skip_fields-i-in-loop-i.ensures.later in
-    omega arith
-
-pub loop-i-preserved : goal.loop-i-preserved
-loop-i-preserved c =
-    let a = c.args in
-    let l = c.loop-i in
-    let h = field-inside a.base a.s.now l.i c.in-Ok.read (c.in-Ok.ensures.inside (omega arith)) (omega arith) in
-    let f = c.skip_fields-i-in-loop-i.ensures.later in
-    (omega arith, bodies-skipped a.base c.skip_fields-i-in-loop-i.ensures 0 (omega arith) a.at (bodies-on a.number a.base a.s.now a.at l.i l.invariant.1 c.in-Ok.read (c.in-Ok.ensures.inside (omega arith)) c.loop-i-test.true c.body_of.ensures c.in_default-body_of.is))
+    let l = c.loop-read.invariant in
+    let n = walks-next l.0 c.in-Some.ensures.steps in
+    let h = step-later a.base a.s.now (a.number ∷ []) n.0 c.in-Ok.is in
+    (n.1, omega arith, bodies-passed a.base a.s.now (a.number ∷ []) 0 (omega arith) n.0 c.in-Ok.is a.at l.2 c.body_of.ensures c.in_default-body_of.is)
 
 pub returns : goal.returns
 returns c =
     let a = c.args in
-    let l = c.loop-i in
-    bodies-end a.number a.base a.s.now a.at l.i l.invariant.1 c.loop-i-test.false
+    let l = c.loop-read.invariant in
+    bodies-over a.base a.s.now (a.number ∷ []) 0 (omega arith) (walks-next l.0 c.in-None.ensures.steps).0 a.at l.2

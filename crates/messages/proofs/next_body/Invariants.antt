@@ -1,10 +1,9 @@
-use Prim.Native.Nat.{◌-◌, ◌≤◌}
-use lib.ListN.{length}
+use mathlib.Core.List.{[], ◌∷◌}
+use Prim.Native.Nat.{◌≤◌}
+use Rattle.wire.proofs.FieldsLaws.{Walks}
 use Rattle.messages.proofs.BodyLaws.{Bodies}
 use Rattle.messages.proofs.next_body.Given as goal
 
-abbrev pub invariant-loop-i : goal.invariant-loop-i
-invariant-loop-i l = (l.at ≤ l.i) × Bodies l.number l.base l.s l.at l.i
-
-abbrev pub decreases-loop-i : goal.decreases-loop-i
-decreases-loop-i l = length l.s - l.i
+abbrev pub invariant-loop-read : goal.invariant-loop-read
+invariant-loop-read l =
+    Walks l.read-iterator l.base l.s (l.number ∷ []) × (l.at ≤ l.read-iterator.at) × Bodies l.number l.base l.s l.at l.read-iterator.at

@@ -139,3 +139,15 @@ pub record SkipTold (s ks : List ℕ) (at next : ℕ) : Type 0 where
   pub later : at ≤ next
   pub inside : next ≤ at + (length s - at)
   pub is : (base : ℕ) → Skips base s ks at next
+
+-- What a walk gives that stands at `at` and passes over fields with none of the numbers ks: a field, a refusal, or nothing at the slice's end. It then stands at
+-- `next`.
+abbrev pub GivesField : ℕ → List ℕ → List ℕ → ℕ → Option (Result code.Field WireError) → ℕ → Type 0
+GivesField base s ks at None next = SkipTold s ks at next × (length s ≤ next)
+GivesField base s ks at (Some (Ok f)) next =
+    (i : ℕ) × SkipTold s ks at i × (i < length s) × FieldTold base s (read_field (rest_of base s i)) (Ok (record { value = f; next = next }))
+GivesField base s ks at (Some (Err e)) next =
+    (i : ℕ) × SkipTold s ks at i × (i < length s) × FieldTold base s (read_field (rest_of base s i)) (Err e)
+
+pub record FieldsNext (base : ℕ) (s ks : List ℕ) (at : ℕ) (r : Option (Result code.Field WireError)) (next : ℕ) : Type 0 where
+  pub gives : GivesField base s ks at r next

@@ -1,57 +1,56 @@
-use native.Mathlib.Omega.{arith}
-use Rattle.wire.proofs.WalkLaws.{field-inside}
-use Rattle.std.proofs.lemmas.Result.{err_from_is_err_and}
-use Rattle.messages.proofs.RepeatedLaws.{pushing-start, pushing-end, pushing-never, pushing-passed, pushing-next, pushing-refused}
+use mathlib.Core.List.{[], ◌∷◌}
+use Prim.Native.Nat.{ℕ}
+use Rattle.foundation.proofs.ErrorLaws.{handed_on}
+use Rattle.wire.proofs.FieldsLaws.{walks-start, walks-next}
+use Rattle.messages.specs.declared.repeated.Two.TheVariants.{Neither}
+use Rattle.messages.proofs.SkippedLaws.{given}
+use Rattle.messages.proofs.RepeatedLaws.{Pushing, pushing-start, pushing-end, pushing-skipped, pushing-never, pushing-passed, pushing-next, pushing-refused}
 use Rattle.messages.proofs.repeated.first_two.Goals as goal
 
-pub loop-at-init : goal.loop-at-init
-loop-at-init c =
+pub loop-read-init : goal.loop-read-init
+loop-read-init c =
     let a = c.args in
-    pushing-start _ a.base a.s.now
+    let P : ℕ → Type 0 = λ x. Pushing a.number a.base a.s.now x Neither in
+    walks-start c.into_iter-read-iterator.ensures.into_iter_gives c.fields_from-read-items.ensures P (pushing-start a.number a.base a.s.now)
 
 pub returns-in_default : goal.returns-in_default
 returns-in_default c =
     let a = c.args in
-    let l = c.loop-at in
-    λ m w. pushing-never a.number a.base a.s.now l.at l.two l.invariant _ (c.in_default.ensures.inside (omega arith)) c.loop-at-test.true m w
+    let l = c.loop-read in
+    let x = given a.base a.s.now (a.number ∷ []) (walks-next l.invariant.0 c.in-Some.ensures.steps).0 c.in_default.is in
+    λ m w. pushing-never a.number a.base a.s.now x.0 l.two (pushing-skipped a.number a.base a.s.now _ l.two l.invariant.1 x.1) _ x.3 x.2 m w
 
-pub loop-at-smaller : goal.loop-at-smaller
-loop-at-smaller c =
+pub loop-read-preserved : goal.loop-read-preserved
+loop-read-preserved c =
     let a = c.args in
-    let h = field-inside a.base a.s.now c.loop-at.at c.in-Ok.read (c.in-Ok.ensures.inside (omega arith)) (omega arith) in
-    omega arith
-
-pub loop-at-smaller-then-read-number : goal.loop-at-smaller-then-read-number
-loop-at-smaller-then-read-number c =
-    let a = c.args in
-    let h = field-inside a.base a.s.now c.loop-at.at c.in-Ok.read (c.in-Ok.ensures.inside (omega arith)) (omega arith) in
-    omega arith
-
-pub loop-at-preserved : goal.loop-at-preserved
-loop-at-preserved c =
-    let a = c.args in
-    let l = c.loop-at in
-    pushing-passed a.number a.base a.s.now l.at l.two l.invariant c.in-Ok.read (c.in-Ok.ensures.inside (omega arith)) c.loop-at-test.true c.if-read-number.false
+    let l = c.loop-read in
+    let n = walks-next l.invariant.0 c.in-Some.ensures.steps in
+    let x = given a.base a.s.now (a.number ∷ []) n.0 c.in-Ok.is in
+    (n.1, pushing-passed a.number a.base a.s.now x.0 l.two (pushing-skipped a.number a.base a.s.now _ l.two l.invariant.1 x.1) _ x.3 x.2 c.if-field-number.false)
 
 pub push_value-requires : goal.push_value-requires
 push_value-requires c =
-    (c.in-Ok.ensures.inside (omega arith)).1
+    let a = c.args in
+    (given a.base a.s.now (a.number ∷ []) (walks-next c.loop-read.invariant.0 c.in-Some.ensures.steps).0 c.in-Ok.is).3.1
 
 pub returns-in_err-two : goal.returns-in_err-two
 returns-in_err-two c =
     let a = c.args in
-    let l = c.loop-at in
-    let p = err_from_is_err_and c.from_residual.result c.from_residual.ensures.1 in
-    rw (p.1, p.2) (pushing-refused a.number a.base a.s.now l.at l.two l.invariant c.in-Ok.read (c.in-Ok.ensures.inside (omega arith)) c.loop-at-test.true c.if-read-number.true c.push_value.ensures c.in_err-two.was)
+    let l = c.loop-read in
+    let x = given a.base a.s.now (a.number ∷ []) (walks-next l.invariant.0 c.in-Some.ensures.steps).0 c.in-Ok.is in
+    rw (handed_on _ c.from_residual.ensures.1) (pushing-refused a.number a.base a.s.now x.0 l.two (pushing-skipped a.number a.base a.s.now _ l.two l.invariant.1 x.1) _ x.3 x.2 c.if-field-number.true c.push_value.ensures c.in_err-two.was)
 
-pub loop-at-preserved-then-read-number : goal.loop-at-preserved-then-read-number
-loop-at-preserved-then-read-number c =
+pub loop-read-preserved-then-field-number : goal.loop-read-preserved-then-field-number
+loop-read-preserved-then-field-number c =
     let a = c.args in
-    let l = c.loop-at in
-    pushing-next a.number a.base a.s.now l.at l.two l.invariant c.in-Ok.read (c.in-Ok.ensures.inside (omega arith)) c.loop-at-test.true c.if-read-number.true c.push_value.ensures c.in_ok-two.was
+    let l = c.loop-read in
+    let n = walks-next l.invariant.0 c.in-Some.ensures.steps in
+    let x = given a.base a.s.now (a.number ∷ []) n.0 c.in-Ok.is in
+    (n.1, pushing-next a.number a.base a.s.now x.0 l.two (pushing-skipped a.number a.base a.s.now _ l.two l.invariant.1 x.1) _ x.3 x.2 c.if-field-number.true c.push_value.ensures c.in_ok-two.was)
 
 pub returns : goal.returns
 returns c =
     let a = c.args in
-    let l = c.loop-at in
-    λ m w. pushing-end a.number a.base a.s.now l.at l.two l.invariant c.loop-at-test.false m w
+    let l = c.loop-read in
+    let x = (walks-next l.invariant.0 c.in-None.ensures.steps).0.gives in
+    λ m w. pushing-end a.number a.base a.s.now _ l.two (pushing-skipped a.number a.base a.s.now _ l.two l.invariant.1 x.0) x.1 m w

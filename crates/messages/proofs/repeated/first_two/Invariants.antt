@@ -1,10 +1,7 @@
-use Prim.Native.Nat.{◌-◌}
-use lib.ListN.{length}
+use mathlib.Core.List.{[], ◌∷◌}
+use Rattle.wire.proofs.FieldsLaws.{Walks}
 use Rattle.messages.proofs.RepeatedLaws.{Pushing}
 use Rattle.messages.proofs.repeated.first_two.Given as goal
 
-abbrev pub invariant-loop-at : goal.invariant-loop-at
-invariant-loop-at l = Pushing l.number l.base l.s l.at l.two
-
-abbrev pub decreases-loop-at : goal.decreases-loop-at
-decreases-loop-at l = length l.s - l.at
+abbrev pub invariant-loop-read : goal.invariant-loop-read
+invariant-loop-read l = Walks l.read-iterator l.base l.s (l.number ∷ []) × Pushing l.number l.base l.s l.read-iterator.at l.two
