@@ -54,8 +54,12 @@ def renamings(before, after):
 
 
 def followed(text, moved):
-    """A proof's text with the new names."""
-    return WORD.sub(lambda word: moved.get(word[0], word[0]), text)
+    """A proof's text with the new names. A goal of one named clause has the clause's name after its own."""
+    def named(word):
+        goal, *clause = word[0].split('-clause-', 1)
+        return moved.get(word[0]) or '-clause-'.join([moved.get(goal, goal), *clause])
+
+    return WORD.sub(named, text)
 
 
 def files(crate_folder, place):
@@ -84,7 +88,7 @@ def main(args):
             if followed(text, moved) != text:
                 with open(path, 'w', encoding='utf-8') as f:
                     f.write(followed(text, moved))
-                print(f'{place}/{os.path.basename(path)}:', ', '.join(f'{a} is {b}' for a, b in sorted(moved.items()) if re.search(rf"(?<![\w'-]){re.escape(a)}(?![\w'-])", text)))
+                print(f'{place}/{os.path.basename(path)}:', ', '.join(f'{a} is {b}' for a, b in sorted(moved.items()) if re.search(rf"(?<![\w'-]){re.escape(a)}(?=-clause-|(?![\w'-]))", text)))
     return told
 
 

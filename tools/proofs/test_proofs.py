@@ -75,6 +75,7 @@ class Names(unittest.TestCase):
     def test_a_proof_with_other_names(self):
         self.assertEqual(follow.followed('pub a-b : goal.a-b\na-b c = f c.a-b.true (a-b-c c.a) (c.in.a-b)', {'a-b': 'd'}), 'pub d : goal.d\nd c = f c.d.true (a-b-c c.a) (c.in.d)')
         self.assertEqual(follow.followed('x y', {'x': 'y', 'y': 'x'}), 'y x')
+        self.assertEqual(follow.followed('pub a-clause-x : goal.a-clause-x', {'a': 'b'}), 'pub b-clause-x : goal.b-clause-x')
 
 
 class Commands(unittest.TestCase):

@@ -51,10 +51,6 @@ fn fill(d1: &mut [u16], seed: u64) {
     }
 }
 
-fn same(units: &[u16], others: &[u16]) -> bool {
-    units == others
-}
-
 fn checksum(sum: u64, units: &[u16]) -> u64 {
     let mut now = sum;
     for unit in units {
@@ -79,7 +75,7 @@ fn convert(d1: &[u16], units: &mut [u16], back: &mut [u16], tally: Tally) -> Tal
     let old = &units[..length];
     let sum = checksum(tally.sum, old);
     let again = match old_to_new(old, back) {
-        Ok(n) => same(&back[..n], d1),
+        Ok(n) => &back[..n] == d1,
         Err(_) => false,
     };
     Tally {

@@ -1,6 +1,6 @@
 -- Cells and records written, and the room that is left.
 -- Assumes nothing.
-use mathlib.Core.Path.{◌≡◌, refl, ap, sym, subst, ◌∙◌}
+use mathlib.Core.Path.{◌≡◌, refl, ap, sym, ◌∙◌}
 use mathlib.Core.Bool.{Bool, true, false}
 use mathlib.Core.List.{List, [], ◌∷◌, ◌++◌, append-nil}
 use mathlib.Core.Option.{Option, none, some}
@@ -9,12 +9,15 @@ use native.Mathlib.Nat.{add-zero}
 use native.Mathlib.Omega.{arith}
 use lib.ListN.{length, set, length-append}
 use lib.Seq.{sets}
-use Rattle.foundation.specs.Choices.{is_some, if_some, or_else, both_of, All}
+use Rattle.std.specs.Prelude.{Some, None}
+use Rattle.std.specs.declared.option.Option as rust
+use Rattle.std.specs.Option as options
+use Rattle.foundation.specs.Choices.{or_else, both_of, All}
 use Rattle.foundation.specs.Digits.{little}
 use Rattle.foundation.specs.Texts.{Text, ascii}
 use Rattle.foundation.proofs.OverlayLaws.{sets_then}
 use Rattle.characters.specs.Characters.{utf8, utf8_of}
-use Rattle.names.specs.told.Name.{name_text}
+use Rattle.names.specs.told.Name.{named_text, name_text}
 use Rattle.names.specs.told.Stream.{PutText, name_bytes}
 use Rattle.names.specs.declared.name.Name.{Name}
 use Rattle.names.proofs.PresentLaws.{name-most}
@@ -29,50 +32,24 @@ use Rattle.declaration_rows.specs.told.Written.{RecordRoom, cell_limit, signatur
 use Rattle.declaration_rows.specs.declared.SignatureNames.{SignatureNames}
 
 -- A name's text is what is written of it.
-pub name-text : (payload d2 : List ℕ) (n : Name) → name_bytes payload d2 n false ≡ cell_text (name_cell (name_text payload d2 n))
+pub name-text : (payload d2 : List ℕ) (n : Name) → name_bytes payload d2 n false ≡ cell_text (name_cell (some (named_text payload d2 n)))
 unfolding name_bytes
-name-text payload d2 n = go (name_text payload d2 n)
-  where
-    go : (o : Option Text) → (if_some o [] λ t. utf8 t) ≡ cell_text (name_cell o)
-    go none = refl
-    go (some t) = refl
+name-text payload d2 n = refl
 
-absent_text : (o : Option Text) → is_some o ≡ false → cell_text (name_cell o) ≡ []
-absent_text none e = refl
-absent_text (some t) e =
-    let z : ◌≡◌ {A = ℕ} 0 1 = cc in
-    absurd (omega arith)
-
-absent_ref : (at : ℕ) (o : Option Text) → is_some o ≡ false → cell_bytes at (name_cell o) ≡ absent_bytes
-absent_ref at none e = refl
-absent_ref at (some t) e =
-    let z : ◌≡◌ {A = ℕ} 0 1 = cc in
-    absurd (omega arith)
-
-present-ref : (at : ℕ) (o : Option Text) → is_some o ≡ true → cell_bytes at (name_cell o) ≡ present_bytes at (length (cell_text (name_cell o)))
-present-ref at none e =
-    let z : ◌≡◌ {A = ℕ} 0 1 = cc in
-    absurd (omega arith)
-present-ref at (some t) e = refl
-
-pub named_absent : (o : Option Text) (s : State) (S T : List ℕ) {S' : List ℕ} → is_some o ≡ false → S' ≡ sets S s.sheet absent_bytes
-    → PutCells (name_cell o ∷ []) s.types s (record { sheet = s.sheet + 4; text = s.text; types = s.types }) S S' T T
-named_absent o s S T e p =
-    let f = absent_text o e in
-    cell_put (name_cell o) S T (simp (f, add-zero)) (rw (absent_ref s.text o e) p) (rw f)
+pub named_absent : (s : State) (S T : List ℕ) {S' : List ℕ} → S' ≡ sets S s.sheet absent_bytes
+    → PutCells (name_cell none ∷ []) s.types s (record { sheet = s.sheet + 4; text = s.text; types = s.types }) S S' T T
+named_absent s S T p = cell_put (name_cell none) S T (simp add-zero) p refl
 
 module _ (payload d2 : List ℕ) (n : Name) where
-  pub named-present : (s : State) (S T : List ℕ) {S' T' : List ℕ} {next : ℕ} → is_some (name_text payload d2 n) ≡ true
+  pub named-present : (s : State) (S T : List ℕ) {S' T' : List ℕ} {next : ℕ}
       → PutText (name_bytes payload d2 n false) s.text next T T' → S' ≡ sets S s.sheet (present_bytes s.text (next - s.text))
-      → PutCells (name_cell (name_text payload d2 n) ∷ []) s.types s (record { sheet = s.sheet + 4; text = next; types = s.types }) S S' T T'
-  named-present s S T {next = next} e w p =
-      let o = name_text payload d2 n in
+      → PutCells (name_cell (some (named_text payload d2 n)) ∷ []) s.types s (record { sheet = s.sheet + 4; text = next; types = s.types }) S S' T T'
+  named-present s S T {next = next} w p =
+      let c = name_cell (some (named_text payload d2 n)) in
       let f = name-text payload d2 n in
-      let g : next ≡ s.text + length (cell_text (name_cell o)) = w.place ∙ ap (λ (l : List ℕ). s.text + length l) f in
-      let h : next - s.text ≡ length (cell_text (name_cell o)) = omega arith in
-      cell_put (name_cell o) S T (rw g)
-      (p ∙ rw h (ap (sets S s.sheet) (sym (present-ref s.text o e))))
-      (w.written ∙ ap (sets T s.text) f)
+      let g : next ≡ s.text + length (cell_text c) = w.place ∙ ap (λ (l : List ℕ). s.text + length l) f in
+      let h : next - s.text ≡ length (cell_text c) = omega arith in
+      cell_put c S T (rw g) (p ∙ rw h refl) (w.written ∙ ap (sets T s.text) f)
 
   -- A name's text is short, and can be counted.
   pub name-fits : {s : State} → RecordRoom (2 ^ 63) payload d2 s → s.text + length (name_bytes payload d2 n false) < 2 ^ 64
@@ -110,72 +87,26 @@ module _ {b : ℕ} {s s' : State} {S S' T T' : List ℕ} where
   unfolding body_bytes
   kind-sheet k p = put-sheet p
 
+  pub kind-text : (k : ℕ) → PutHead k [] b s s' S S' T T' → s'.text ≡ s.text
+  unfolding body_text
+  kind-text k p = put-text p ∙ add-zero s.text
+
   pub cell-sheet : (c : Cell) → PutCells (c ∷ []) b s s' S S' T T' → s'.sheet ≡ s.sheet + cell_length c
   unfolding body_bytes
   cell-sheet c p = put-sheet p ∙ rw (append-nil, cell-length)
 
--- A signature's cells, if a name is missing, and if both are there.
-unsigned_left : (a b : Option Text) → is_some a ≡ false → signature_cells none ≡ signature_cells (both_of signed a b)
-unsigned_left none b e = refl
-unsigned_left (some t) b e =
+-- A constructor's name, its own or the one that it falls back to.
+pub own_else : (payload d2 : List ℕ) (o : rust.Option Name) (i : Text) → options.is_some o ≡ true → or_else (name_text payload d2 o) (some i) ≡ name_text payload d2 o
+own_else payload d2 None i e =
     let z : ◌≡◌ {A = ℕ} 0 1 = cc in
     absurd (omega arith)
+own_else payload d2 (Some n) i e = refl
 
-unsigned_right : (a b : Option Text) → is_some b ≡ false → signature_cells none ≡ signature_cells (both_of signed a b)
-unsigned_right none b e = refl
-unsigned_right (some t) none e = refl
-unsigned_right (some t) (some u) e =
+pub fallen_else : (payload d2 : List ℕ) (o : rust.Option Name) (i : Text) → options.is_some o ≡ false → or_else (name_text payload d2 o) (some i) ≡ some i
+fallen_else payload d2 None i e = refl
+fallen_else payload d2 (Some n) i e =
     let z : ◌≡◌ {A = ℕ} 0 1 = cc in
     absurd (omega arith)
-
-both-signed : (a b : Option Text) → is_some a ≡ true → is_some b ≡ true → name_cell a ∷ name_cell b ∷ [] ≡ signature_cells (both_of signed a b)
-both-signed none b e f =
-    let z : ◌≡◌ {A = ℕ} 0 1 = cc in
-    absurd (omega arith)
-both-signed (some t) none e f =
-    let z : ◌≡◌ {A = ℕ} 0 1 = cc in
-    absurd (omega arith)
-both-signed (some t) (some u) e f = refl
-
-module _ {b : ℕ} {s s' : State} {S S' T T' : List ℕ} where
-  cells_same : {cs ds : List Cell} → cs ≡ ds → PutCells cs b s s' S S' T T' → PutCells ds b s s' S S' T T'
-  cells_same e p = subst (λ (l : List Cell). PutCells l b s s' S S' T T') e p
-
-  module _ (x y : Option Text) where
-    pub signature-left : is_some x ≡ false → PutCells (signature_cells none) b s s' S S' T T' → PutCells (signature_cells (both_of signed x y)) b s s' S S' T T'
-    signature-left e = cells_same (unsigned_left x y e)
-
-    pub signature-right : is_some y ≡ false → PutCells (signature_cells none) b s s' S S' T T' → PutCells (signature_cells (both_of signed x y)) b s s' S S' T T'
-    signature-right e = cells_same (unsigned_right x y e)
-
-    pub signature-both : {s₁ : State} {S₁ T₁ : List ℕ} → is_some x ≡ true → is_some y ≡ true
-        → PutCells (name_cell x ∷ []) b s s₁ S S₁ T T₁ → PutCells (name_cell y ∷ []) s₁.types s₁ s' S₁ S' T₁ T'
-        → PutCells (signature_cells (both_of signed x y)) b s s' S S' T T'
-    signature-both e f p q = cells_same (both-signed x y e f) (cells_next (name_cell x ∷ []) (name_cell y ∷ []) p q)
-
--- A constructor's signature, its own name or the one that it falls back to.
-own_else : {A : Type 0} (x : Option A) (i : A) → is_some x ≡ true → or_else x (some i) ≡ x
-own_else none i e =
-    let z : ◌≡◌ {A = ℕ} 0 1 = cc in
-    absurd (omega arith)
-own_else (some t) i e = refl
-
-fallen_else : {A : Type 0} (x : Option A) (i : A) → is_some x ≡ false → or_else x (some i) ≡ some i
-fallen_else none i e = refl
-fallen_else (some t) i e =
-    let z : ◌≡◌ {A = ℕ} 0 1 = cc in
-    absurd (omega arith)
-
-module _ {b : ℕ} {s s' : State} {S S' T T' : List ℕ} (x y : Option Text) (i : Text) where
-  pub init-own : is_some x ≡ true → PutCells (signature_cells (both_of signed x y)) b s s' S S' T T'
-      → PutCells (signature_cells (both_of signed (or_else x (some i)) y)) b s s' S S' T T'
-  init-own e = cells_same (ap (λ (o : Option Text). signature_cells (both_of signed o y)) (sym (own_else x i e)))
-
-  pub init-fallen : {s₁ : State} {S₁ T₁ : List ℕ} → is_some x ≡ false → is_some y ≡ true
-      → PutCells (name_cell (some i) ∷ []) b s s₁ S S₁ T T₁ → PutCells (name_cell y ∷ []) s₁.types s₁ s' S₁ S' T₁ T'
-      → PutCells (signature_cells (both_of signed (or_else x (some i)) y)) b s s' S S' T T'
-  init-fallen e f p q =
-      cells_same (ap (λ (o : Option Text). signature_cells (both_of signed o y)) (sym (fallen_else x i e))) (signature-both (some i) y refl f p q)
 
 pub init_put : (s : State) (S T : List ℕ) {S' T' : List ℕ}
     → T' ≡ sets T s.text (ascii "<init>") → S' ≡ sets S s.sheet (present_bytes s.text 6)
@@ -183,29 +114,21 @@ pub init_put : (s : State) (S T : List ℕ) {S' T' : List ℕ}
 unfolding utf8 utf8_of
 init_put s S T p q = cell_put (ref (some (ascii "<init>"))) S T refl q p
 
--- Kind 7: without a descriptor, and around one.
-module _ (s : State) (S T : List ℕ) {s₁ : State} {S₁ S' : List ℕ} (h : PutHead 7 [] s.types s s₁ S S₁ T T) where
-  default-head : (c : Cell) {s' : State} {T' : List ℕ}
-      → s' ≡ record { sheet = s₁.sheet + cell_length c; text = s.text + length (cell_text c); types = s.types }
-      → S' ≡ sets S₁ s₁.sheet (cell_bytes s.text c) → T' ≡ sets T s.text (cell_text c)
-      → PutRows (row 7 (c ∷ []) ∷ []) s.types s s' S S' T T'
-  unfolding body_text
-  default-head c {s'} {T'} e p q =
-      let f : s₁.text ≡ s.text = put-text h ∙ add-zero s.text in
-      row_done 7 (c ∷ [])
-      (head_then 7 [] (c ∷ []) h
-      (cell_put c S₁ T
-      (e ∙ ap (λ (o : ℕ). record { sheet = s₁.sheet + cell_length c; text = o + length (cell_text c); types = s.types }) (sym f))
-      (p ∙ ap (λ (o : ℕ). sets S₁ s₁.sheet (cell_bytes o c)) (sym f))
-      (q ∙ ap (λ (o : ℕ). sets T o (cell_text c)) (sym f))))
-
+-- Kind 7: around no descriptor, and around one that stands where the text ends.
+module _ {s s₁ : State} {S S₁ S' T₀ T₁ : List ℕ} (h : PutHead 7 [] s.types s s₁ S S₁ T₀ T₁) where
   pub default-absent : S' ≡ sets S₁ s₁.sheet absent_bytes
-      → PutRows (row 7 (ref none ∷ []) ∷ []) s.types s (record { sheet = s₁.sheet + 4; text = s.text; types = s.types }) S S' T T
-  default-absent p = default-head (ref none) (simp add-zero) p refl
+      → PutRows (row 7 (ref none ∷ []) ∷ []) s.types s (record { sheet = s₁.sheet + 4; text = s₁.text; types = s₁.types }) S S' T₀ T₁
+  default-absent p = row_done 7 (ref none ∷ []) (head-next 7 [] (ref none ∷ []) h (named_absent s₁ S₁ T₁ p))
 
-  pub default-put : (d : List ℕ) {n : ℕ} {T' : List ℕ} → length d ≡ n → T' ≡ sets T s.text d → S' ≡ sets S₁ s₁.sheet (present_bytes s.text n)
-      → PutRows (row 7 (ref (some d) ∷ []) ∷ []) s.types s (record { sheet = s₁.sheet + 4; text = s.text + n; types = s.types }) S S' T T'
-  default-put d e q p = default-head (ref (some d)) (rw e) (p ∙ rw e) q
+  pub default-put : (d : List ℕ) {n : ℕ} {T : List ℕ} → length d ≡ n → T₀ ≡ sets T s.text d → S' ≡ sets S₁ s₁.sheet (present_bytes s₁.text n)
+      → PutRows (row 7 (ref (some d) ∷ []) ∷ []) s.types s (record { sheet = s₁.sheet + 4; text = s₁.text + n; types = s₁.types }) S S' T T₁
+  unfolding body_text
+  default-put d {T = T} e q p =
+      let c = ref (some d) in
+      let f = kind-text 7 h in
+      let k : PutHead 7 [] s.types s s₁ S S₁ T T = record { state = h.state; sheet = h.sheet; text = refl } in
+      row_done 7 (c ∷ [])
+      (head-next 7 [] (c ∷ []) k (cell_put c S₁ T (rw e) (p ∙ rw e) (h.text ∙ q ∙ ap (λ (o : ℕ). sets T o d) (sym f))))
 
 -- The three counts of kind 1.
 pub counts-put : (o a b c at : ℕ) (S : List ℕ) {S₁ S₂ S₃ : List ℕ} → S₁ ≡ sets S at (little 2 a) → S₂ ≡ sets S₁ (at + 2) (little 2 b)
@@ -266,8 +189,12 @@ module _ {payload d2 : List ℕ} where
     row_room k p = head-room k (put_same p (rw append-nil) (rw append-nil))
 
   -- A name's cell is small.
-  pub name-small : {m : ℕ} {s : State} → RecordRoom m payload d2 s → (n : Name) → Small (name_cell (name_text payload d2 n))
-  name-small r n = omega (arith, name-most payload d2 n 32768 r.payload r.d2 (omega arith) false, ap length (name-text payload d2 n))
+  pub present-small : {m : ℕ} {s : State} → RecordRoom m payload d2 s → (n : Name) → Small (name_cell (some (named_text payload d2 n)))
+  present-small r n = omega (arith, name-most payload d2 n 32768 r.payload r.d2 (omega arith) false, ap length (name-text payload d2 n))
+
+  pub name-small : {m : ℕ} {s : State} → RecordRoom m payload d2 s → (o : rust.Option Name) → Small (name_cell (name_text payload d2 o))
+  name-small r None = omega arith
+  name-small r (Some n) = present-small r n
 
   pub signature-small : {m : ℕ} {s : State} → RecordRoom m payload d2 s → (n : SignatureNames) → All Small (signature_cells (signature_by payload d2 n))
   signature-small r n =
@@ -285,19 +212,19 @@ module _ {payload d2 : List ℕ} where
 
   -- so are all cells of a record
   module _ {m : ℕ} {s : State} (r : RecordRoom m payload d2 s) where
-    pub head_small : (kind : ℕ) (n : Name) (flags : ℕ) → All Small (head_cells kind (name_text payload d2 n) flags)
+    pub head_small : (kind : ℕ) (n : rust.Option Name) (flags : ℕ) → All Small (head_cells kind (name_text payload d2 n) flags)
     head_small kind n flags = (omega arith, (name-small r n, (omega arith, tt)))
 
     pub constructor-small : (flags : ℕ) (n : SignatureNames) → All Small (constructor_cells flags (init_by payload d2 n))
     constructor-small flags n = (omega arith, init-small r n)
 
-    pub function-small : (name : Name) (flags : ℕ) (n : SignatureNames) (receiver : Bool)
+    pub function-small : (name : rust.Option Name) (flags : ℕ) (n : SignatureNames) (receiver : Bool)
         → All Small (function_cells (name_text payload d2 name) flags (signature_by payload d2 n) receiver)
     function-small name flags n receiver =
         let h = signature-small r n in
         (name-small r name, (omega arith, (h.0, (h.1.0, (omega arith, tt)))))
 
-    pub property-small : (name : Name) (flags : ℕ) (receiver getter setter : Bool) (f g h : SignatureNames)
+    pub property-small : (name : rust.Option Name) (flags : ℕ) (receiver getter setter : Bool) (f g h : SignatureNames)
         → All Small
         (property_cells (name_text payload d2 name) flags receiver getter setter (signature_by payload d2 f) (signature_by payload d2 g)
         (signature_by payload d2 h))
@@ -308,5 +235,5 @@ module _ {payload d2 : List ℕ} where
           (omega arith, (omega arith, (omega arith, (omega arith, (p.0, (p.1.0, (q.0, (q.1.0, signature-small r h)))))))),
         )
 
-    pub alias-small : (name : Name) (flags : ℕ) → All Small (alias_cells (name_text payload d2 name) flags)
+    pub alias-small : (name : rust.Option Name) (flags : ℕ) → All Small (alias_cells (name_text payload d2 name) flags)
     alias-small name flags = (name-small r name, (omega arith, tt))

@@ -7,15 +7,16 @@ ghost use Rattle.std.proofs.Math.Option.{none, some};
 ghost use Rattle.std.proofs.lemmas.List.Edits.{sets};
 ghost use Rattle.foundation.specs.Digits.{little};
 ghost use Rattle.foundation.specs.Texts.{ascii};
-ghost use Rattle.names.specs.told.Name.{name_text};
+ghost use Rattle.names.specs.told.Name.{named_text, name_text};
 ghost use Rattle.sheet.specs.Rows.{num, ref, bit, row, body_bytes};
-ghost use Rattle.sheet.specs.told.Put.{PutCells, PutHead, PutRows};
+ghost use Rattle.sheet.specs.told.Put.{PutRows, SameAreas, WroteCells, WroteHead, WroteRows};
 ghost use Rattle.declaration_rows.specs.Rows.{name_cell, signature_cells};
 ghost use Rattle.declaration_rows.specs.told.Written.{RecordRoom, role_number, record_number, signature_by, init_by, head_cells, head_counts, constructor_cells, function_cells, property_flags, property_signatures, property_cells, parameter_cells, alias_cells};
 
-use names::name::{Name, is_there};
+use foundation::Context;
+use names::name::Name;
 use names::stream::put_name;
-use sheet::{State, put, put_absent, put_all, put_bit, put_number, put_ref};
+use sheet::{Output, put, put_absent, put_all, put_bit, put_number, put_ref};
 
 // The role of a type: a return or property type, a receiver, a parameter, a vararg element, an argument, an alias's underlying and its expanded
 // type.
@@ -55,8 +56,8 @@ enum Record {
 // The two names of a signature. It is there if both are.
 #[derive(Clone, Copy)]
 pub struct SignatureNames {
-    pub name: Name,
-    pub descriptor: Name,
+    pub name: Option<Name>,
+    pub descriptor: Option<Name>,
 }
 
 // A property's flags as a number, whether it has a receiver, and whether its getter and its setter are default.
@@ -68,35 +69,32 @@ pub struct PropertyFlags {
     pub setter: bool,
 }
 
+// The cell of a name that is there, and its text.
+fn put_present(context: &Context<'_>, name: Name, out: &mut Output<'_>)
+    requires { RecordRoom (2 ^ 63) context.now.payload.now context.now.d2.now out.old.state }
+    ensures same_areas { SameAreas out.old out.new }
+    ensures written { WroteCells (name_cell (some (named_text context.now.payload.now context.now.d2.now name)) ∷ []) out.old.state.types out.old out.new }
+{
+    let offset = out.state.text;
+    out.state.text = put_name(context, name, false, out.text, offset);
+    let size = out.state.text - offset;
+    put_ref(out.sheet, out.state.sheet, offset as u64, size as u64);
+    out.state.sheet += 4;
+}
+
 // A name's cell and its text; a ref to no text if it is absent.
 // Callers show `RecordRoom`: the records below from their own, type_references from the `Ready` that it requires.
-pub fn put_named(
-    payload: &[u8],
-    d2: &[u16],
-    name: Name,
-    state: State,
-    sheet: &mut [u8],
-    text: &mut [u8],
-) -> State
-    requires { RecordRoom (2 ^ 63) payload.now d2.now state }
-    ensures { PutCells (name_cell (name_text payload.now d2.now name) ∷ []) state.types state result sheet.old sheet.new text.old text.new }
+pub fn put_named(context: &Context<'_>, name: Option<Name>, out: &mut Output<'_>)
+    requires { RecordRoom (2 ^ 63) context.now.payload.now context.now.d2.now out.old.state }
+    ensures same_areas { SameAreas out.old out.new }
+    ensures written { WroteCells (name_cell (name_text context.now.payload.now context.now.d2.now name) ∷ []) out.old.state.types out.old out.new }
 {
-    let at = state.sheet;
-    let offset = state.text;
-    if !is_there(name) {
-        put_absent(sheet, at);
-        return State {
-            sheet: at + 4,
-            ..state
-        };
-    }
-    let next = put_name(payload, d2, name, false, text, offset);
-    put_ref(sheet, at, offset as u64, (next - offset) as u64);
-    State {
-        sheet: at + 4,
-        text: next,
-        ..state
-    }
+    let Some(name) = name else {
+        put_absent(out.sheet, out.state.sheet);
+        out.state.sheet += 4;
+        return;
+    };
+    put_present(context, name, out);
 }
 
 fn number_of(kind: Record) -> u8
@@ -106,315 +104,256 @@ fn number_of(kind: Record) -> u8
 }
 
 // A record begins: its kind.
-fn put_kind(kind: Record, state: State, sheet: &mut [u8]) -> State
-    requires { state.sheet ≤ 2 ^ 63 }
-    ensures { (T : List ℕ) → PutHead (record_number kind) [] state.types state result sheet.old sheet.new T T }
+fn put_kind(kind: Record, out: &mut Output<'_>)
+    requires { out.old.state.sheet ≤ 2 ^ 63 }
+    ensures same_areas { SameAreas out.old out.new }
+    ensures written { WroteHead (record_number kind) [] out.old.state.types out.old out.new }
 {
-    let at = state.sheet;
-    put(sheet, at, number_of(kind));
-    State {
-        sheet: at + 1,
-        ..state
-    }
+    put(out.sheet, out.state.sheet, number_of(kind));
+    out.state.sheet += 1;
 }
 
 // A number in `width` bytes, 8 at most.
-fn put_wide(width: usize, n: u64, state: State, sheet: &mut [u8]) -> State
-    requires { (width ≤ 8) × (state.sheet ≤ 2 ^ 63) }
-    ensures { (T : List ℕ) → PutCells (num width n ∷ []) state.types state result sheet.old sheet.new T T }
+fn put_wide(width: usize, n: u64, out: &mut Output<'_>)
+    requires { (width ≤ 8) × (out.old.state.sheet ≤ 2 ^ 63) }
+    ensures same_areas { SameAreas out.old out.new }
+    ensures written { WroteCells (num width n ∷ []) out.old.state.types out.old out.new }
 {
-    let at = state.sheet;
-    put_number(sheet, at, width, n);
-    State {
-        sheet: at + width,
-        ..state
-    }
+    put_number(out.sheet, out.state.sheet, width, n);
+    out.state.sheet += width;
 }
 
 // 0 or 1: a cell of a record, where `put_kind` begins one.
-fn put_flag(on: bool, state: State, sheet: &mut [u8]) -> State
-    requires { state.sheet ≤ 2 ^ 63 }
-    ensures { (T : List ℕ) → PutCells (bit on ∷ []) state.types state result sheet.old sheet.new T T }
+fn put_flag(on: bool, out: &mut Output<'_>)
+    requires { out.old.state.sheet ≤ 2 ^ 63 }
+    ensures same_areas { SameAreas out.old out.new }
+    ensures written { WroteCells (bit on ∷ []) out.old.state.types out.old out.new }
 {
-    let at = state.sheet;
-    put_bit(sheet, at, on);
-    State {
-        sheet: at + 1,
-        ..state
-    }
+    put_bit(out.sheet, out.state.sheet, on);
+    out.state.sheet += 1;
 }
 
 // No signature: two refs to no text.
-fn put_unsigned(state: State, sheet: &mut [u8]) -> State
-    requires { state.sheet ≤ 2 ^ 63 }
-    ensures { (T : List ℕ) → PutCells (signature_cells none) state.types state result sheet.old sheet.new T T }
+fn put_unsigned(out: &mut Output<'_>)
+    requires { out.old.state.sheet ≤ 2 ^ 63 }
+    ensures same_areas { SameAreas out.old out.new }
+    ensures written { WroteCells (signature_cells none) out.old.state.types out.old out.new }
 {
-    let at = state.sheet;
-    put_absent(sheet, at);
-    put_absent(sheet, at + 4);
-    State {
-        sheet: at + 8,
-        ..state
-    }
+    put_absent(out.sheet, out.state.sheet);
+    put_absent(out.sheet, out.state.sheet + 4);
+    out.state.sheet += 8;
 }
 
 // A signature's two cells, absent together.
-fn put_signature(
-    payload: &[u8],
-    d2: &[u16],
-    signature: SignatureNames,
-    state: State,
-    sheet: &mut [u8],
-    text: &mut [u8],
-) -> State
-    requires { RecordRoom (2 ^ 62) payload.now d2.now state }
-    ensures { PutCells (signature_cells (signature_by payload.now d2.now signature)) state.types state result sheet.old sheet.new text.old text.new }
+fn put_signature(context: &Context<'_>, signature: SignatureNames, out: &mut Output<'_>)
+    requires { RecordRoom (2 ^ 62) context.now.payload.now context.now.d2.now out.old.state }
+    ensures same_areas { SameAreas out.old out.new }
+    ensures written { WroteCells (signature_cells (signature_by context.now.payload.now context.now.d2.now signature)) out.old.state.types out.old out.new }
 {
-    let name = signature.name;
-    let descriptor = signature.descriptor;
-    if !is_there(name) {
-        return put_unsigned(state, sheet);
-    }
-    if !is_there(descriptor) {
-        return put_unsigned(state, sheet);
-    }
-    let next = put_named(payload, d2, name, state, sheet, text);
-    put_named(payload, d2, descriptor, next, sheet, text)
+    let (Some(name), Some(descriptor)) = (signature.name, signature.descriptor) else {
+        put_unsigned(out);
+        return;
+    };
+    put_present(context, name, out);
+    put_present(context, descriptor, out);
 }
 
 // The name of a constructor whose signature has none.
-fn put_init(state: State, sheet: &mut [u8], text: &mut [u8]) -> State
-    requires { state.sheet + state.text ≤ 2 ^ 63 }
-    ensures { PutCells (name_cell (some (ascii "<init>")) ∷ []) state.types state result sheet.old sheet.new text.old text.new }
+fn put_init(out: &mut Output<'_>)
+    requires { out.old.state.sheet + out.old.state.text ≤ 2 ^ 63 }
+    ensures same_areas { SameAreas out.old out.new }
+    ensures written { WroteCells (name_cell (some (ascii "<init>")) ∷ []) out.old.state.types out.old out.new }
 {
-    let at = state.sheet;
-    let offset = state.text;
-    put_all(text, offset, b"<init>");
-    put_ref(sheet, at, offset as u64, 6);
-    State {
-        sheet: at + 4,
-        text: offset + 6,
-        ..state
-    }
+    put_all(out.text, out.state.text, b"<init>");
+    put_ref(out.sheet, out.state.sheet, out.state.text as u64, 6);
+    out.state.sheet += 4;
+    out.state.text += 6;
 }
 
 // A constructor's signature, absent without a descriptor.
-fn put_init_signature(
-    payload: &[u8],
-    d2: &[u16],
-    signature: SignatureNames,
-    state: State,
-    sheet: &mut [u8],
-    text: &mut [u8],
-) -> State
-    requires { RecordRoom (2 ^ 62) payload.now d2.now state }
-    ensures { PutCells (signature_cells (init_by payload.now d2.now signature)) state.types state result sheet.old sheet.new text.old text.new }
+fn put_init_signature(context: &Context<'_>, signature: SignatureNames, out: &mut Output<'_>)
+    requires { RecordRoom (2 ^ 62) context.now.payload.now context.now.d2.now out.old.state }
+    ensures same_areas { SameAreas out.old out.new }
+    ensures written { WroteCells (signature_cells (init_by context.now.payload.now context.now.d2.now signature)) out.old.state.types out.old out.new }
 {
-    let name = signature.name;
-    let descriptor = signature.descriptor;
-    if is_there(name) {
-        return put_signature(payload, d2, signature, state, sheet, text);
+    if signature.name.is_some() {
+        put_signature(context, signature, out);
+        return;
     }
-    if !is_there(descriptor) {
-        return put_unsigned(state, sheet);
-    }
-    let next = put_init(state, sheet, text);
-    put_named(payload, d2, descriptor, next, sheet, text)
+    let Some(descriptor) = signature.descriptor else {
+        put_unsigned(out);
+        return;
+    };
+    put_init(out);
+    put_present(context, descriptor, out);
 }
 
 // Kind 2, up to the parameter count.
 // Callers show `RecordRoom`: members::callables from the `Affords` that it requires.
 pub fn put_constructor(
-    payload: &[u8],
-    d2: &[u16],
+    context: &Context<'_>,
     flags: u64,
     signature: SignatureNames,
-    state: State,
-    sheet: &mut [u8],
-    text: &mut [u8],
-) -> State
-    requires { RecordRoom (2 ^ 61) payload.now d2.now state }
-    ensures { PutHead 2 (constructor_cells flags (init_by payload.now d2.now signature)) state.types state result sheet.old sheet.new text.old text.new }
+    out: &mut Output<'_>,
+)
+    requires { RecordRoom (2 ^ 61) context.now.payload.now context.now.d2.now out.old.state }
+    ensures same_areas { SameAreas out.old out.new }
+    ensures written { WroteHead 2 (constructor_cells flags (init_by context.now.payload.now context.now.d2.now signature)) out.old.state.types out.old out.new }
 {
-    let begun = put_kind(Record::Constructor, state, sheet);
-    let flagged = put_wide(8, flags, begun, sheet);
-    put_init_signature(payload, d2, signature, flagged, sheet, text)
+    put_kind(Record::Constructor, out);
+    put_wide(8, flags, out);
+    put_init_signature(context, signature, out);
 }
 
 // Kind 3, up to the parameter count.
 // Callers show `RecordRoom`: members::callables from the `Affords` that it requires.
 pub fn put_function(
-    payload: &[u8],
-    d2: &[u16],
-    name: Name,
+    context: &Context<'_>,
+    name: Option<Name>,
     flags: u64,
     signature: SignatureNames,
     receiver: bool,
-    state: State,
-    sheet: &mut [u8],
-    text: &mut [u8],
-) -> State
-    requires { RecordRoom (2 ^ 61) payload.now d2.now state }
-    ensures { PutHead 3 (function_cells (name_text payload.now d2.now name) flags (signature_by payload.now d2.now signature) receiver) state.types state result sheet.old sheet.new text.old text.new }
+    out: &mut Output<'_>,
+)
+    requires { RecordRoom (2 ^ 61) context.now.payload.now context.now.d2.now out.old.state }
+    ensures same_areas { SameAreas out.old out.new }
+    ensures written { WroteHead 3 (function_cells (name_text context.now.payload.now context.now.d2.now name) flags (signature_by context.now.payload.now context.now.d2.now signature) receiver) out.old.state.types out.old out.new }
 {
-    let begun = put_kind(Record::Function, state, sheet);
-    let named = put_named(payload, d2, name, begun, sheet, text);
-    let flagged = put_wide(8, flags, named, sheet);
-    let signed = put_signature(payload, d2, signature, flagged, sheet, text);
-    put_flag(receiver, signed, sheet)
+    put_kind(Record::Function, out);
+    put_named(context, name, out);
+    put_wide(8, flags, out);
+    put_signature(context, signature, out);
+    put_flag(receiver, out);
 }
 
 // The cells of a property's flags.
-fn put_property_flags(flags: PropertyFlags, state: State, sheet: &mut [u8]) -> State
-    requires { state.sheet ≤ 2 ^ 62 }
-    ensures { (T : List ℕ) → PutCells (property_flags flags.word flags.receiver flags.getter flags.setter) state.types state result sheet.old sheet.new T T }
+fn put_property_flags(flags: PropertyFlags, out: &mut Output<'_>)
+    requires { out.old.state.sheet ≤ 2 ^ 62 }
+    ensures same_areas { SameAreas out.old out.new }
+    ensures written { WroteCells (property_flags flags.word flags.receiver flags.getter flags.setter) out.old.state.types out.old out.new }
 {
-    let flagged = put_wide(8, flags.word, state, sheet);
-    let received = put_flag(flags.receiver, flagged, sheet);
-    let got = put_flag(flags.getter, received, sheet);
-    put_flag(flags.setter, got, sheet)
+    put_wide(8, flags.word, out);
+    put_flag(flags.receiver, out);
+    put_flag(flags.getter, out);
+    put_flag(flags.setter, out);
 }
 
 // Field, getter and setter of a property.
 fn put_property_signatures(
-    payload: &[u8],
-    d2: &[u16],
+    context: &Context<'_>,
     field: SignatureNames,
     getter: SignatureNames,
     setter: SignatureNames,
-    state: State,
-    sheet: &mut [u8],
-    text: &mut [u8],
-) -> State
-    requires { RecordRoom (2 ^ 61 + 2 ^ 60) payload.now d2.now state }
-    ensures { PutCells (property_signatures (signature_by payload.now d2.now field) (signature_by payload.now d2.now getter) (signature_by payload.now d2.now setter)) state.types state result sheet.old sheet.new text.old text.new }
+    out: &mut Output<'_>,
+)
+    requires { RecordRoom (2 ^ 61 + 2 ^ 60) context.now.payload.now context.now.d2.now out.old.state }
+    ensures same_areas { SameAreas out.old out.new }
+    ensures written { WroteCells (property_signatures (signature_by context.now.payload.now context.now.d2.now field) (signature_by context.now.payload.now context.now.d2.now getter) (signature_by context.now.payload.now context.now.d2.now setter)) out.old.state.types out.old out.new }
 {
-    let first = put_signature(payload, d2, field, state, sheet, text);
-    let second = put_signature(payload, d2, getter, first, sheet, text);
-    put_signature(payload, d2, setter, second, sheet, text)
+    put_signature(context, field, out);
+    put_signature(context, getter, out);
+    put_signature(context, setter, out);
 }
 
 // Kind 4, whole.
 // Callers show `RecordRoom`: members::properties from the `Affords` that it requires.
 pub fn put_property(
-    payload: &[u8],
-    d2: &[u16],
-    name: Name,
+    context: &Context<'_>,
+    name: Option<Name>,
     flags: PropertyFlags,
     field: SignatureNames,
     getter: SignatureNames,
     setter: SignatureNames,
-    state: State,
-    sheet: &mut [u8],
-    text: &mut [u8],
-) -> State
-    requires { RecordRoom (2 ^ 61) payload.now d2.now state }
-    ensures { PutRows (row 4 (property_cells (name_text payload.now d2.now name) flags.word flags.receiver flags.getter flags.setter (signature_by payload.now d2.now field) (signature_by payload.now d2.now getter) (signature_by payload.now d2.now setter)) ∷ []) state.types state result sheet.old sheet.new text.old text.new }
+    out: &mut Output<'_>,
+)
+    requires { RecordRoom (2 ^ 61) context.now.payload.now context.now.d2.now out.old.state }
+    ensures same_areas { SameAreas out.old out.new }
+    ensures written { WroteRows (row 4 (property_cells (name_text context.now.payload.now context.now.d2.now name) flags.word flags.receiver flags.getter flags.setter (signature_by context.now.payload.now context.now.d2.now field) (signature_by context.now.payload.now context.now.d2.now getter) (signature_by context.now.payload.now context.now.d2.now setter)) ∷ []) out.old.state.types out.old out.new }
 {
-    let begun = put_kind(Record::Property, state, sheet);
-    let named = put_named(payload, d2, name, begun, sheet, text);
-    let flagged = put_property_flags(flags, named, sheet);
-    put_property_signatures(payload, d2, field, getter, setter, flagged, sheet, text)
+    put_kind(Record::Property, out);
+    put_named(context, name, out);
+    put_property_flags(flags, out);
+    put_property_signatures(context, field, getter, setter, out);
 }
 
 // Kind 5, whole.
 // Callers show `RecordRoom`: members::parameters from the `Affords` that it requires.
-pub fn put_parameter(
-    payload: &[u8],
-    d2: &[u16],
-    name: Name,
-    default: bool,
-    state: State,
-    sheet: &mut [u8],
-    text: &mut [u8],
-) -> State
-    requires { RecordRoom (2 ^ 61) payload.now d2.now state }
-    ensures { PutRows (row 5 (parameter_cells (name_text payload.now d2.now name) default) ∷ []) state.types state result sheet.old sheet.new text.old text.new }
+pub fn put_parameter(context: &Context<'_>, name: Option<Name>, default: bool, out: &mut Output<'_>)
+    requires { RecordRoom (2 ^ 61) context.now.payload.now context.now.d2.now out.old.state }
+    ensures same_areas { SameAreas out.old out.new }
+    ensures written { WroteRows (row 5 (parameter_cells (name_text context.now.payload.now context.now.d2.now name) default) ∷ []) out.old.state.types out.old out.new }
 {
-    let begun = put_kind(Record::Parameter, state, sheet);
-    let named = put_named(payload, d2, name, begun, sheet, text);
-    put_flag(default, named, sheet)
+    put_kind(Record::Parameter, out);
+    put_named(context, name, out);
+    put_flag(default, out);
 }
 
 // Kind 8, whole.
 // Callers show `RecordRoom`: members::aliases from the `Affords` that it requires.
-pub fn put_alias(
-    payload: &[u8],
-    d2: &[u16],
-    name: Name,
-    flags: u64,
-    state: State,
-    sheet: &mut [u8],
-    text: &mut [u8],
-) -> State
-    requires { RecordRoom (2 ^ 61) payload.now d2.now state }
-    ensures { PutRows (row 8 (alias_cells (name_text payload.now d2.now name) flags) ∷ []) state.types state result sheet.old sheet.new text.old text.new }
+pub fn put_alias(context: &Context<'_>, name: Option<Name>, flags: u64, out: &mut Output<'_>)
+    requires { RecordRoom (2 ^ 61) context.now.payload.now context.now.d2.now out.old.state }
+    ensures same_areas { SameAreas out.old out.new }
+    ensures written { WroteRows (row 8 (alias_cells (name_text context.now.payload.now context.now.d2.now name) flags) ∷ []) out.old.state.types out.old out.new }
 {
-    let begun = put_kind(Record::Alias, state, sheet);
-    let named = put_named(payload, d2, name, begun, sheet, text);
-    put_wide(8, flags, named, sheet)
+    put_kind(Record::Alias, out);
+    put_named(context, name, out);
+    put_wide(8, flags, out);
 }
 
 // Kind 9, up to the count of aliases.
 // Callers show that the place after it can be counted: declarations::body from the `Affords` that it requires; metadata has written a head alone.
-pub fn put_aliases(state: State, sheet: &mut [u8]) -> State
-    requires { state.sheet ≤ 2 ^ 61 }
-    ensures { (T : List ℕ) → PutHead 9 [] state.types state result sheet.old sheet.new T T }
+pub fn put_aliases(out: &mut Output<'_>)
+    requires { out.old.state.sheet ≤ 2 ^ 61 }
+    ensures same_areas { SameAreas out.old out.new }
+    ensures written { WroteHead 9 [] out.old.state.types out.old out.new }
 {
-    put_kind(Record::Aliases, state, sheet)
+    put_kind(Record::Aliases, out);
 }
 
 // Kind 7 for a constructor or function without a default descriptor.
 // Callers show that the place after it can be counted: members::closed from the `Affords` that it requires.
-pub fn put_default_absent(state: State, sheet: &mut [u8]) -> State
-    requires { state.sheet ≤ 2 ^ 61 }
-    ensures { (T : List ℕ) → PutRows (row 7 (ref none ∷ []) ∷ []) state.types state result sheet.old sheet.new T T }
+pub fn put_default_absent(out: &mut Output<'_>)
+    requires { out.old.state.sheet ≤ 2 ^ 61 }
+    ensures same_areas { SameAreas out.old out.new }
+    ensures written { WroteRows (row 7 (ref none ∷ []) ∷ []) out.old.state.types out.old out.new }
 {
-    let begun = put_kind(Record::Default, state, sheet);
-    let at = begun.sheet;
-    put_absent(sheet, at);
-    State {
-        sheet: at + 4,
-        ..state
-    }
+    put_kind(Record::Default, out);
+    put_absent(out.sheet, out.state.sheet);
+    out.state.sheet += 4;
 }
 
-// Kind 7 around a descriptor of `size` bytes that is written where the text ends.
+// Kind 7 around a descriptor of `size` bytes that is already written where the text ends.
 // Callers show that both places after it can be counted: members::closed from the `Affords` that it requires.
-pub fn put_default(size: usize, state: State, sheet: &mut [u8]) -> State
-    requires { state.sheet + state.text + size ≤ 2 ^ 61 }
-    ensures { (d T T' : List ℕ) → length d ≡ size → T' ≡ sets T state.text d → PutRows (row 7 (ref (some d) ∷ []) ∷ []) state.types state result sheet.old sheet.new T T' }
+pub fn put_default(size: usize, out: &mut Output<'_>)
+    requires { out.old.state.sheet + out.old.state.text + size ≤ 2 ^ 61 }
+    ensures same_areas { SameAreas out.old out.new }
+    ensures written { (d T : List ℕ) → length d ≡ size → out.old.text.now ≡ sets T out.old.state.text d → PutRows (row 7 (ref (some d) ∷ []) ∷ []) out.old.state.types out.old.state out.new.state out.old.sheet.now out.new.sheet.now T out.new.text.now }
 {
-    let begun = put_kind(Record::Default, state, sheet);
-    let at = begun.sheet;
-    let offset = state.text;
-    put_ref(sheet, at, offset as u64, size as u64);
-    State {
-        sheet: at + 4,
-        text: offset + size,
-        ..state
-    }
+    put_kind(Record::Default, out);
+    let offset = out.state.text;
+    put_ref(out.sheet, out.state.sheet, offset as u64, size as u64);
+    out.state.sheet += 4;
+    out.state.text += size;
 }
 
-// Kind 1, up to the counts of constructors, functions and properties.
+// Kind 1, up to the counts of constructors, functions and properties. `kind` is the metadata kind's number, as it is written; the enum of kinds is
+// inputs', which stands above.
 // Callers show `RecordRoom`: declarations::body from the `Affords` that it requires; metadata has an empty payload and begins at places 0.
 pub fn put_head(
-    payload: &[u8],
-    d2: &[u16],
+    context: &Context<'_>,
     kind: u8,
-    name: Name,
+    name: Option<Name>,
     flags: u64,
-    state: State,
-    sheet: &mut [u8],
-    text: &mut [u8],
-) -> State
-    requires { RecordRoom (2 ^ 61) payload.now d2.now state }
-    ensures { PutHead 1 (head_cells kind (name_text payload.now d2.now name) flags) state.types state result sheet.old sheet.new text.old text.new }
+    out: &mut Output<'_>,
+)
+    requires { RecordRoom (2 ^ 61) context.now.payload.now context.now.d2.now out.old.state }
+    ensures same_areas { SameAreas out.old out.new }
+    ensures written { WroteHead 1 (head_cells kind (name_text context.now.payload.now context.now.d2.now name) flags) out.old.state.types out.old out.new }
 {
-    let begun = put_kind(Record::Head, state, sheet);
-    let told = put_wide(1, kind as u64, begun, sheet);
-    let named = put_named(payload, d2, name, told, sheet, text);
-    put_wide(8, flags, named, sheet)
+    put_kind(Record::Head, out);
+    put_wide(1, kind as u64, out);
+    put_named(context, name, out);
+    put_wide(8, flags, out);
 }
 
 // A count, once what it counts is written.

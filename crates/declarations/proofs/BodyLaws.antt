@@ -3,7 +3,7 @@
 use mathlib.Core.Path.{◌≡◌, refl, ap, sym, subst, ◌∙◌}
 use mathlib.Core.Bool.{Bool, true, false}
 use mathlib.Core.List.{List, [], ◌∷◌, ◌++◌, map}
-use mathlib.Core.Option.{Option, none}
+use mathlib.Core.Option.{none}
 use Prim.Native.Nat.{ℕ, ◌+◌, ◌^◌, ◌≤◌}
 use native.Mathlib.Nat.{add_assoc}
 use native.Mathlib.Omega.{arith}
@@ -13,11 +13,12 @@ use lib.Seq.{sets}
 use Rattle.foundation.specs.Choices.{concat}
 use Rattle.foundation.specs.Digits.{little}
 use Rattle.foundation.specs.Results.{ok, ◌from◌}
-use Rattle.foundation.specs.Texts.{Text}
 use Rattle.fields.specs.Fields.{Class-flags, Class-fq_name, Class-constructor}
 use Rattle.wire.specs.Wire.{Message, cut}
-use Rattle.names.specs.told.Name.{source_text, name_text, absent_name}
+use Rattle.names.specs.told.Name.{name_text}
 use Rattle.names.specs.declared.name.Name.{Name}
+use Rattle.std.specs.declared.option.Option as rust
+use Rattle.std.specs.declared.option.Option.TheVariants.{None}
 use Rattle.sheet.specs.Rows.{Row, row, sheet_from, texts, body_bytes}
 use Rattle.sheet.specs.told.Put.{PutHead, PutRows, past}
 use Rattle.sheet.specs.declared.State.{State}
@@ -43,39 +44,34 @@ use Rattle.declarations.specs.told.BodyTold.{head_cost, list_cost, aliases_cost,
 use Rattle.declarations.specs.declared.body.Sections.{Sections}
 use Rattle.std.proofs.Common.{Ok, Err}
 
-pub no_name : (payload d2 : List ℕ) → name_text payload d2 absent_name ≡ none
-unfolding name_text source_text
-no_name payload d2 = refl
-
 -- The head.
-module _ (kind : ℕ) (payload d2 ends notes : List ℕ) (records : ℕ) (msg : List ℕ) (base : ℕ) {s s' : State} {S S' T T' : List ℕ}
-    (a : Affords payload d2 head_cost s) where
-  head-spent : (n : Name) (flags : ℕ) → PutHead 1 (head_cells kind (name_text payload d2 n) flags) s.types s s' S S' T T' → Within head_cost s s'
+module _ (kind : ℕ) (e : Lent) (msg : List ℕ) (base : ℕ) {s s' : State} {S S' T T' : List ℕ} (a : Affords e head_cost s) where
+  head-spent : (n : rust.Option Name) (flags : ℕ) → PutHead 1 (head_cells kind (name_text e.payload e.d2 n) flags) s.types s s' S S' T T' → Within head_cost s s'
   head-spent n flags p =
-      within_less head_cost (omega arith) (head-within a (head_cells kind (name_text payload d2 n) flags) (head_small (affords-places a) kind n flags) 1 p)
+      within_less head_cost (omega arith) (head-within a (head_cells kind (name_text e.payload e.d2 n) flags) (head_small (affords-places a) kind n flags) 1 p)
 
-  pub head-package : (n : Name) → eqb kind 1 ≡ false → n ≡ absent_name → PutHead 1 (head_cells kind (name_text payload d2 n) 6) s.types s s' S S' T T'
-      → BodyHead kind payload d2 ends notes records msg base s s' S S' T T'
-  head-package n g q p = record {
+  pub head-package : eqb kind 1 ≡ false → PutHead 1 (head_cells kind none 6) s.types s s' S S' T T'
+      → BodyHead kind e msg base s s' S S' T T'
+  head-package g p = record {
     name = none;
     flags = 6;
-    put = subst (λ (o : Option Text). PutHead 1 (head_cells kind o 6) s.types s s' S S' T T') (ap (name_text payload d2) q ∙ no_name payload d2) p;
-    spends = head-spent n 6 p;
-    is = λ c w m e l. rw g;
+    put = p;
+    spends = head-spent None 6 p;
+    is = λ c w m f l. rw g;
   }
 
-  pub head-class : (n : Name) (flags : ℕ) → eqb kind 1 ≡ true
+  pub head-class : (n : rust.Option Name) (flags : ℕ) → eqb kind 1 ≡ true
       → ((m : Message) → cut (◌from◌ base msg) ≡ ok m → flags_in Class-flags m ≡ flags)
-      → ((c : Scope) → NamesOf payload d2 ends notes records c.names → (m : Message) → cut (◌from◌ base msg) ≡ ok m → (l : ℕ)
-      → class_name_in c Class-fq_name m l ≡ ok (name_text payload d2 n, l))
-      → PutHead 1 (head_cells kind (name_text payload d2 n) flags) s.types s s' S S' T T'
-      → BodyHead kind payload d2 ends notes records msg base s s' S S' T T'
+      → ((c : Scope) → NamesOf e.payload e.d2 e.ends e.notes e.tables.records c.names → (m : Message) → cut (◌from◌ base msg) ≡ ok m → (l : ℕ)
+      → class_name_in c Class-fq_name m l ≡ ok (name_text e.payload e.d2 n, l))
+      → PutHead 1 (head_cells kind (name_text e.payload e.d2 n) flags) s.types s s' S S' T T'
+      → BodyHead kind e msg base s s' S S' T T'
   head-class n flags g f h p = record {
-    name = name_text payload d2 n;
+    name = name_text e.payload e.d2 n;
     flags = flags;
     put = p;
     spends = head-spent n flags p;
-    is = λ c w m e l. rw (g, h c w m e l, f m e);
+    is = λ c w m i l. rw (g, h c w m i l, f m i);
   }
 
 -- The constructors.
@@ -97,32 +93,32 @@ module _ (e : Lent) (msg : List ℕ) (base : ℕ) (class : Bool) (s : State) (S 
   }
 
 -- What can be afforded for each list, and where the head ends.
-module _ {payload d2 : List ℕ} (n : ℕ) {s : State} where
-  module _ (a : Affords payload d2 (lists_cost n) s) where
-    pub first-affords : Affords payload d2 (list_cost n) s
+module _ {e : Lent} (n : ℕ) {s : State} where
+  module _ (a : Affords e (lists_cost n) s) where
+    pub first-affords : Affords e (list_cost n) s
     first-affords = affords-less a (list_cost n) (omega arith)
 
     module _ {s₁ : State} (p : Within (list_cost n) s s₁) where
-      pub second-affords : Affords payload d2 (list_cost n) s₁
+      pub second-affords : Affords e (list_cost n) s₁
       second-affords = affords-after a (list_cost n) p (omega arith)
 
       module _ {s₂ : State} (q : Within (list_cost n) s₁ s₂) where
-        pub third-affords : Affords payload d2 (list_cost n) s₂
+        pub third-affords : Affords e (list_cost n) s₂
         third-affords = affords-after a (list_cost n) (within_then p q) (omega arith)
 
-        pub last-affords : {s₃ : State} → Within (list_cost n) s₂ s₃ → Affords payload d2 (aliases_cost n) s₃
+        pub last-affords : {s₃ : State} → Within (list_cost n) s₂ s₃ → Affords e (aliases_cost n) s₃
         last-affords r = affords-after a (aliases_cost n) (within_then (within_then p q) r) (omega arith)
 
   -- kind 9, and then the aliases
-  module _ (a : Affords payload d2 (aliases_cost n) s) where
+  module _ (a : Affords e (aliases_cost n) s) where
     pub kind-affords : s.sheet ≤ 2 ^ 61
     kind-affords = let r = a.room in omega arith
 
-    module _ {s₁ : State} {S S₁ T : List ℕ} (p : PutHead 9 [] s.types s s₁ S S₁ T T) where
+    module _ {s₁ : State} {S S₁ T T₁ : List ℕ} (p : PutHead 9 [] s.types s s₁ S S₁ T T₁) where
       kind-within : Within 3 s (past 2 s₁)
       kind-within = within_less 3 (omega arith) (within_then (head-within a [] tt 9 p) (past-within 2 s₁))
 
-      pub aliases-affords : Affords payload d2 (list_cost n) (past 2 s₁)
+      pub aliases-affords : Affords e (list_cost n) (past 2 s₁)
       aliases-affords = affords-after a (list_cost n) kind-within (omega arith)
 
       pub kind-ends : s₁.sheet + 2 ≤ 2 ^ 61
@@ -131,12 +127,12 @@ module _ {payload d2 : List ℕ} (n : ℕ) {s : State} where
       pub aliases-within : {s₂ : State} → Within (list_cost n) (past 2 s₁) s₂ → Within (aliases_cost n) s s₂
       aliases-within q = within_less (aliases_cost n) (omega arith) (within_then kind-within q)
 
-  module _ (a : Affords payload d2 (body_cost n) s) where
-    pub head-affords : Affords payload d2 head_cost s
+  module _ (a : Affords e (body_cost n) s) where
+    pub head-affords : Affords e head_cost s
     head-affords = affords-less a head_cost (omega arith)
 
     module _ {s₁ : State} (p : Within head_cost s s₁) where
-      pub lists-affords : Affords payload d2 (lists_cost n) (past 6 s₁)
+      pub lists-affords : Affords e (lists_cost n) (past 6 s₁)
       lists-affords = affords-after a (lists_cost n) (within_then p (past-within 6 s₁)) (omega arith)
 
       pub head-ends : s₁.sheet + 6 ≤ 2 ^ 61
@@ -156,22 +152,22 @@ reached_then rs qs {s} p q = record {
 }
 
 -- The aliases: kind 9, the list, and then its count.
-module _ {payload d2 : List ℕ} (e : Lent) (msg : List ℕ) (base : ℕ) (class : Bool) {s s₁ : State} {S S₁ T : List ℕ}
-    (a : Affords payload d2 (aliases_cost (length msg)) s) (p : PutHead 9 [] s.types s s₁ S S₁ T T)
+module _ (e : Lent) (msg : List ℕ) (base : ℕ) (class : Bool) {s s₁ : State} {S S₁ T T₁ : List ℕ}
+    (a : Affords e (aliases_cost (length msg)) s) (p : PutHead 9 [] s.types s s₁ S S₁ T T₁)
     (F : ℕ) (u : F ≡ alias_field class) where
-  listed-is : {y : ListWalked} {S₂ T₂ : List ℕ} → ListTold alias_in alias_rows (list_cost (length msg)) e msg base F (past 2 s₁) y S₁ S₂ T T₂
+  listed-is : {y : ListWalked} {S₂ T₂ : List ℕ} → ListTold alias_in alias_rows (list_cost (length msg)) e msg base F (past 2 s₁) y S₁ S₂ T₁ T₂
       → (c : Scope) → Scoped e c → (m : Message) → cut (◌from◌ base msg) ≡ ok m
-      → ListedTold (list_in (alias_in c) (alias_field class) m s.types) alias_rows (past 2 s₁) y S₁ S₂ T T₂
+      → ListedTold (list_in (alias_in c) (alias_field class) m s.types) alias_rows (past 2 s₁) y S₁ S₂ T₁ T₂
   listed-is {y} {S₂} {T₂} t c w m f =
-      subst (λ (k : ℕ). ListedTold (list_in (alias_in c) k m s.types) alias_rows (past 2 s₁) y S₁ S₂ T T₂) u
-      (subst (λ (b : ℕ). ListedTold (list_in (alias_in c) F m b) alias_rows (past 2 s₁) y S₁ S₂ T T₂) (put-types p) (t.is c w m f))
+      subst (λ (k : ℕ). ListedTold (list_in (alias_in c) k m s.types) alias_rows (past 2 s₁) y S₁ S₂ T₁ T₂) u
+      (subst (λ (b : ℕ). ListedTold (list_in (alias_in c) F m b) alias_rows (past 2 s₁) y S₁ S₂ T₁ T₂) (put-types p) (t.is c w m f))
 
   pub aliases-refused : {stop : Stop} {S₂ T₂ : List ℕ}
-      → ListTold alias_in alias_rows (list_cost (length msg)) e msg base F (past 2 s₁) (Err stop) S₁ S₂ T T₂ → AliasesTold class e msg base s (Err stop) S S₂ T T₂
+      → ListTold alias_in alias_rows (list_cost (length msg)) e msg base F (past 2 s₁) (Err stop) S₁ S₂ T₁ T₂ → AliasesTold class e msg base s (Err stop) S S₂ T T₂
   aliases-refused t = record { spends = tt; is = listed-is t }
 
   pub aliases-done : {x : Section} {S₂ S₃ T₂ : List ℕ}
-      → ListTold alias_in alias_rows (list_cost (length msg)) e msg base F (past 2 s₁) (Ok x) S₁ S₂ T T₂ → S₃ ≡ sets S₂ s₁.sheet (little 2 x.count)
+      → ListTold alias_in alias_rows (list_cost (length msg)) e msg base F (past 2 s₁) (Ok x) S₁ S₂ T₁ T₂ → S₃ ≡ sets S₂ s₁.sheet (little 2 x.count)
       → AliasesTold class e msg base s (Ok x) S S₃ T T₂
   aliases-done {x} {S₂} t q = record {
     spends = aliases-within (length msg) a p t.spends;
@@ -264,7 +260,7 @@ counts_same o p q r = rw (p, q, r)
 
 -- The head, the lists, and then the counts.
 module _ (kind : ℕ) (e : Lent) (msg : List ℕ) (base : ℕ) (class : Bool) (k : class ≡ eqb kind 1) {s s₁ : State} {S S₁ T T₁ : List ℕ}
-    (h : BodyHead kind e.payload e.d2 e.ends e.notes e.tables.records msg base s s₁ S S₁ T T₁)
+    (h : BodyHead kind e msg base s s₁ S S₁ T T₁)
   where
     module _ (c : Scope) (w : Scoped e c) (m : Message) (f : cut (◌from◌ base msg) ≡ ok m) where
       after-head : after_table (eqb kind 1) c m s.types ≡ lists_in class (head h.name h.flags) c m s₁.types

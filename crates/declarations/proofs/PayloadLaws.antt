@@ -41,7 +41,7 @@ use Rattle.schema.specs.declared.table.TypeIndex.{TypeIndex}
 use Rattle.declarations.specs.Payload.{body_of, payload}
 use Rattle.declarations.specs.told.PayloadTold.{body_from, BodyAt, BodyOpened, NotedOpened, OpenedAt, OpenedTold, LentTold}
 use Rattle.schema.specs.told.SchemaTold.{EntriesOf}
-use Rattle.schema.specs.declared.Tables.{Tables}
+use Rattle.foundation.specs.declared.Tables.{Tables}
 use Rattle.declarations.specs.declared.payload.Opened.{Opened}
 use Rattle.std.proofs.Common.{Result, Ok, Err}
 use Rattle.declarations.proofs.RoomLaws.{bodies_few, inner_few, records-many}

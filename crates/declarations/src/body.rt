@@ -1,9 +1,12 @@
 // The body of a class or package written as rows: the head, constructors, functions, properties, type aliases; then the head's counts. The definitions:
 // specs/Payload.antt, `declaration_rows`, and schema's specs/Members.antt, `after_table`; what the functions tell: specs/told/BodyTold.antt.
 ghost use Rattle.std.specs.Prelude.{◌≡◌, length};
+ghost use Rattle.sheet.specs.told.Put.{SameAreas};
 ghost use Rattle.schema.specs.Members.{function_field, property_field, alias_field};
 ghost use Rattle.schema.specs.told.SchemaTold.{lent, Stands};
 ghost use Rattle.schema.specs.told.MembersTold.{Affords};
+ghost use Rattle.schema.specs.told.WroteTold.{Writes};
+ghost use Rattle.members.specs.told.EndsTold.{EndsAt};
 ghost use Rattle.inputs.specs.told.KindTold.{kind_number};
 ghost use Rattle.declarations.specs.told.BodyTold.{head_cost, list_cost, aliases_cost, lists_cost, body_cost, BodyHead, ConstructorsTold, AliasesTold, ListsTold, BodyWalked};
 
@@ -12,13 +15,13 @@ use fields::{
     CLASS_CONSTRUCTOR, CLASS_FLAGS, CLASS_FQ_NAME, CLASS_FUNCTION, CLASS_PROPERTY,
     CLASS_TYPE_ALIAS, OMITTED_FLAGS, PACKAGE_FUNCTION, PACKAGE_PROPERTY, PACKAGE_TYPE_ALIAS,
 };
+use foundation::{Context, Located};
 use inputs::Kind;
 use members::list::{Member, MemberList, members_in};
-use names::name::absent;
 use schema::flags::flags_in;
 use schema::name::class_name_in;
-use schema::{Section, Stop, Tables};
-use sheet::State;
+use schema::{Section, Stop};
+use sheet::{Output, State};
 
 // How far both areas are written after the head, which has no count, and after each list, and how many each list has. Kind 9 stands where the properties end.
 #[derive(Clone, Copy)]
@@ -61,58 +64,37 @@ fn alias_field(class: bool) -> u32
 }
 
 // The head up to its counts. A package has no class name, and flags 6.
-fn head_in(
-    kind: Kind,
-    msg: &[u8],
-    base: u32,
-    payload: &[u8],
-    d2: &[u16],
-    ends: &[u32],
-    notes: &[u64],
-    records: usize,
-    state: State,
-    sheet: &mut [u8],
-    text: &mut [u8],
-) -> State
-    requires { Affords payload.now d2.now head_cost state }
-    ensures { BodyHead (kind_number kind) payload.now d2.now ends.now notes.now records msg.now base state result sheet.old sheet.new text.old text.new }
+fn head_in(kind: Kind, msg: Located<'_>, context: &Context<'_>, out: &mut Output<'_>)
+    requires { Affords (lent context.now) head_cost out.old.state }
+    ensures same_areas { SameAreas out.old out.new }
+    ensures written { Writes (BodyHead (kind_number kind) (lent context.now) msg.entry.bytes.now msg.entry.base) out.old out.new.state out.new }
 {
     if !kind.is_class() {
-        return put_head(
-            payload,
-            d2,
-            kind.number(),
-            absent(),
-            OMITTED_FLAGS,
-            state,
-            sheet,
-            text,
-        );
+        put_head(context, kind.number(), None, OMITTED_FLAGS, out);
+        return;
     }
-    let flags = flags_in(msg, base, CLASS_FLAGS, OMITTED_FLAGS);
-    let name = class_name_in(msg, base, CLASS_FQ_NAME, payload, d2, ends, notes, records);
-    put_head(payload, d2, kind.number(), name, flags, state, sheet, text)
+    let flags = flags_in(msg, CLASS_FLAGS, OMITTED_FLAGS);
+    let name = class_name_in(msg, CLASS_FQ_NAME, context);
+    put_head(context, kind.number(), name, flags, out);
 }
 
 // The constructors of a class; a package has none.
 fn constructors_in(
     class: bool,
-    msg: &[u8],
-    base: u32,
-    payload: &[u8],
-    d2: &[u16],
-    ends: &[u32],
-    notes: &[u64],
-    tables: Tables,
-    state: State,
-    sheet: &mut [u8],
-    text: &mut [u8],
+    msg: Located<'_>,
+    context: &Context<'_>,
+    out: &mut Output<'_>,
 ) -> Result<Section, Stop>
-    requires { Affords payload.now d2.now (list_cost (length msg.now)) state × Stands payload.now msg.now base }
-    ensures { ConstructorsTold class (lent payload.now d2.now ends.now notes.now tables) msg.now base state result sheet.old sheet.new text.old text.new }
+    requires { Affords (lent context.now) (list_cost (length msg.bytes.now)) out.old.state × Stands context.now.payload.now msg.bytes.now msg.base }
+    ensures same_areas { SameAreas out.old out.new }
+    ensures ends { EndsAt result out.new.state }
+    ensures written { Writes (ConstructorsTold class (lent context.now) msg.entry.bytes.now msg.entry.base) out.old result out.new }
 {
     if !class {
-        return Ok(Section { state, count: 0 });
+        return Ok(Section {
+            state: out.state,
+            count: 0,
+        });
     }
     members_in(
         MemberList {
@@ -120,96 +102,59 @@ fn constructors_in(
             number: CLASS_CONSTRUCTOR,
         },
         msg,
-        base,
-        payload,
-        d2,
-        ends,
-        notes,
-        tables,
-        state,
-        sheet,
-        text,
+        context,
+        out,
     )
 }
 
 // The type aliases: kind 9 with their count, also when there is none, then each.
 fn aliases_in(
     class: bool,
-    msg: &[u8],
-    base: u32,
-    payload: &[u8],
-    d2: &[u16],
-    ends: &[u32],
-    notes: &[u64],
-    tables: Tables,
-    state: State,
-    sheet: &mut [u8],
-    text: &mut [u8],
+    msg: Located<'_>,
+    context: &Context<'_>,
+    out: &mut Output<'_>,
 ) -> Result<Section, Stop>
-    requires { Affords payload.now d2.now (aliases_cost (length msg.now)) state × Stands payload.now msg.now base }
-    ensures { AliasesTold class (lent payload.now d2.now ends.now notes.now tables) msg.now base state result sheet.old sheet.new text.old text.new }
+    requires { Affords (lent context.now) (aliases_cost (length msg.bytes.now)) out.old.state × Stands context.now.payload.now msg.bytes.now msg.base }
+    ensures same_areas { SameAreas out.old out.new }
+    ensures written { Writes (AliasesTold class (lent context.now) msg.entry.bytes.now msg.entry.base) out.old result out.new }
 {
-    let begun = put_aliases(state, sheet);
-    let place = begun.sheet;
-    let first = State {
-        sheet: place + 2,
-        ..begun
-    };
+    put_aliases(out);
+    let place = out.state.sheet;
+    out.state.sheet += 2;
     let aliases = members_in(
         MemberList {
             member: Member::Alias,
             number: alias_field(class),
         },
         msg,
-        base,
-        payload,
-        d2,
-        ends,
-        notes,
-        tables,
-        first,
-        sheet,
-        text,
+        context,
+        out,
     )?;
-    put_count(sheet, place, aliases.count);
+    put_count(out.sheet, place, aliases.count);
     Ok(aliases)
 }
 
 // Constructors, functions, properties, type aliases, after the head.
 fn lists_in(
     class: bool,
-    msg: &[u8],
-    base: u32,
-    payload: &[u8],
-    d2: &[u16],
-    ends: &[u32],
-    notes: &[u64],
-    tables: Tables,
-    head: State,
-    sheet: &mut [u8],
-    text: &mut [u8],
+    msg: Located<'_>,
+    context: &Context<'_>,
+    out: &mut Output<'_>,
 ) -> Result<Sections, Stop>
-    requires { Affords payload.now d2.now (lists_cost (length msg.now)) head × Stands payload.now msg.now base }
-    ensures { ListsTold class (lent payload.now d2.now ends.now notes.now tables) msg.now base head result sheet.old sheet.new text.old text.new }
+    requires { Affords (lent context.now) (lists_cost (length msg.bytes.now)) out.old.state × Stands context.now.payload.now msg.bytes.now msg.base }
+    ensures same_areas { SameAreas out.old out.new }
+    ensures written { Writes (ListsTold class (lent context.now) msg.entry.bytes.now msg.entry.base) out.old result out.new }
 {
-    let constructors = constructors_in(
-        class, msg, base, payload, d2, ends, notes, tables, head, sheet, text,
-    )?;
+    let head = out.state;
+    let constructors = constructors_in(class, msg, context, out)?;
     let functions = members_in(
         MemberList {
             member: Member::Function,
             number: function_field(class),
         },
         msg,
-        base,
-        payload,
-        d2,
-        ends,
-        notes,
-        tables,
-        constructors.state,
-        sheet,
-        text,
+        context,
+        out,
     )?;
     let properties = members_in(
         MemberList {
@@ -217,29 +162,10 @@ fn lists_in(
             number: property_field(class),
         },
         msg,
-        base,
-        payload,
-        d2,
-        ends,
-        notes,
-        tables,
-        functions.state,
-        sheet,
-        text,
+        context,
+        out,
     )?;
-    let aliases = aliases_in(
-        class,
-        msg,
-        base,
-        payload,
-        d2,
-        ends,
-        notes,
-        tables,
-        properties.state,
-        sheet,
-        text,
-    )?;
+    let aliases = aliases_in(class, msg, context, out)?;
     Ok(Sections {
         head,
         constructors,
@@ -253,53 +179,20 @@ fn lists_in(
 // Callers show `Affords` and `Stands`: passes begins at places 0, and its body is the payload's rest, within the limits (`InLimits`).
 pub fn body_in(
     kind: Kind,
-    msg: &[u8],
-    base: u32,
-    payload: &[u8],
-    d2: &[u16],
-    ends: &[u32],
-    notes: &[u64],
-    tables: Tables,
-    state: State,
-    sheet: &mut [u8],
-    text: &mut [u8],
+    msg: Located<'_>,
+    context: &Context<'_>,
+    out: &mut Output<'_>,
 ) -> Result<Sections, Stop>
-    requires { Affords payload.now d2.now (body_cost (length msg.now)) state × Stands payload.now msg.now base }
-    ensures { BodyWalked (kind_number kind) (lent payload.now d2.now ends.now notes.now tables) msg.now base state result sheet.old sheet.new text.old text.new }
+    requires { Affords (lent context.now) (body_cost (length msg.bytes.now)) out.old.state × Stands context.now.payload.now msg.bytes.now msg.base }
+    ensures same_areas { SameAreas out.old out.new }
+    ensures written { Writes (BodyWalked (kind_number kind) (lent context.now) msg.entry.bytes.now msg.entry.base) out.old result out.new }
 {
-    let begun = head_in(
-        kind,
-        msg,
-        base,
-        payload,
-        d2,
-        ends,
-        notes,
-        tables.records,
-        state,
-        sheet,
-        text,
-    );
-    let place = begun.sheet;
-    let head = State {
-        sheet: place + 6,
-        ..begun
-    };
-    let sections = lists_in(
-        kind.is_class(),
-        msg,
-        base,
-        payload,
-        d2,
-        ends,
-        notes,
-        tables,
-        head,
-        sheet,
-        text,
-    )?;
+    head_in(kind, msg, context, out);
+    let place = out.state.sheet;
+    out.state.sheet += 6;
+    let sections = lists_in(kind.is_class(), msg, context, out)?;
     put_head_counts(
-        sheet,
+        out.sheet,
         place,
         sections.constructors.count,
         sections.functions.count,

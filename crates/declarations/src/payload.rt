@@ -7,13 +7,13 @@ ghost use Rattle.messages.specs.told.Reader.{SplitTold};
 ghost use Rattle.declarations.specs.told.PayloadTold.{BodyOpened, NotedOpened, OpenedTold, LentTold};
 
 use fields::CLASS_TYPE_TABLE;
+use foundation::{Located, Tables};
 use lookup::codes::{codes_from, note_codes};
 use lookup::resolve::resolve;
 use lookup::strings::note_strings;
 use messages::check;
 use messages::reader::{Parts, split_payload};
 use names::records::{IndexError, RECORD_WORDS, index_records};
-use schema::Tables;
 use schema::table::index_types;
 
 // The body begins at a place of the decoded bytes.
@@ -33,7 +33,11 @@ fn open_body(
     requires { (at ≤ length bytes.now) × (length bytes.now < 65536) }
     ensures { BodyOpened bytes.now at records entries.new result }
 {
-    check(&bytes[at..], at as u32)?;
+    let body = Located {
+        base: at,
+        bytes: &bytes[at..],
+    };
+    check(body)?;
     let types = index_types(bytes, at, CLASS_TYPE_TABLE, entries)?;
     Ok(Opened {
         at,
@@ -65,7 +69,11 @@ fn open_table(bytes: &[u8], parts: Parts, notes: &mut [u64]) -> Result<Opened, I
     ensures { OpenedTold bytes.now notes.new result }
 {
     let table = parts.table;
-    check(&bytes[table.start..table.end], table.start as u32)?;
+    let message = Located {
+        base: table.start,
+        bytes: &bytes[table.start..table.end],
+    };
+    check(message)?;
     let count = index_records(&bytes[..table.end], table.start, notes)?;
     open_noted(bytes, parts.rest, count, notes)
 }

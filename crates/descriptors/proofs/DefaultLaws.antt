@@ -132,8 +132,8 @@ module _ {e : Lent} {msg : List ℕ} {base number at : ℕ} {A₀ : List ℕ} {h
     pub part_in : (a ≤ b) × (b ≤ length msg) × (here < b)
     part_in = let i = subst (PieceInside msg) q t.inside in (i.0, i.1, subst (PieceAfter here) q t.later)
 
-    pub part_room : {d2 : List ℕ} → PartRoom e.payload d2 msg base (part_cost * length msg) at
-        → PartRoom e.payload d2 (take (b - a) (drop a msg)) (base + a) part_cost (at + size)
+    pub part_room : PartRoom e msg base (part_cost * length msg) at
+        → PartRoom e (take (b - a) (drop a msg)) (base + a) part_cost (at + size)
     part_room h = record {
       payload-short = h.payload-short;
       d2-short = h.d2-short;

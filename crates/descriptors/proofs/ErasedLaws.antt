@@ -1,7 +1,7 @@
 -- The part of a type at its position: what each answer tells, from what the calls told.
 -- Assumes nothing.
 use mathlib.Core.Path.{◌≡◌, refl, ap, sym, subst, ◌∙◌}
-use mathlib.Core.Bool.{Bool, true, false, ◌||◌}
+use mathlib.Core.Bool.{Bool, true, ◌||◌}
 use mathlib.Core.List.{List, [], ◌∷◌, ◌++◌, map}
 use Rattle.std.specs.Prelude as std
 use Rattle.std.specs.Prelude.{Some, None}
@@ -13,13 +13,12 @@ use native.Mathlib.Omega.{arith}
 use lib.ListN.{length, take, drop, get_or, set, length-append}
 use lib.Dec.{T, ltb}
 use lib.Seq.{sets, take-append_seam}
-use Rattle.foundation.specs.Choices.{if_some, is_some, map_option, IfSome}
+use Rattle.foundation.specs.Choices.{if_some, map_option, IfSome}
 use Rattle.foundation.specs.Results.{ok, ◌from◌}
 use Rattle.foundation.specs.Texts.{Text}
 use Rattle.foundation.proofs.ChoiceLaws.{if_ind}
 use Rattle.foundation.proofs.ResultLaws.{Gives}
 use Rattle.foundation.proofs.OverlayLaws.{sets_then, sets_front}
-use Rattle.foundation.proofs.PresenceLaws.{none_is, some_is}
 use Rattle.fields.specs.Fields.{Type-nullable, Type-class_name}
 use Rattle.wire.specs.Wire.{Message, cut}
 use Rattle.wire.specs.Messages.{index, flag}
@@ -29,11 +28,12 @@ use Rattle.characters.specs.WellFormed.{Units}
 use Rattle.characters.specs.told.CharactersTold.{Characters}
 use Rattle.characters.proofs.TestLaws.{scalar_below}
 use Rattle.names.specs.Names.{qualified_name}
-use Rattle.names.specs.told.Name.{fitted, is_measured, sized, name_text}
+use Rattle.names.specs.told.Name.{fitted, is_measured, sized, named_text, name_text}
 use Rattle.names.specs.told.Stream as stream
-use Rattle.names.specs.told.Stream.{change_of, changed, sized_bytes, source_bytes, name_bytes}
+use Rattle.names.specs.told.Stream.{change_of, changed, sized_bytes, name_bytes}
 use Rattle.names.specs.declared.name.Name.{Name}
 use Rattle.names.specs.declared.name.Change.{Change}
+use Rattle.names.specs.declared.name.Source.TheVariants.{D2}
 use Rattle.names.proofs.NameLaws.{source-units, name-parts}
 use Rattle.names.proofs.PresentLaws.{name-most}
 use Rattle.names.proofs.FittedLaws.{fitted_ind, zeros-first}
@@ -66,9 +66,9 @@ use Rattle.descriptors.specs.declared.erased.TypePart.TheVariants as type_part
 pub name-short : (payload d2 : List ℕ) (name : Name) → length payload ≤ 32768 → length d2 ≤ 32768 → length (name_bytes payload d2 name true) ≤ 131072
 name-short payload d2 name f g = name-most payload d2 name 32768 f g (omega arith) true
 
-name-slashed : (payload d2 : List ℕ) (name : Name) (n : Text) → name_text payload d2 name ≡ some n → name_bytes payload d2 name true ≡ utf8 (slashed n)
+name-slashed : (payload d2 : List ℕ) (name : Name) → name_bytes payload d2 name true ≡ utf8 (slashed (named_text payload d2 name))
 unfolding name_bytes
-name-slashed payload d2 name n e = rw e
+name-slashed payload d2 name = refl
 
 -- A name that is no part of the table: its first character isn't k.
 first_byte : (c : ℕ) (bs : List ℕ) → get_or (utf8_of c ++ bs) 0 0 ≡ 0x6b → c ≡ 0x6b
@@ -89,14 +89,13 @@ sized-first size c t =
     let P : Text → Type 0 = λ u. get_or (utf8 u) 0 0 ≡ 0x6b → c ≡ 0x6b in
     if_ind P (is_measured size) (λ m. fitted_ind P size c t (first_of c (fitted (size - width c) t)) λ e. absurd (zeros-first size e)) λ m. first_of c t
 
-pub not_listed : (payload d2 : List ℕ) (name : Name) → name.source ≡ 3 → {h : Change} → h ≡ change_of name true
-    → {code : ℕ} {rest : Text} → from_utf16 (part_from name.start name.end d2) ≡ code ∷ rest → {c : ℕ} → c ≡ changed h code → (c ≡ 0x6b → ⊥)
+pub not_listed : (payload d2 : List ℕ) (name : Name) → name.source ≡ D2 → {h : Change} → h ≡ change_of name true
+    → {code : ℕ} {rest : Text} → from_utf16 (part_from name.part.start name.part.end d2) ≡ code ∷ rest → {c : ℕ} → c ≡ changed h code → (c ≡ 0x6b → ⊥)
     → Means (name_bytes payload d2 name true) Other
 unfolding utf8
 not_listed payload d2 name s {h} e {code} {rest} f {c} q g =
     let bytes : name_bytes payload d2 name true ≡ sized_bytes name.size h (code ∷ rest) =
-    name-parts payload d2 name true e (omega arith) (omega arith)
-    ∙ ap (source_bytes name.size h) (source-units payload d2 name s ∙ ap some f) in
+    name-parts payload d2 name true e ∙ ap (sized_bytes name.size h) (source-units payload d2 name.source name.part s ∙ f) in
     let other : get_or (name_bytes payload d2 name true) 0 0 ≡ 0x6b → ⊥ =
     λ k. g (q ∙ sized-first name.size (changed h code) (map (changed h) rest) (ap (λ (l : List ℕ). get_or l 0 0) (sym bytes) ∙ k)) in
     means_none (name_bytes payload d2 name true) (no_kotlin other)
@@ -136,30 +135,33 @@ unfolding print
 array-text none = refl
 array-text (some e) = refl
 
-class-text : (payload d2 : List ℕ) (name : Name) (n : Text) → name_text payload d2 name ≡ some n
-    → print_returned (of_type (class (slashed n))) ≡ 0x4c ∷ (name_bytes payload d2 name true ++ (0x3b ∷ []))
+class-text : (payload d2 : List ℕ) (name : Name)
+    → print_returned (of_type (class (slashed (named_text payload d2 name)))) ≡ 0x4c ∷ (name_bytes payload d2 name true ++ (0x3b ∷ []))
 unfolding print
-class-text payload d2 name n e = ap (λ (l : List ℕ). 0x4c ∷ (l ++ (0x3b ∷ []))) (sym (name-slashed payload d2 name n e))
+class-text payload d2 name = ap (λ (l : List ℕ). 0x4c ∷ (l ++ (0x3b ∷ []))) (sym (name-slashed payload d2 name))
 
 by_answer : {x y : std.Option Printed} → x ≡ y → (n : Text) (inner : Option Erased)
     → map_option print_returned (printed_told (slashed n) inner x) ≡ map_option print_returned (printed_told (slashed n) inner y)
 by_answer e n inner = ap (λ (y : std.Option Printed). map_option print_returned (printed_told (slashed n) inner y)) e
 
-module _ (payload d2 : List ℕ) (name : Name) {printed : Printed} {at : ℕ} {A A' : List ℕ} where
-  pub printed-fixed : {part : Part} {r : ℕ} → printed ≡ prints.Fixed part → PutPart part at r A A' → PrintedPut payload d2 name printed at (type_part.Whole r) A A'
-  printed-fixed {part} e p = record {
+abbrev told_name : Lent → Name → Text
+told_name e name = named_text e.payload e.d2 name
+
+module _ (e : Lent) (name : Name) {printed : Printed} {at : ℕ} {A A' : List ℕ} where
+  pub printed-fixed : {part : Part} {r : ℕ} → printed ≡ prints.Fixed part → PutPart part at r A A' → PrintedPut e name printed at (type_part.Whole r) A A'
+  printed-fixed {part} q p = record {
     within = omega (arith, p.size, part-short part);
-    is = λ n g inner. (print_returned (fixed_told part), by_answer (ap Some e) n inner, p);
+    is = λ inner. (print_returned (fixed_told part), by_answer (ap Some q) (told_name e name) inner, p);
   }
 
-  pub printed-array : printed ≡ prints.ThroughArray → A' ≡ set A at 0x5b → PrintedPut payload d2 name printed at type_part.Bracket A A'
-  printed-array e q = record { within = tt; is = λ n g inner. (by_answer (ap Some e) n inner ∙ array-text inner, record { size = refl; area = q }) }
+  pub printed-array : printed ≡ prints.ThroughArray → A' ≡ set A at 0x5b → PrintedPut e name printed at type_part.Bracket A A'
+  printed-array f q = record { within = tt; is = λ inner. (by_answer (ap Some f) (told_name e name) inner ∙ array-text inner, record { size = refl; area = q }) }
 
-  pub printed-class : length payload ≤ 32768 → length d2 ≤ 32768 → printed ≡ prints.ClassItself → {r : ℕ}
-      → PutSized (0x4c ∷ (name_bytes payload d2 name true ++ (0x3b ∷ []))) at r A A' → PrintedPut payload d2 name printed at (type_part.Whole r) A A'
-  printed-class f g e p = record {
-    within = omega (arith, p.size, length-append (name_bytes payload d2 name true) (0x3b ∷ []), name-short payload d2 name f g);
-    is = λ n h inner. (0x4c ∷ (name_bytes payload d2 name true ++ (0x3b ∷ [])), by_answer (ap Some e) n inner ∙ ap some (class-text payload d2 name n h), p);
+  pub printed-class : length e.payload ≤ 32768 → length e.d2 ≤ 32768 → printed ≡ prints.ClassItself → {r : ℕ}
+      → PutSized (0x4c ∷ (name_bytes e.payload e.d2 name true ++ (0x3b ∷ []))) at r A A' → PrintedPut e name printed at (type_part.Whole r) A A'
+  printed-class f g q p = record {
+    within = omega (arith, p.size, length-append (name_bytes e.payload e.d2 name true) (0x3b ∷ []), name-short e.payload e.d2 name f g);
+    is = λ inner. (0x4c ∷ (name_bytes e.payload e.d2 name true ++ (0x3b ∷ [])), by_answer (ap Some q) (told_name e name) inner ∙ ap some (class-text e.payload e.d2 name), p);
   }
 
 -- The erasure of a type at its position, by its name.
@@ -198,65 +200,60 @@ slashed_characters : (n : Text) → Characters n → Characters (slashed n)
 slashed_characters n = substituted-keeps (λ c. T (is_scalar c)) 0x2e 0x2f n (scalar_below 0x2f (omega arith))
 
 -- One type.
-module _ (e : Lent) (msg : List ℕ) (base : ℕ) (nullable : Bool) (position : Position) (at : ℕ) (name : Name) (st : Stands e.payload msg base)
+module _ (e : Lent) (msg : List ℕ) (base : ℕ) (nullable : Bool) (position : Position) (at : ℕ) (found : std.Option Name) (st : Stands e.payload msg base)
     (i : (c : Scope) → NamesOf e.payload e.d2 e.ends e.notes e.tables.records c.names
     → (m : Message) → cut (◌from◌ base msg) ≡ ok m → (l : ℕ)
-    → class_name_in c Type-class_name m l ≡ ok (name_text e.payload e.d2 name, l)) where
+    → class_name_in c Type-class_name m l ≡ ok (name_text e.payload e.d2 found, l)) where
   module _ (c : Scope) (o : Scoped e c) (left : ℕ) (t : Ty) (f : TypeFound e.payload c base (base + length msg) left t) where
     entered : Entered c f.depth f.message t
     entered = type_entered c f.depth f.message t f.before f.after f.given
 
-    name-is : t.name ≡ name_text e.payload e.d2 name
-    name-is =
+    name-is : {x : std.Option Name} → found ≡ x → t.name ≡ name_text e.payload e.d2 x
+    name-is w =
         ap (λ (t : Ty). t.name) entered.is
         ∙ first-same (sym entered.named ∙ i c o.names f.message (stands-cut st f.at) entered.between)
+        ∙ ap (name_text e.payload e.d2) w
 
-    name-characters : Units e.d2 → (n : Text) → name_text e.payload e.d2 name ≡ some n → Characters n
-    name-characters u n g =
-        class_characters c Type-class_name f.message 0 0 n (lent-strings e c o u)
-        (i c o.names f.message (stands-cut st f.at) 0 ∙ ap (λ (x : Option Text). pure x 0) g)
+    name-characters : Units e.d2 → {name : Name} → found ≡ Some name → Characters (named_text e.payload e.d2 name)
+    name-characters u {name} w =
+        class_characters c Type-class_name f.message 0 0 (named_text e.payload e.d2 name) (lent-strings e c o u)
+        (i c o.names f.message (stands-cut st f.at) 0 ∙ ap (λ (x : std.Option Name). pure (name_text e.payload e.d2 x) 0) w)
 
-  pub type-absent : is_some (name_text e.payload e.d2 name) ≡ false → {A A' : List ℕ} → TypePartTold e base (base + length msg) nullable position at None A A'
-  type-absent h = record {
+  pub type-absent : found ≡ None → {A A' : List ℕ} → TypePartTold e base (base + length msg) nullable position at None A A'
+  type-absent w = record {
     within = tt;
-    is = λ c o left t f.
-        ap (map_option print_returned)
-        (erased_nameless position (or_nullable nullable t) (name-is c o left t f ∙ none_is (name_text e.payload e.d2 name) h));
+    is = λ c o left t f. ap (map_option print_returned) (erased_nameless position (or_nullable nullable t) (name-is c o left t f w));
   }
 
-  module _ (units : Units e.d2) (meaning : Meaning) (m : Means (name_bytes e.payload e.d2 name true) meaning) {either : Bool}
-      (n : (m : Message) → cut (◌from◌ base msg) ≡ ok m → (nullable || flag Type-nullable m) ≡ either)
+  module _ {name : Name} (w : found ≡ Some name) (units : Units e.d2) (meaning : Meaning) (m : Means (name_bytes e.payload e.d2 name true) meaning)
+      {either : Bool} (n : (m : Message) → cut (◌from◌ base msg) ≡ ok m → (nullable || flag Type-nullable m) ≡ either)
       (printed : std.Option Printed) (p : PrintsAs meaning either position printed) where
-    type-printed : (c : Scope) (o : Scoped e c) (left : ℕ) (t : Ty) (f : TypeFound e.payload c base (base + length msg) left t) (x : Text)
-        → name_text e.payload e.d2 name ≡ some x
-        → erased_at position (or_nullable nullable t) ≡ printed_told (slashed x) (first_erased true t.arguments) printed
-    type-printed c o left t f x g =
+    type-printed : (c : Scope) (o : Scoped e c) (left : ℕ) (t : Ty) (f : TypeFound e.payload c base (base + length msg) left t)
+        → erased_at position (or_nullable nullable t) ≡ printed_told (slashed (told_name e name)) (first_erased true t.arguments) printed
+    type-printed c o left t f =
         let inner = first_erased true t.arguments in
         let either_is : (nullable || t.nullable) ≡ either =
         ap (λ (t : Ty). nullable || t.nullable) (entered c o left t f).is ∙ n f.message (stands-cut st f.at) in
-        erased-named position (or_nullable nullable t) x (name-is c o left t f ∙ g)
-        ∙ ap (λ (b : Bool). part_at position b inner (meaning_of x)) either_is
-        ∙ part-told position either inner meaning printed (slashed x) m p
-        (slashed_characters x (name-characters c o left t f units x g))
-        (sym (name-slashed e.payload e.d2 name x g))
+        erased-named position (or_nullable nullable t) (told_name e name) (name-is c o left t f w)
+        ∙ ap (λ (b : Bool). part_at position b inner (meaning_of (told_name e name))) either_is
+        ∙ part-told position either inner meaning printed (slashed (told_name e name)) m p
+        (slashed_characters (told_name e name) (name-characters c o left t f units w))
+        (sym (name-slashed e.payload e.d2 name))
 
-    pub type-nothing : is_some (name_text e.payload e.d2 name) ≡ true → printed ≡ None → {A A' : List ℕ}
-        → TypePartTold e base (base + length msg) nullable position at None A A'
-    type-nothing h q = record {
+    pub type-nothing : printed ≡ None → {A A' : List ℕ} → TypePartTold e base (base + length msg) nullable position at None A A'
+    type-nothing q = record {
       within = tt;
       is = λ c o left t f.
-          let x = some_is (name_text e.payload e.d2 name) h in
-          ap (map_option print_returned) (type-printed c o left t f x.0 x.1) ∙ by_answer q x.0 (first_erased true t.arguments);
+          ap (map_option print_returned) (type-printed c o left t f) ∙ by_answer q (told_name e name) (first_erased true t.arguments);
     }
 
-    pub type-part : is_some (name_text e.payload e.d2 name) ≡ true → {here : Printed} → printed ≡ Some here → {r : TypePart} {A A' : List ℕ}
-        → PrintedPut e.payload e.d2 name here at r A A' → TypePartTold e base (base + length msg) nullable position at (Some r) A A'
-    type-part h {here} w {r} {A} {A'} q = record {
+    pub type-part : {here : Printed} → printed ≡ Some here → {r : TypePart} {A A' : List ℕ}
+        → PrintedPut e name here at r A A' → TypePartTold e base (base + length msg) nullable position at (Some r) A A'
+    type-part {here} v {r} {A} {A'} q = record {
       within = q.within;
       is = λ c o left t f.
-          let x = some_is (name_text e.payload e.d2 name) h in
-          let same : erased_at position (or_nullable nullable t) ≡ printed_told (slashed x.0) (first_erased true t.arguments) (Some here) =
-          type-printed c o left t f x.0 x.1 ∙ ap (printed_told (slashed x.0) (first_erased true t.arguments)) w in
+          let same : erased_at position (or_nullable nullable t) ≡ printed_told (slashed (told_name e name)) (first_erased true t.arguments) (Some here) =
+          type-printed c o left t f ∙ ap (printed_told (slashed (told_name e name)) (first_erased true t.arguments)) v in
           subst (λ y. TypePartIs (map_option print_returned y) (first_erased true t.arguments) at (Some r) A A') (sym same)
-          (q.is x.0 x.1 (first_erased true t.arguments));
+          (q.is (first_erased true t.arguments));
     }

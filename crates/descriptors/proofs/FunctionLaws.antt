@@ -50,8 +50,8 @@ use Rattle.descriptors.proofs.JoinLaws.{
 }
 
 -- Room for what stands at the start, and after it.
-pub room_less : {payload d2 msg : List ℕ} {base n at : ℕ} (n₁ at₁ : ℕ) → at₁ + n₁ ≤ at + n → PartRoom payload d2 msg base n at
-    → PartRoom payload d2 msg base n₁ at₁
+pub room_less : {e : Lent} {msg : List ℕ} {base n at : ℕ} (n₁ at₁ : ℕ) → at₁ + n₁ ≤ at + n → PartRoom e msg base n at
+    → PartRoom e msg base n₁ at₁
 room_less n₁ at₁ h p = record {
   payload-short = p.payload-short;
   d2-short = p.d2-short;

@@ -1,7 +1,8 @@
 // Default descriptors: the parts of a declaration's types, one after the other. The definitions: specs/Defaults.antt; what the writers
 // tell: specs/told/DefaultsTold.antt and specs/told/PartsTold.antt.
 ghost use Rattle.std.specs.Prelude.{◌≡◌, ◌∷◌, ◌++◌, ◌+◌, ◌*◌, ◌^◌, ◌≤◌, length};
-ghost use Rattle.foundation.specs.Results.{ok, ◌from◌};
+ghost use Rattle.foundation.specs.told.Located.{told_part};
+ghost use Rattle.foundation.specs.Results.{ok};
 ghost use Rattle.fields.specs.Fields.{Function-flags};
 ghost use Rattle.wire.specs.Wire.{Message, cut};
 ghost use Rattle.schema.specs.Members.{bit_of, flags_in};
@@ -9,7 +10,7 @@ ghost use Rattle.schema.specs.told.SchemaTold.{lent};
 ghost use Rattle.erasure.specs.Erasure.{print};
 ghost use Rattle.erasure.specs.told.ErasureTold.{PutSized};
 ghost use Rattle.descriptors.specs.Defaults.{continuation_class, object};
-ghost use Rattle.descriptors.specs.told.DefaultsTold.{part_cost, PartWithin, ParametersTold, ConstructorDefault, FunctionDefault};
+ghost use Rattle.descriptors.specs.told.DefaultsTold.{part_cost, ParametersTold, ConstructorDefault, FunctionDefault};
 ghost use Rattle.descriptors.specs.told.PartsTold.{PartRoom, PartOf, TypeGiven, type_part, FunctionGiven, receiver_part, before_part, after_part};
 
 use crate::erased::{Placement, put_erased};
@@ -20,84 +21,61 @@ use fields::{
     FUNCTION_RETURN_TYPE, FUNCTION_RETURN_TYPE_ID, FUNCTION_VALUE_PARAMETER, OMITTED_FLAGS,
     VALUE_PARAMETER_TYPE, VALUE_PARAMETER_TYPE_ID,
 };
-use messages::next_body;
+use foundation::{Context, Located};
+use messages::bodies_from;
+use schema::TypeSlot;
 use schema::flags::flags_in;
 use schema::places::declared_place;
 use schema::receiver::has_receiver;
-use schema::{Tables, TypeSlot};
 use sheet::{put, put_all};
 
 // A declaration's own type at its position. A type that isn't there has no descriptor. The slot's role is not looked at.
 fn type_part(
-    msg: &[u8],
-    base: u32,
+    msg: Located<'_>,
     slot: TypeSlot,
     position: Position,
-    payload: &[u8],
-    d2: &[u16],
-    ends: &[u32],
-    notes: &[u64],
-    tables: Tables,
+    context: &Context<'_>,
     area: &mut [u8],
     at: usize,
 ) -> Option<usize>
-    requires { PartRoom payload.now d2.now msg.now base part_cost at }
-    ensures { PartOf (TypeGiven slot.inline slot.indexed) (type_part position) part_cost (lent payload.now d2.now ends.now notes.now tables) base (base + length msg.now) at result area.old area.new }
+    requires { PartRoom (lent context.now) msg.bytes.now msg.base part_cost at }
+    ensures { PartOf (TypeGiven slot.inline slot.indexed) (type_part position) part_cost (lent context.now) msg.entry.base (msg.entry.base + length msg.entry.bytes.now) at result area.old area.new }
 {
-    let found = declared_place(msg, base, slot, payload, notes, tables)?;
+    let found = declared_place(msg, slot, context)?;
     let placed = Placement {
         nullable: found.nullable,
         left: found.left,
         position,
     };
-    put_erased(
-        &payload[found.start..found.end],
-        found.start as u32,
-        placed,
-        payload,
-        d2,
-        ends,
-        notes,
-        tables,
-        area,
-        at,
-    )
+    let part = Located {
+        base: found.start,
+        bytes: &context.payload[found.start..found.end],
+    };
+    put_erased(part, placed, context, area, at)
 }
 
 // The parts of the parameters in a field, one after the other: one of each message, with a name or without.
 fn parameter_parts(
-    msg: &[u8],
-    base: u32,
+    msg: Located<'_>,
     number: u32,
-    payload: &[u8],
-    d2: &[u16],
-    ends: &[u32],
-    notes: &[u64],
-    tables: Tables,
+    context: &Context<'_>,
     area: &mut [u8],
     at: usize,
 ) -> Option<usize>
-    requires { PartRoom payload.now d2.now msg.now base (part_cost * length msg.now) at }
-    ensures { ParametersTold (lent payload.now d2.now ends.now notes.now tables) base (base + length msg.now) number at result area.old area.new }
+    requires { PartRoom (lent context.now) msg.bytes.now msg.base (part_cost * length msg.bytes.now) at }
+    ensures { ParametersTold (lent context.now) msg.entry.base (msg.entry.base + length msg.entry.bytes.now) number at result area.old area.new }
 {
-    let mut from = 0;
     let mut size = 0;
-    while let Some(parameter) = next_body(msg, base, number, from) {
-        from = parameter.end;
+    for parameter in bodies_from(msg, number, 0) {
         size += type_part(
-            &msg[parameter.start..parameter.end],
-            base + parameter.start as u32,
+            msg.part(parameter),
             TypeSlot {
                 inline: VALUE_PARAMETER_TYPE,
                 indexed: VALUE_PARAMETER_TYPE_ID,
                 role: Role::Parameter,
             },
             Position::Parameter,
-            payload,
-            d2,
-            ends,
-            notes,
-            tables,
+            context,
             area,
             at + size,
         )?;
@@ -108,66 +86,40 @@ fn parameter_parts(
 // The default descriptor of a constructor, which returns V.
 // Callers show `PartRoom`: members::closed from the `Affords` and `Stands` that it requires.
 pub fn constructor_default(
-    msg: &[u8],
-    base: u32,
-    payload: &[u8],
-    d2: &[u16],
-    ends: &[u32],
-    notes: &[u64],
-    tables: Tables,
+    msg: Located<'_>,
+    context: &Context<'_>,
     area: &mut [u8],
     at: usize,
 ) -> Option<usize>
-    requires { PartRoom payload.now d2.now msg.now base (part_cost * (4 + length msg.now)) at }
-    ensures { ConstructorDefault (lent payload.now d2.now ends.now notes.now tables) base (base + length msg.now) at result area.old area.new }
+    requires { PartRoom (lent context.now) msg.bytes.now msg.base (part_cost * (4 + length msg.bytes.now)) at }
+    ensures { ConstructorDefault (lent context.now) msg.entry.base (msg.entry.base + length msg.entry.bytes.now) at result area.old area.new }
 {
     put(area, at, b'(');
-    let size = parameter_parts(
-        msg,
-        base,
-        CONSTRUCTOR_VALUE_PARAMETER,
-        payload,
-        d2,
-        ends,
-        notes,
-        tables,
-        area,
-        at + 1,
-    )?;
+    let size = parameter_parts(msg, CONSTRUCTOR_VALUE_PARAMETER, context, area, at + 1)?;
     put_all(area, at + 1 + size, b")V");
     Some(3 + size)
 }
 
 // The receiver's part. Without a receiver there is no text.
 fn receiver_part(
-    msg: &[u8],
-    base: u32,
-    payload: &[u8],
-    d2: &[u16],
-    ends: &[u32],
-    notes: &[u64],
-    tables: Tables,
+    msg: Located<'_>,
+    context: &Context<'_>,
     area: &mut [u8],
     at: usize,
 ) -> Option<usize>
-    requires { PartRoom payload.now d2.now msg.now base part_cost at }
-    ensures { PartOf FunctionGiven receiver_part part_cost (lent payload.now d2.now ends.now notes.now tables) base (base + length msg.now) at result area.old area.new }
+    requires { PartRoom (lent context.now) msg.bytes.now msg.base part_cost at }
+    ensures { PartOf FunctionGiven receiver_part part_cost (lent context.now) msg.entry.base (msg.entry.base + length msg.entry.bytes.now) at result area.old area.new }
 {
-    if has_receiver(msg, base, FUNCTION_RECEIVER_TYPE, FUNCTION_RECEIVER_TYPE_ID) {
+    if has_receiver(msg, FUNCTION_RECEIVER_TYPE, FUNCTION_RECEIVER_TYPE_ID) {
         return type_part(
             msg,
-            base,
             TypeSlot {
                 inline: FUNCTION_RECEIVER_TYPE,
                 indexed: FUNCTION_RECEIVER_TYPE_ID,
                 role: Role::Receiver,
             },
             Position::Parameter,
-            payload,
-            d2,
-            ends,
-            notes,
-            tables,
+            context,
             area,
             at,
         );
@@ -176,41 +128,20 @@ fn receiver_part(
 }
 
 // The parts of the types before the return: the receiver's and the parameters'.
-fn before_part(
-    msg: &[u8],
-    base: u32,
-    payload: &[u8],
-    d2: &[u16],
-    ends: &[u32],
-    notes: &[u64],
-    tables: Tables,
-    area: &mut [u8],
-    at: usize,
-) -> Option<usize>
-    requires { PartRoom payload.now d2.now msg.now base (part_cost * (1 + length msg.now)) at }
-    ensures { PartOf FunctionGiven before_part (part_cost * (1 + length msg.now)) (lent payload.now d2.now ends.now notes.now tables) base (base + length msg.now) at result area.old area.new }
+fn before_part(msg: Located<'_>, context: &Context<'_>, area: &mut [u8], at: usize) -> Option<usize>
+    requires { PartRoom (lent context.now) msg.bytes.now msg.base (part_cost * (1 + length msg.bytes.now)) at }
+    ensures { PartOf FunctionGiven before_part (part_cost * (1 + length msg.entry.bytes.now)) (lent context.now) msg.entry.base (msg.entry.base + length msg.entry.bytes.now) at result area.old area.new }
 {
-    let receiver = receiver_part(msg, base, payload, d2, ends, notes, tables, area, at)?;
-    let parameters = parameter_parts(
-        msg,
-        base,
-        FUNCTION_VALUE_PARAMETER,
-        payload,
-        d2,
-        ends,
-        notes,
-        tables,
-        area,
-        at + receiver,
-    )?;
+    let receiver = receiver_part(msg, context, area, at)?;
+    let parameters = parameter_parts(msg, FUNCTION_VALUE_PARAMETER, context, area, at + receiver)?;
     Some(receiver + parameters)
 }
 
 // Does a function suspend? Bit 13 of its flags.
-fn suspends(msg: &[u8], base: u32) -> bool
-    ensures { (m : Message) → cut (◌from◌ base msg.now) ≡ ok m → bit_of 13 (flags_in Function-flags m) ≡ result }
+fn suspends(msg: Located<'_>) -> bool
+    ensures { (m : Message) → cut (told_part msg.entry) ≡ ok m → bit_of 13 (flags_in Function-flags m) ≡ result }
 {
-    let flags = flags_in(msg, base, FUNCTION_FLAGS, OMITTED_FLAGS);
+    let flags = flags_in(msg, FUNCTION_FLAGS, OMITTED_FLAGS);
     flags / 8192 % 2 == 1
 }
 
@@ -226,38 +157,23 @@ fn put_suspended(area: &mut [u8], at: usize) -> usize
 }
 
 // What stands after the parameters: ) and the return's part; a suspending function's continuation before it.
-fn after_part(
-    msg: &[u8],
-    base: u32,
-    payload: &[u8],
-    d2: &[u16],
-    ends: &[u32],
-    notes: &[u64],
-    tables: Tables,
-    area: &mut [u8],
-    at: usize,
-) -> Option<usize>
-    requires { PartRoom payload.now d2.now msg.now base (part_cost * 2) at }
-    ensures { PartOf FunctionGiven after_part (part_cost * 2) (lent payload.now d2.now ends.now notes.now tables) base (base + length msg.now) at result area.old area.new }
+fn after_part(msg: Located<'_>, context: &Context<'_>, area: &mut [u8], at: usize) -> Option<usize>
+    requires { PartRoom (lent context.now) msg.bytes.now msg.base (part_cost * 2) at }
+    ensures { PartOf FunctionGiven after_part (part_cost * 2) (lent context.now) msg.entry.base (msg.entry.base + length msg.entry.bytes.now) at result area.old area.new }
 {
-    if suspends(msg, base) {
+    if suspends(msg) {
         return Some(put_suspended(area, at));
     }
     put(area, at, b')');
     let returned = type_part(
         msg,
-        base,
         TypeSlot {
             inline: FUNCTION_RETURN_TYPE,
             indexed: FUNCTION_RETURN_TYPE_ID,
             role: Role::Return,
         },
         Position::Return,
-        payload,
-        d2,
-        ends,
-        notes,
-        tables,
+        context,
         area,
         at + 1,
     )?;
@@ -267,31 +183,16 @@ fn after_part(
 // The default descriptor of a function.
 // Callers show `PartRoom`: members::closed from the `Affords` and `Stands` that it requires.
 pub fn function_default(
-    msg: &[u8],
-    base: u32,
-    payload: &[u8],
-    d2: &[u16],
-    ends: &[u32],
-    notes: &[u64],
-    tables: Tables,
+    msg: Located<'_>,
+    context: &Context<'_>,
     area: &mut [u8],
     at: usize,
 ) -> Option<usize>
-    requires { PartRoom payload.now d2.now msg.now base (part_cost * (4 + length msg.now)) at }
-    ensures { FunctionDefault (lent payload.now d2.now ends.now notes.now tables) base (base + length msg.now) at result area.old area.new }
+    requires { PartRoom (lent context.now) msg.bytes.now msg.base (part_cost * (4 + length msg.bytes.now)) at }
+    ensures { FunctionDefault (lent context.now) msg.entry.base (msg.entry.base + length msg.entry.bytes.now) at result area.old area.new }
 {
     put(area, at, b'(');
-    let before = before_part(msg, base, payload, d2, ends, notes, tables, area, at + 1)?;
-    let after = after_part(
-        msg,
-        base,
-        payload,
-        d2,
-        ends,
-        notes,
-        tables,
-        area,
-        at + 1 + before,
-    )?;
+    let before = before_part(msg, context, area, at + 1)?;
+    let after = after_part(msg, context, area, at + 1 + before)?;
     Some(1 + before + after)
 }

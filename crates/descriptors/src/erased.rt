@@ -1,6 +1,6 @@
 // The part of a type at its position, by its message: its class name decides; an array goes on with its first kept argument.
 // The definitions: erasure's specs/Erasure.antt; what is told: specs/told/ErasedTold.antt and `ErasedTold` in specs/told/DefaultsTold.antt.
-ghost use Rattle.std.specs.Prelude.{◌≡◌, true, false, [], ◌∷◌, ◌++◌, ◌+◌, ◌^◌, ◌≤◌, length};
+ghost use Rattle.std.specs.Prelude.{◌≡◌, true, false, List, [], ◌∷◌, ◌++◌, ℕ, ◌+◌, ◌^◌, ◌<◌, ◌≤◌, length, get_or};
 ghost use Rattle.names.specs.told.Stream.{name_bytes};
 ghost use Rattle.schema.specs.told.SchemaTold.{lent, Stands};
 ghost use Rattle.erasure.specs.told.ErasureTold.{Means, PutSized};
@@ -10,9 +10,9 @@ ghost use Rattle.erasure.specs.declared.Meaning.TheVariants.{Other};
 
 use characters::utf16_at;
 use erasure::{Meaning, Position, Printed, meaning_of, printed_as, put_part};
-use names::name::{Name, change_of, character_of, is_there, part_of};
+use foundation::{Context, Located};
+use names::name::{Name, Source, change_of, character_of, part_of};
 use names::stream::put_name;
-use schema::Tables;
 use schema::head::type_head;
 use schema::name::class_name_at;
 use schema::places::first_argument;
@@ -36,30 +36,32 @@ enum TypePart {
     Bracket,
 }
 
-// Can a name, dots turned into slashes, be listed? All that are begin with k.
-fn may_be_listed(payload: &[u8], d2: &[u16], name: Name) -> bool
-    ensures { result ≡ false → Means (name_bytes payload.now d2.now name true) Other }
+// Can a name, dots turned into slashes, be listed? All that are begin with k. Takes d2 by itself: the type of a slice says that each unit is
+// of 16 bits, that of a context doesn't.
+fn may_be_listed(d2: &[u16], name: Name) -> bool
+    ensures units { (i : ℕ) → get_or d2.now i 0 < 65536 }
+    ensures listed { (payload : List ℕ) → result ≡ false → Means (name_bytes payload d2.now name true) Other }
 {
-    let source = name.source;
-    if source != 3 {
+    let Source::D2 = name.source else {
         return true;
-    }
-    let Some(character) = utf16_at(part_of(d2, name.start, name.end), 0) else {
+    };
+    let Some(character) = utf16_at(part_of(d2, name.part), 0) else {
         return true;
     };
     character_of(change_of(name, true), character.value) == 0x6b
 }
 
 // What a name, dots turned into slashes, means. No listed name is longer than 36 bytes.
-fn name_meaning(payload: &[u8], d2: &[u16], name: Name) -> Meaning
-    requires { (length payload.now ≤ 32768) × (length d2.now ≤ 32768) }
-    ensures { Means (name_bytes payload.now d2.now name true) result }
+fn name_meaning(context: &Context<'_>, name: Name) -> Meaning
+    requires { (length context.now.payload.now ≤ 32768) × (length context.now.d2.now ≤ 32768) }
+    ensures units { (i : ℕ) → get_or context.now.d2.now i 0 < 65536 }
+    ensures means { Means (name_bytes context.now.payload.now context.now.d2.now name true) result }
 {
-    if !may_be_listed(payload, d2, name) {
+    if !may_be_listed(context.d2, name) {
         return Meaning::Other;
     }
     let mut bytes = [0u8; 36];
-    let size = put_name(payload, d2, name, true, &mut bytes, 0);
+    let size = put_name(context, name, true, &mut bytes, 0);
     if 36 < size {
         return Meaning::Other;
     }
@@ -67,12 +69,12 @@ fn name_meaning(payload: &[u8], d2: &[u16], name: Name) -> Meaning
 }
 
 // L, the name with slashes for dots, and ;.
-fn put_class(payload: &[u8], d2: &[u16], name: Name, area: &mut [u8], at: usize) -> usize
-    requires { (length payload.now ≤ 32768) × (length d2.now ≤ 32768) × (at ≤ 2 ^ 62) }
-    ensures { PutSized (0x4c ∷ (name_bytes payload.now d2.now name true ++ (0x3b ∷ []))) at result area.old area.new }
+fn put_class(context: &Context<'_>, name: Name, area: &mut [u8], at: usize) -> usize
+    requires { (length context.now.payload.now ≤ 32768) × (length context.now.d2.now ≤ 32768) × (at ≤ 2 ^ 62) }
+    ensures { PutSized (0x4c ∷ (name_bytes context.now.payload.now context.now.d2.now name true ++ (0x3b ∷ []))) at result area.old area.new }
 {
     put(area, at, b'L');
-    let next = put_name(payload, d2, name, true, area, at + 1);
+    let next = put_name(context, name, true, area, at + 1);
     put(area, next, b';');
     next + 1 - at
 }
@@ -80,14 +82,13 @@ fn put_class(payload: &[u8], d2: &[u16], name: Name, area: &mut [u8], at: usize)
 // What is printed of a type whose class name is there.
 fn put_printed(
     printed: Printed,
-    payload: &[u8],
-    d2: &[u16],
+    context: &Context<'_>,
     name: Name,
     area: &mut [u8],
     at: usize,
 ) -> TypePart
-    requires { (length payload.now ≤ 32768) × (length d2.now ≤ 32768) × (at ≤ 2 ^ 62) }
-    ensures { PrintedPut payload.now d2.now name printed at result area.old area.new }
+    requires { (length context.now.payload.now ≤ 32768) × (length context.now.d2.now ≤ 32768) × (at ≤ 2 ^ 62) }
+    ensures { PrintedPut (lent context.now) name printed at result area.old area.new }
 {
     match printed {
         Printed::Fixed(part) => TypePart::Whole {
@@ -98,84 +99,57 @@ fn put_printed(
             TypePart::Bracket
         }
         Printed::ClassItself => TypePart::Whole {
-            size: put_class(payload, d2, name, area, at),
+            size: put_class(context, name, area, at),
         },
     }
 }
 
 // One type, by its class name; nothing if it has no descriptor.
 fn put_type_part(
-    msg: &[u8],
-    base: u32,
+    msg: Located<'_>,
     placed: Placement,
-    payload: &[u8],
-    d2: &[u16],
-    ends: &[u32],
-    notes: &[u64],
-    tables: Tables,
+    context: &Context<'_>,
     area: &mut [u8],
     at: usize,
 ) -> Option<TypePart>
-    requires { Stands payload.now msg.now base × (length payload.now ≤ 32768) × (length d2.now ≤ 32768) × (at ≤ 2 ^ 62) }
-    ensures { TypePartTold (lent payload.now d2.now ends.now notes.now tables) base (base + length msg.now) placed.nullable placed.position at result area.old area.new }
+    requires { Stands context.now.payload.now msg.bytes.now msg.base × (length context.now.payload.now ≤ 32768) × (length context.now.d2.now ≤ 32768) × (at ≤ 2 ^ 62) }
+    ensures { TypePartTold (lent context.now) msg.entry.base (msg.entry.base + length msg.entry.bytes.now) placed.nullable placed.position at result area.old area.new }
 {
-    let head = type_head(msg, base);
-    let name = class_name_at(head.name, payload, d2, ends, notes, tables.records);
-    if !is_there(name) {
-        return None;
-    }
-    let meaning = name_meaning(payload, d2, name);
+    let head = type_head(msg);
+    let name = class_name_at(head.name, context)?;
+    let meaning = name_meaning(context, name);
     let nullable = placed.nullable || head.nullable;
     let printed = printed_as(meaning, nullable, placed.position)?;
-    Some(put_printed(printed, payload, d2, name, area, at))
+    Some(put_printed(printed, context, name, area, at))
 }
 
 // The part of the type in a message: as many [ as arrays are nested, then what the innermost comes to. Answers how many bytes it takes; nothing
 // if the type has no descriptor.
 pub(crate) fn put_erased(
-    msg: &[u8],
-    base: u32,
+    msg: Located<'_>,
     placed: Placement,
-    payload: &[u8],
-    d2: &[u16],
-    ends: &[u32],
-    notes: &[u64],
-    tables: Tables,
+    context: &Context<'_>,
     area: &mut [u8],
     at: usize,
 ) -> Option<usize>
-    requires { Stands payload.now msg.now base × (placed.left ≤ 64) × (length payload.now ≤ 32768) × (length d2.now ≤ 32768) × (at ≤ 2 ^ 61) }
-    ensures { ErasedTold (lent payload.now d2.now ends.now notes.now tables) base (base + length msg.now) placed.left placed.nullable placed.position at result area.old area.new }
+    requires { Stands context.now.payload.now msg.bytes.now msg.base × (placed.left ≤ 64) × (length context.now.payload.now ≤ 32768) × (length context.now.d2.now ≤ 32768) × (at ≤ 2 ^ 61) }
+    ensures { ErasedTold (lent context.now) msg.entry.base (msg.entry.base + length msg.entry.bytes.now) placed.left placed.nullable placed.position at result area.old area.new }
 {
-    let mut start = base as usize;
-    let mut end = start + msg.len();
+    let mut start = msg.base;
+    let mut end = start + msg.bytes.len();
     let mut here = placed;
     let mut next = at;
+    // A `loop`: what is written of a type tells whether another follows, so there is no list to walk and no test before it.
     loop {
-        let one = put_type_part(
-            &payload[start..end],
-            start as u32,
-            here,
-            payload,
-            d2,
-            ends,
-            notes,
-            tables,
-            area,
-            next,
-        )?;
-        match one {
-            TypePart::Whole { size } => return Some(next + size - at),
-            TypePart::Bracket => {}
+        let part = Located {
+            base: start,
+            bytes: &context.payload[start..end],
+        };
+        let one = put_type_part(part, here, context, area, next)?;
+        if let TypePart::Whole { size } = one {
+            return Some(next + size - at);
         }
-        let found = first_argument(
-            &payload[start..end],
-            start as u32,
-            here.left.saturating_sub(1),
-            payload,
-            notes,
-            tables,
-        )?;
+        let found = first_argument(part, here.left.saturating_sub(1), context)?;
         start = found.start;
         end = found.end;
         here = Placement {

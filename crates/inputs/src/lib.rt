@@ -17,6 +17,14 @@ const STRING_LIMIT: usize = 4096;
 
 const SUPPORTED_MAJOR: i32 = 2;
 
+// What an annotation carries beside k and mv: d1 and d2 in units, and where d2's strings end.
+#[derive(Clone, Copy)]
+pub struct Units<'a> {
+    pub d1: &'a [u16],
+    pub d2: &'a [u16],
+    pub ends: &'a [u32],
+}
+
 // Refusals 1 to 4.
 #[derive(Clone, Copy, Debug, PartialEq, Eq)]
 pub enum Fault {
@@ -92,16 +100,16 @@ fn ends_fit(ends: &[u32], count: usize) -> bool
 }
 
 // The first of refusals 1 to 4 that is due, if one is.
-pub fn fault_of(d1: &[u16], d2: &[u16], ends: &[u32], version: [i32; 3]) -> Result<(), Fault>
-    ensures { (k : ℤ) → fault_of (input k version d1.now d2.now ends.now) ≡ fault_told result }
+pub fn fault_of(units: &Units<'_>, version: [i32; 3]) -> Result<(), Fault>
+    ensures { (k : ℤ) → fault_of (input k version units.now.d1.now units.now.d2.now units.now.ends.now) ≡ fault_told result }
 {
-    if UNIT_LIMIT < d1.len() {
+    if UNIT_LIMIT < units.d1.len() {
         return Err(Fault::D1TooLong);
     }
-    if UNIT_LIMIT < d2.len() || STRING_LIMIT < ends.len() {
+    if UNIT_LIMIT < units.d2.len() || STRING_LIMIT < units.ends.len() {
         return Err(Fault::D2TooLong);
     }
-    if !ends_fit(ends, d2.len()) {
+    if !ends_fit(units.ends, units.d2.len()) {
         return Err(Fault::StringEnds);
     }
     // compared as signed: a negative major is read

@@ -1,16 +1,19 @@
 -- The record that serves an index, found among running sums; the strings of d2 by their ends.
 -- Assumes nothing.
 use mathlib.Core.Path.{◌≡◌, refl, ap, sym, ◌∙◌, subst}
-use mathlib.Core.Bool.{true}
+use mathlib.Core.Bool.{true, false}
 use mathlib.Core.List.{List, [], ◌∷◌}
 use mathlib.Core.Option.{Option, none, some}
-use Prim.Native.Nat.{ℕ, zero, suc, ◌+◌, ◌-◌, ◌*◌, ◌≤◌, ◌<◌}
+use Prim.Native.Nat.{ℕ, zero, suc, ◌+◌, ◌-◌, ◌*◌, ◌/◌, ◌≤◌, ◌<◌}
 use native.Mathlib.Nat.{le_refl, zero-add}
 use native.Mathlib.Omega.{arith}
-use borrow.Author.Tests.{lt-ltb, le-ltb, leb-true}
+use borrow.Author.Tests.{lt-ltb, le-ltb, leb-true, leb-false}
+use Rattle.std.specs.Simd.{first_chunks}
+use Rattle.std.specs.List.Sorted.{IsNonDecreasingBy, IsPartitionedBy, IsPartitionPoint}
+use Rattle.std.proofs.lemmas.List.Sorted.{IsPartitionedBy-leb}
 use lib.Dec.{leb}
-use lib.ListN.{length, drop, get_or, get_elem?}
-use lib.Seq.{drop-drop}
+use lib.ListN.{length, take, drop, get_or, get_elem?, length-take}
+use lib.Seq.{drop-drop, get_or-drop, get_or-take}
 use Rattle.foundation.proofs.ChoiceLaws.{and_left, and_right}
 use Rattle.characters.specs.told.Places.{part_from}
 use Rattle.names.specs.Records.{Record}
@@ -28,6 +31,17 @@ sums-least n [] zero h = le_refl n
 sums-least n [] (suc k) h = absurd (omega arith)
 sums-least n (r ∷ rs) zero h = le_refl n
 sums-least n (r ∷ rs) (suc k) h = omega (arith, sums-least (n + r) rs k (omega arith))
+
+-- and they rise
+sums-rise : (n : ℕ) (rs : List ℕ) (i j : ℕ) → i ≤ j → j ≤ length rs → get_or (sums_from n rs) i 0 ≤ get_or (sums_from n rs) j 0
+unfolding sums_from
+sums-rise n [] zero zero h l = le_refl n
+sums-rise n [] zero (suc j) h l = absurd (omega arith)
+sums-rise n [] (suc i) j h l = absurd (omega arith)
+sums-rise n (r ∷ rs) zero zero h l = le_refl n
+sums-rise n (r ∷ rs) zero (suc j) h l = omega (arith, sums-least (n + r) rs j (omega arith))
+sums-rise n (r ∷ rs) (suc i) zero h l = absurd (omega arith)
+sums-rise n (r ∷ rs) (suc i) (suc j) h l = sums-rise (n + r) rs i j (omega arith) (omega arith)
 
 -- between two sums it is the record there that serves
 served-at : (n i : ℕ) (rs : List Record) (k : ℕ) → get_or (sums_from n (ranges_of rs)) k 0 ≤ n + i → n + i < get_or (sums_from n (ranges_of rs)) (suc k) 0
@@ -56,17 +70,12 @@ unfolding served_from
 first-at notes zero h = absurd (omega arith)
 first-at notes (suc k) h = let e : 3 * k + 2 ≡ 3 * suc k - 1 = omega arith in ap (λ (n : ℕ). get_or notes n 0) e
 
-pub records-there : (notes : List ℕ) (count index : ℕ) → index < served_from notes count → 0 < count
-unfolding served_from
-records-there notes zero index h = absurd (omega arith)
-records-there notes (suc k) index h = omega arith
-
-pub first-least : (notes : List ℕ) (n : ℕ) → served_from notes 0 ≤ n
+first-least : (notes : List ℕ) (n : ℕ) → served_from notes 0 ≤ n
 unfolding served_from
 first-least notes n = omega arith
 
 module _ (notes : List ℕ) (count index : ℕ) (records : List Record) (sums : Sums notes count records) where
-  pub past_all : served_from notes count ≤ index → record_at index records ≡ none
+  past_all : served_from notes count ≤ index → record_at index records ≡ none
   past_all h =
       served_none 0 index records
       (subst (λ (k : ℕ). get_or (sums_from 0 (ranges_of records)) k 0 ≤ 0 + index) (sym sums.many) (rw (← sums.are count (le_refl count), zero-add) h))
@@ -79,6 +88,60 @@ module _ (notes : List ℕ) (count index : ℕ) (records : List Record) (sums : 
       (rw (← sums.are k (omega arith), zero-add) l)
       (rw (← sums.are (suc k) (omega arith), zero-add) (rw e at h))
       (omega (arith, sums.many))
+
+-- The words of record k are the chunk k of the notes, and its last word is where the next begins.
+pub chunk_word : (notes : List ℕ) (n k : ℕ) (d : List ℕ) → k < n → get_or (get_or (first_chunks 3 n notes) k d) 2 0 ≡ served_from notes (suc k)
+unfolding served_from
+chunk_word notes zero k d h = absurd (omega arith)
+chunk_word notes (suc n) zero d h = get_or-take 3 notes 2 0 (omega arith)
+chunk_word notes (suc n) (suc k) d h =
+    let e : 3 + (3 * k + 2) ≡ 3 * suc k + 2 = omega arith in
+    chunk_word (drop 3 notes) n k d (omega arith) ∙ get_or-drop 3 notes (3 * k + 2) 0 ∙ ap (λ (j : ℕ). get_or notes j 0) e
+
+-- The first record that ends past an index, where the sums rise.
+abbrev pub past : List ℕ → ℕ
+past words = get_or words 2 0
+
+module _ (notes : List ℕ) (count index : ℕ) (records : List Record) (sums : Sums notes count records) (chunks : List (List ℕ))
+    (cut : chunks ≡ first_chunks 3 (length notes / 3) notes) (many : length chunks ≡ length notes / 3) where
+  abbrev words : List (List ℕ)
+  words = take count chunks
+
+  words-many : length words ≡ count
+  words-many = rw length-take (omega (arith, sums.long))
+
+  last : (k : ℕ) (d : List ℕ) → k < count → past (get_or words k d) ≡ served_from notes (suc k)
+  last k d h =
+      ap past (get_or-take count chunks k d h)
+      ∙ ap (λ (cs : List (List ℕ)). past (get_or cs k d)) cut
+      ∙ chunk_word notes (length notes / 3) k d (omega (arith, sums.long))
+
+  first-rise : (i j : ℕ) → i ≤ j → j ≤ count → served_from notes i ≤ served_from notes j
+  first-rise i j h l =
+      rw (sums.are i (omega arith), sums.are j l)
+      (sums-rise 0 (ranges_of records) i j h (rw length-ranges (omega (arith, sums.many))))
+
+  ends-rise : IsNonDecreasingBy past words
+  ends-rise i j d h l =
+      let m = words-many in
+      rw (last i d (omega arith), last j d (omega arith)) (first-rise (suc i) (suc j) (omega arith) (omega arith))
+
+  pub ended_first : IsPartitionedBy (λ r. leb (past r) index) words
+  ended_first = IsPartitionedBy-leb past words index ends-rise
+
+  module _ (at : ℕ) (t : IsPartitionPoint (λ r. leb (past r) index ≡ true) (λ r. leb (past r) index ≡ false) words at) where
+    begins : at ≤ count → (k : ℕ) → k ≤ at → served_from notes k ≤ index
+    begins m zero h = first-least notes index
+    begins m (suc k) h = rw (← last k [] (omega arith)) (leb-true (past (get_or words k [])) index (t.0 k [] (omega arith) (omega arith)))
+
+    pub none-ends : at ≡ count → record_at index records ≡ none
+    none-ends e = past_all notes count index records sums (begins (omega arith) count (omega arith))
+
+    pub first-ends : at < count → record_at index records ≡ get_elem? records at
+    first-ends h =
+        let m = words-many in
+        let u : index < served_from notes (suc at) = rw (← last at [] h) (leb-false (past (get_or words at [])) index (t.1 at [] (le_refl at) (omega arith))) in
+        served-by notes count index records sums at (suc at) (omega arith) (omega arith) (begins (omega arith) at (le_refl at)) u (omega arith)
 
 -- Each string of d2 stands between two ends.
 d2_none : (at : ℕ) (ends units : List ℕ) (k : ℕ) → length ends ≤ k → get_elem? (strings_from at ends units) k ≡ none

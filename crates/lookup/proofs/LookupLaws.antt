@@ -17,13 +17,15 @@ use Rattle.foundation.proofs.ChoiceLaws.{drop-take}
 use Rattle.names.specs.Records as definition
 use Rattle.names.specs.Records.{decides}
 use Rattle.names.specs.Names.{Names, record_at, strings_from, d2_string, string, qualified_name}
-use Rattle.names.specs.told.Name.{source_text, sized, turned, name_text, absent_name}
+use Rattle.names.specs.told.Name.{source_text, sized, turned, named_text, name_text}
 use Rattle.names.specs.told.Index.{start_of, end_of, IndexOf}
 use Rattle.lookup.specs.told.Lookups.{found_in, FoundBelow, FindTold, NotesOf, NotedWords, DecidedIs, DecidedTold}
 use Rattle.record_names.specs.told.Named.{NamedIs, ClassIs}
 use Rattle.record_names.specs.told.Note.{noted, noted_class}
 use Rattle.record_names.specs.told.Steps.{extent_of}
 use Rattle.names.specs.declared.name.Name.{Name}
+use Rattle.names.specs.declared.name.Source.TheVariants.{D2}
+use Rattle.names.specs.declared.name.Operation.TheVariants.{Nothing}
 use Rattle.record_names.specs.declared.note.Words.{Words}
 use Rattle.foundation.specs.declared.Span.{Span}
 use Rattle.std.specs.Prelude.{Some, None}
@@ -39,14 +41,14 @@ elem_some (x ∷ l) (suc k) h = elem_some l k (omega arith)
 
 -- A part of d2 as a name.
 module _ (payload units ends : List ℕ) (index : ℕ) {r : rust.Option Span} (e : get_elem? (strings_from 0 ends units) index ≡ extent_of units r) where
-  pub d2-absent : r ≡ None → {n : Name} → n ≡ absent_name → d2_string (strings_from 0 ends units) index ≡ ok (name_text payload units n)
-  unfolding d2_string name_text source_text
-  d2-absent g q = rw (q, e, g)
+  pub d2-absent : r ≡ None → d2_string (strings_from 0 ends units) index ≡ ok (name_text payload units None)
+  unfolding d2_string
+  d2-absent g = rw (e, g)
 
   pub d2-named : {p : Span} → r ≡ Some p → (size : ℕ) → SizeOf units ends index size
       → d2_string (strings_from 0 ends units) index
-      ≡ ok (name_text payload units (record { source = 3; start = p.start; end = p.end; from = 0; to = 0; operation = 0; qualified = false; size = size }))
-  unfolding d2_string name_text source_text turned
+      ≡ ok (name_text payload units (Some record { source = D2; part = p; from = 0; to = 0; operation = Nothing; qualified = false; size = size }))
+  unfolding d2_string named_text source_text turned
   d2-named {p} g size z =
       let t = from_utf16 (part_from p.start p.end units) in
       let h : (size ≡ 0 → ⊥) → size ≡ length (utf8 t) = λ n. z n (part_from p.start p.end units) (e ∙ ap (extent_of units) g) in
@@ -73,30 +75,30 @@ module _ (notes : List ℕ) (count index : ℕ) where
   by-none class w bytes units records d2 i = rw (w bytes records i)
 
   module _ {w : Words} (t : NotedWords notes count index (Some w)) where
-    named : (bytes units : List ℕ) (names : Names) (r : definition.Record) (d : rust.Option Name) → record_at index names.records ≡ some r
+    named : (bytes units : List ℕ) (names : Names) (r : definition.Record) (d : rust.Option (rust.Option Name)) → record_at index names.records ≡ some r
         → NamedIs bytes units r d → DecidedIs bytes units false names index d
     unfolding string
     named bytes units names r (Some name) e h = rw (e, h.0) (ap ok h.1)
     named bytes units names r None e h = rw (e, h)
 
-    class-named : (bytes units : List ℕ) (names : Names) (r : definition.Record) (d : rust.Option Name) → record_at index names.records ≡ some r
+    class-named : (bytes units : List ℕ) (names : Names) (r : definition.Record) (d : rust.Option (rust.Option Name)) → record_at index names.records ≡ some r
         → ClassIs bytes units r d → DecidedIs bytes units true names index d
     unfolding string qualified_name
     class-named bytes units names r (Some name) e h = rw (e, h.0) (ap ok h.1)
     class-named bytes units names r None e h = rw (e, h)
 
-    pub by-name : {d : rust.Option Name} → d ≡ noted w.place w.steps → DecidedTold notes count index false d
+    pub by-name : {d : rust.Option (rust.Option Name)} → d ≡ noted w.place w.steps → DecidedTold notes count index false d
     by-name g bytes units records d2 i =
         let r = t bytes records i in
         rw g (named bytes units (record { records = records; d2 = d2 }) r.0 (noted w.place w.steps) r.1 (r.2.is units))
 
-    pub by-class : {d : rust.Option Name} → d ≡ noted_class w.place w.steps → DecidedTold notes count index true d
+    pub by-class : {d : rust.Option (rust.Option Name)} → d ≡ noted_class w.place w.steps → DecidedTold notes count index true d
     by-class g bytes units records d2 i =
         let r = t bytes records i in
         rw g (class-named bytes units (record { records = records; d2 = d2 }) r.0 (noted_class w.place w.steps) r.1 (r.2.class units))
 
 -- By whether a record decides.
-module _ (bytes notes : List ℕ) (count index : ℕ) (class : Bool) (r : rust.Option Name) (t : DecidedTold notes count index class r)
+module _ (bytes notes : List ℕ) (count index : ℕ) (class : Bool) (r : rust.Option (rust.Option Name)) (t : DecidedTold notes count index class r)
     (units : List ℕ) (records : List definition.Record) (d2 : ℕ → Res (Option Text)) (i : NotesOf bytes notes count records) where
   pub decided-no : r ≡ None → string (record { records = records; d2 = d2 }) index ≡ d2 index
   decided-no g = subst (DecidedIs bytes units class (record { records = records; d2 = d2 }) index) g (t bytes units records d2 i)

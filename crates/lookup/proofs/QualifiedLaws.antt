@@ -19,7 +19,7 @@ use Rattle.characters.proofs.SeamLaws.{units_seam}
 use Rattle.characters.proofs.UnitLaws.{units-ended, units-cons}
 use Rattle.names.specs.Records.{dotted}
 use Rattle.names.specs.Names.{Names, string, qualified_name, unwrapped, strings_from, d2_string}
-use Rattle.names.specs.told.Name.{source_text, sized, turned, name_text, absent_name}
+use Rattle.names.specs.told.Name.{source_text, sized, turned, named_text, name_text}
 use Rattle.record_names.specs.told.Steps.{extent_of}
 use Rattle.lookup.specs.told.Qualified.{ClippedTold, WrappedTold, units_name}
 use Rattle.record_names.specs.told.ClassNames.{class_text}
@@ -141,10 +141,9 @@ module _ (l : List ℕ) (start end : ℕ) where
 
 -- The class name of a string of d2.
 module _ (payload units ends : List ℕ) (index : ℕ) {r : rust.Option Span} (e : get_elem? (strings_from 0 ends units) index ≡ extent_of units r) where
-  pub class-none : r ≡ None → {n : Name} → n ≡ absent_name
-      → (d2_string (strings_from 0 ends units) index >>= λ t. ok (class_text t)) ≡ ok (name_text payload units n)
-  unfolding d2_string name_text source_text
-  class-none g q = rw (q, e, g)
+  pub class-none : r ≡ None → (d2_string (strings_from 0 ends units) index >>= λ t. ok (class_text t)) ≡ ok (name_text payload units None)
+  unfolding d2_string
+  class-none g = rw (e, g)
 
   module _ {p : Span} (g : r ≡ Some p) {end : ℕ} (c : ClippedTold units p.end end) where
     abbrev start : ℕ
@@ -156,25 +155,25 @@ module _ (payload units ends : List ℕ) (index : ℕ) {r : rust.Option Span} (e
 
     class-units : (a b size : ℕ) → unwrapped (from_utf16 (part_from start end units)) ≡ from_utf16 (part_from a b units)
         → ((size ≡ 0 → ⊥) → size ≡ length (utf8 (from_utf16 (part_from a b units))))
-        → (d2_string (strings_from 0 ends units) index >>= λ t. ok (class_text t)) ≡ ok (name_text payload units (units_name a b size))
-    unfolding d2_string name_text source_text turned
+        → (d2_string (strings_from 0 ends units) index >>= λ t. ok (class_text t)) ≡ ok (name_text payload units (Some (units_name (record { start = a; end = b }) size)))
+    unfolding d2_string named_text source_text turned
     class-units a b size f z =
         rw (e, g, c.same start)
         (ap (λ (t : Text). ok (some (dotted t)))
         (f ∙ sym (sized-is size (from_utf16 (part_from a b units)) z) ∙ ap (sized size) (sym (same-substituted (from_utf16 (part_from a b units))))))
 
-    pub class-whole : {n : Name} (size : ℕ) → SizeOf units ends index size → WrappedTold units start end false → n ≡ units_name start end size
-        → (d2_string (strings_from 0 ends units) index >>= λ t. ok (class_text t)) ≡ ok (name_text payload units n)
-    class-whole size z w q = class-units start end size (w.no refl) (sized-part z) ∙ ap (λ (m : Name). ok (name_text payload units m)) (sym q)
+    pub class-whole : {n : Name} (size : ℕ) → SizeOf units ends index size → WrappedTold units start end false → n ≡ units_name (record { start = start; end = end }) size
+        → (d2_string (strings_from 0 ends units) index >>= λ t. ok (class_text t)) ≡ ok (name_text payload units (Some n))
+    class-whole size z w q = class-units start end size (w.no refl) (sized-part z) ∙ ap (λ (m : Name). ok (name_text payload units (Some m))) (sym q)
 
     pub class-inner : {n : Name} (size less : ℕ) → SizeOf units ends index size → WrappedTold units start end true → less ≡ class_size size start (start + 1)
-        → n ≡ units_name (start + 1) (end - 1) less
-        → (d2_string (strings_from 0 ends units) index >>= λ t. ok (class_text t)) ≡ ok (name_text payload units n)
+        → n ≡ units_name (record { start = start + 1; end = end - 1 }) less
+        → (d2_string (strings_from 0 ends units) index >>= λ t. ok (class_text t)) ≡ ok (name_text payload units (Some n))
     class-inner size less z w h q =
         let y = w.yes refl in
         let l : less ≡ size - 2 = h ∙ rw (ne_eqb (start + 1) start (λ x. omega arith)) in
         class-units (start + 1) (end - 1) less y.1 (λ n. let k = sized-part z (λ x. n (omega arith)) in omega (arith, y.2))
-        ∙ ap (λ (m : Name). ok (name_text payload units m)) (sym q)
+        ∙ ap (λ (m : Name). ok (name_text payload units (Some m))) (sym q)
 
 -- A class name by its index.
 module _ (n : Names) (index : ℕ) where

@@ -19,8 +19,8 @@ pub mod qualified; // qualified.rt: class names by their index
 
 use crate::codes::code_at;
 use crate::strings::size_at;
-use foundation::{Span, wide};
-use names::name::{Name, absent};
+use foundation::{Context, Span, wide};
+use names::name::{Name, Source};
 use names::records::RECORD_WORDS;
 use record_names::note::{Words, noted, noted_class};
 use record_names::plain;
@@ -38,43 +38,38 @@ fn served_from(notes: &[u64], at: usize) -> u64
 }
 
 // Is it this record that serves an index?
-fn serves(notes: &[u64], count: usize, at: usize, index: u64) -> bool
-    requires { 3 * count ≤ length notes.now }
-    ensures { result ≡ true → ServesTold notes.now count at index }
+fn serves(context: &Context<'_>, at: usize, index: u64) -> bool
+    requires { 3 * context.now.tables.records ≤ length context.now.notes.now }
+    ensures { result ≡ true → ServesTold context.now.notes.now context.now.tables.records at index }
 {
-    at < count && served_from(notes, at) <= index && index < served_from(notes, at + 1)
+    let notes = context.notes;
+    at < context.tables.records
+        && served_from(notes, at) <= index
+        && index < served_from(notes, at + 1)
 }
 
-// The record that serves an index, by the first index that each of `count` records serves and the first that none does.
-fn find_record(notes: &[u64], count: usize, index: u32) -> Option<usize>
-    ensures record { FindTold notes.now count index result }
-    ensures inside { IfSome result (λ at. 3 * at + 2 < length notes.now) }
+// The record that serves an index: by its code where that is right, else the first that ends past it.
+fn find_record(context: &Context<'_>, index: u32) -> Option<usize>
+    ensures record { FindTold context.now.notes.now context.now.tables.records index result }
+    ensures inside { IfSome result (λ at. 3 * at + 2 < length context.now.notes.now) }
 {
+    let notes = context.notes;
+    let count = context.tables.records;
     if notes.len() / RECORD_WORDS < count {
         return None;
     }
     let wanted = u64::from(index);
-    if served_from(notes, count) <= wanted {
-        return None;
-    }
     if let Some(code) = code_at(notes, wide(index))
-        && serves(notes, count, code, wanted)
+        && serves(context, code, wanted)
     {
         return Some(code);
     }
-    // By hand, since std searches the elements of a slice, and a record has three words of this one. The record serves no index below that
-    // of `low`, and that of `high` is past it.
-    let mut low = 0;
-    let mut high = count;
-    while 1 < high - low {
-        let middle = low + (high - low) / 2;
-        if served_from(notes, middle) <= wanted {
-            low = middle;
-        } else {
-            high = middle;
-        }
+    let (records, _) = notes.as_chunks::<RECORD_WORDS>();
+    let at = records[..count].partition_point(|words| words[2] <= wanted);
+    if at == count {
+        return None;
     }
-    Some(low)
+    Some(at)
 }
 
 // A string of d2, by where its strings end.
@@ -91,16 +86,14 @@ pub(crate) fn d2_extent(ends: &[u32], index: u32) -> Option<Span>
 }
 
 // A string of d2 as a name.
-fn d2_name(notes: &[u64], ends: &[u32], index: u32) -> Name
-    ensures { (payload units : List ℕ) → ends_fit 0 ends.now (length units) ≡ true → SizesOf units ends.now notes.now → d2_string (strings_from 0 ends.now units) index ≡ ok (name_text payload units result) }
+fn d2_name(context: &Context<'_>, index: u32) -> Option<Name>
+    ensures { (payload units : List ℕ) → ends_fit 0 context.now.ends.now (length units) ≡ true → SizesOf units context.now.ends.now context.now.notes.now → d2_string (strings_from 0 context.now.ends.now units) index ≡ ok (name_text payload units result) }
 {
-    let Some(part) = d2_extent(ends, index) else {
-        return absent();
-    };
-    Name {
-        size: size_at(notes, index, part),
-        ..plain(3, part)
-    }
+    let part = d2_extent(context.ends, index)?;
+    Some(Name {
+        size: size_at(context.notes, index, part),
+        ..plain(Source::D2, part)
+    })
 }
 
 // Where the message of record `at` stands, by the index.
@@ -120,36 +113,37 @@ pub(crate) fn place_of(bytes: &[u8], notes: &[u64], at: usize) -> Option<Span>
 }
 
 // What is noted of the record that serves an index.
-fn words_of(notes: &[u64], count: usize, index: u32) -> Option<Words>
-    ensures { NotedWords notes.now count index result }
+fn words_of(context: &Context<'_>, index: u32) -> Option<Words>
+    ensures { NotedWords context.now.notes.now context.now.tables.records index result }
 {
-    let at = find_record(notes, count, index)?;
+    let at = find_record(context, index)?;
     Some(Words {
-        place: notes[RECORD_WORDS * at],
-        steps: notes[RECORD_WORDS * at + 1],
+        place: context.notes[RECORD_WORDS * at],
+        steps: context.notes[RECORD_WORDS * at + 1],
     })
 }
 
-// The name that the record of an index builds, if it decides: it has a string or a predefined index, even if its text can't be built.
-fn by_record(notes: &[u64], count: usize, index: u32) -> Option<Name>
-    ensures { DecidedTold notes.now count index false result }
+// The name that the record of an index builds, if it decides: it has a string or a predefined index, even if its text can't be built and there
+// is no name.
+fn by_record(context: &Context<'_>, index: u32) -> Option<Option<Name>>
+    ensures { DecidedTold context.now.notes.now context.now.tables.records index false result }
 {
-    noted(words_of(notes, count, index)?)
+    noted(words_of(context, index)?)
 }
 
 // The class name that it builds, if it decides.
-pub(crate) fn class_by_record(notes: &[u64], count: usize, index: u32) -> Option<Name>
-    ensures { DecidedTold notes.now count index true result }
+pub(crate) fn class_by_record(context: &Context<'_>, index: u32) -> Option<Option<Name>>
+    ensures { DecidedTold context.now.notes.now context.now.tables.records index true result }
 {
-    noted_class(words_of(notes, count, index)?)
+    noted_class(words_of(context, index)?)
 }
 
-// The string with an index, of the name table whose index stands in `notes`; d2's strings end at `ends`.
-pub fn string(bytes: &[u8], notes: &[u64], count: usize, ends: &[u32], index: u32) -> Name
-    ensures { (units : List ℕ) (records : List Record) → ends_fit 0 ends.now (length units) ≡ true → SizesOf units ends.now notes.now → NotesOf bytes.now notes.now count records → string (record { records = records; d2 = d2_string (strings_from 0 ends.now units) }) index ≡ ok (name_text bytes.now units result) }
+// The string with an index, of the name table whose index stands in the notes.
+pub fn string(context: &Context<'_>, index: u32) -> Option<Name>
+    ensures { (units : List ℕ) (records : List Record) → ends_fit 0 context.now.ends.now (length units) ≡ true → SizesOf units context.now.ends.now context.now.notes.now → NotesOf context.now.payload.now context.now.notes.now context.now.tables.records records → string (record { records = records; d2 = d2_string (strings_from 0 context.now.ends.now units) }) index ≡ ok (name_text context.now.payload.now units result) }
 {
-    match by_record(notes, count, index) {
+    match by_record(context, index) {
         Some(name) => name,
-        None => d2_name(notes, ends, index),
+        None => d2_name(context, index),
     }
 }

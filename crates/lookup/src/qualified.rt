@@ -11,8 +11,8 @@ ghost use Rattle.lookup.specs.told.Strings.{SizesOf};
 
 use crate::strings::size_at;
 use crate::{class_by_record, d2_extent};
-use foundation::Span;
-use names::name::{Name, absent};
+use foundation::{Context, Span};
+use names::name::{Name, Source};
 use record_names::note::class_size;
 use record_names::plain;
 
@@ -22,11 +22,12 @@ fn clipped(units: &[u16], end: usize) -> usize
     end.min(units.len())
 }
 
-// Do the units begin with L and end with ;?
-fn is_wrapped(units: &[u16], start: usize, end: usize) -> bool
-    requires { end ≤ length units.now }
-    ensures { WrappedTold units.now start end result }
+// Does a part of the units begin with L and end with ;?
+fn is_wrapped(units: &[u16], part: Span) -> bool
+    requires { part.end ≤ length units.now }
+    ensures { WrappedTold units.now part.start part.end result }
 {
+    let Span { start, end } = part;
     if start < end && start < end - 1 && units[start] == 0x4c {
         return units[end - 1] == 0x3b;
     }
@@ -34,45 +35,42 @@ fn is_wrapped(units: &[u16], start: usize, end: usize) -> bool
 }
 
 // A class name made of units of d2.
-fn units_name(start: usize, end: usize, size: usize) -> Name
-    ensures { result ≡ units_name start end size }
+fn units_name(part: Span, size: usize) -> Name
+    ensures { result ≡ units_name part size }
 {
     Name {
         qualified: true,
         size,
-        ..plain(3, Span { start, end })
+        ..plain(Source::D2, part)
     }
 }
 
 // The class name of a string of d2.
-fn qualified_units(notes: &[u64], units: &[u16], ends: &[u32], index: u32) -> Name
-    ensures { SizesOf units.now ends.now notes.now → QualifiedUnits units.now ends.now index result }
+fn qualified_units(context: &Context<'_>, index: u32) -> Option<Name>
+    ensures { SizesOf context.now.d2.now context.now.ends.now context.now.notes.now → QualifiedUnits context.now.d2.now context.now.ends.now index result }
 {
-    let Some(part) = d2_extent(ends, index) else {
-        return absent();
+    let part = d2_extent(context.ends, index)?;
+    let whole = Span {
+        end: clipped(context.d2, part.end),
+        ..part
     };
-    let start = part.start;
-    let end = clipped(units, part.end);
-    let size = size_at(notes, index, part);
-    if is_wrapped(units, start, end) {
-        return units_name(start + 1, end - 1, class_size(size, start, start + 1));
+    let size = size_at(context.notes, index, part);
+    if is_wrapped(context.d2, whole) {
+        let inner = Span {
+            start: whole.start + 1,
+            end: whole.end - 1,
+        };
+        return Some(units_name(inner, class_size(size, whole.start, inner.start)));
     }
-    units_name(start, end, size)
+    Some(units_name(whole, size))
 }
 
-// The class name with an index; as `string`, with the units of d2.
-pub fn qualified_name(
-    bytes: &[u8],
-    notes: &[u64],
-    count: usize,
-    units: &[u16],
-    ends: &[u32],
-    index: u32,
-) -> Name
-    ensures { (records : List Record) → ends_fit 0 ends.now (length units.now) ≡ true → SizesOf units.now ends.now notes.now → NotesOf bytes.now notes.now count records → qualified_name (record { records = records; d2 = d2_string (strings_from 0 ends.now units.now) }) index ≡ ok (name_text bytes.now units.now result) }
+// The class name with an index; as `string`, but each of the two places gives another name and has another law.
+pub fn qualified_name(context: &Context<'_>, index: u32) -> Option<Name>
+    ensures { (records : List Record) → ends_fit 0 context.now.ends.now (length context.now.d2.now) ≡ true → SizesOf context.now.d2.now context.now.ends.now context.now.notes.now → NotesOf context.now.payload.now context.now.notes.now context.now.tables.records records → qualified_name (record { records = records; d2 = d2_string (strings_from 0 context.now.ends.now context.now.d2.now) }) index ≡ ok (name_text context.now.payload.now context.now.d2.now result) }
 {
-    match class_by_record(notes, count, index) {
+    match class_by_record(context, index) {
         Some(name) => name,
-        None => qualified_units(notes, units, ends, index),
+        None => qualified_units(context, index),
     }
 }

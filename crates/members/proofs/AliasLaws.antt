@@ -1,53 +1,50 @@
 -- Type aliases in code.
 -- Assumes nothing.
 use mathlib.Core.Path.{◌≡◌, sym, subst}
-use mathlib.Core.Bool.{Bool, true, false}
 use mathlib.Core.List.{List, [], ◌∷◌}
 use mathlib.Core.Option.{Option, none, some}
 use Prim.Native.Nat.{ℕ, ◌+◌, ◌*◌}
 use native.Mathlib.Omega.{arith}
 use lib.ListN.{length}
 use Rattle.declaration_rows.specs.declared.Role.TheVariants as roles
-use Rattle.foundation.specs.Choices.{is_some}
 use Rattle.foundation.specs.Results as Results
 use Rattle.foundation.specs.Results.{ok, ◌from◌}
 use Rattle.foundation.specs.Texts.{Text}
 use Rattle.fields.specs.Fields.{TypeAlias-flags, TypeAlias-name, TypeAlias-underlying_type, TypeAlias-underlying_type_id, TypeAlias-expanded_type, TypeAlias-expanded_type_id}
 use Rattle.wire.specs.Wire.{Message, cut}
-use Rattle.names.specs.told.Name.{name_text}
+use Rattle.names.specs.told.Name.{named_text}
+use Rattle.std.specs.declared.option.Option.TheVariants.{Some}
 use Rattle.names.specs.declared.name.Name.{Name}
 use Rattle.sheet.specs.Rows.{Row, row}
 use Rattle.sheet.specs.told.Put.{PutRows}
 use Rattle.sheet.specs.declared.State.{State}
 use Rattle.sheet.proofs.PutLaws.{put-types}
 use Rattle.declaration_rows.specs.Declarations.{Ty, Alias}
-use Rattle.declaration_rows.specs.Rows.{underlying_role, expanded_role, alias_rows}
+use Rattle.declaration_rows.specs.Rows.{alias_rows}
 use Rattle.declaration_rows.specs.told.Written.{cell_limit, alias_cells}
 use Rattle.declaration_rows.proofs.WrittenLaws.{row_room, alias-small}
 use Rattle.declaration_rows.proofs.RecordLaws.{alias-put}
 use Rattle.schema.specs.Reading.{pure, Scope, name_in}
 use Rattle.schema.specs.Types.{declared_type}
 use Rattle.schema.specs.Members.{flags_in, alias_in}
-use Rattle.schema.specs.told.SchemaTold.{Lent, NamesOf}
+use Rattle.schema.specs.told.SchemaTold.{Lent, Scoped}
 use Rattle.schema.specs.told.TypesTold.{picked_of}
 use Rattle.schema.specs.told.MembersTold.{Affords, Within, member_cost, MemberTold}
 use Rattle.members.specs.told.PairsTold.{pair_in, pair_rows, PairTold}
 use Rattle.members.specs.declared.pairs.TypePair.{TypePair}
 use Rattle.schema.proofs.CountLaws.{within_less, affords-places}
-use Rattle.members.proofs.PairLaws.{both-joined, pair-nameless, pair-told}
-use Rattle.std.specs.declared.option.Option.TheVariants.{None}
-use Rattle.std.specs.declared.result.Result.TheVariants.{Ok}
+use Rattle.members.proofs.PairLaws.{both-joined, pair-told}
 use Rattle.schema.specs.told.SchemaTold.{Walked, Picked}
 
 -- what an alias's record takes
 abbrev record_cost : ℕ
 record_cost = 1 + 2 * cell_limit
 
-module _ {payload d2 : List ℕ} {n : ℕ} {s s₁ : State} (h : Affords payload d2 n s) (name : Name) (flags : ℕ) {S S₁ T T₁ : List ℕ}
-    (p : PutRows (row 8 (alias_cells (name_text payload d2 name) flags) ∷ []) s.types s s₁ S S₁ T T₁) where
+module _ {e : Lent} {n : ℕ} {s s₁ : State} (h : Affords e n s) (name : Name) (flags : ℕ) {S S₁ T T₁ : List ℕ}
+    (p : PutRows (row 8 (alias_cells (some (named_text e.payload e.d2 name)) flags) ∷ []) s.types s s₁ S S₁ T T₁) where
   pub alias-within : Within record_cost s s₁
   alias-within =
-      let r = row_room (alias_cells (name_text payload d2 name) flags) (alias-small (affords-places h) name flags) (affords-places h) 8 p in
+      let r = row_room (alias_cells (some (named_text e.payload e.d2 name)) flags) (alias-small (affords-places h) (Some name) flags) (affords-places h) 8 p in
       record { counts = omega (arith, r.places, put-types p); types = omega (arith, put-types p) }
 
 -- An alias.
@@ -60,7 +57,7 @@ alias_pair = record {
 alias_of : Text → Message → Option Ty × Option Ty → Alias
 alias_of name m ts = record { name = name; flags = flags_in TypeAlias-flags m; underlying = ts.0; expanded = ts.1 }
 
-alias_none : (c : Scope) (m : Message) (l : ℕ) → name_in c TypeAlias-name m l ≡ ok (none, l) → alias_in c m l ≡ ok (none, l)
+pub alias_none : (c : Scope) (m : Message) (l : ℕ) → name_in c TypeAlias-name m l ≡ ok (none, l) → alias_in c m l ≡ ok (none, l)
 unfolding alias_in
 alias_none c m l i = rw i
 
@@ -81,25 +78,17 @@ alias_puts : (t : Text) (m : Message) (ts : Option Ty × Option Ty) {b b' : ℕ}
 unfolding alias_of
 alias_puts t m ts p q = alias-put (alias_of t m ts) p q
 
-module _ (e : Lent) (msg : List ℕ) (base : ℕ) (s : State) (name : Name)
-    (i : (units : List ℕ) (c : Scope) → NamesOf e.payload units e.ends e.notes e.tables.records c.names
-    → (m : Message) → cut (◌from◌ base msg) ≡ ok m → (l : ℕ) → name_in c TypeAlias-name m l ≡ ok (name_text e.payload units name, l))
-    {there : Bool} (h : (payload d2 : List ℕ) → is_some (name_text payload d2 name) ≡ there) where
-  pub alias-nameless : there ≡ false → {S T : List ℕ} → MemberTold alias_in alias_rows (member_cost (length msg)) e msg base s (Ok None) S S T T
-  alias-nameless = pair-nameless alias_in alias_rows (member_cost (length msg)) TypeAlias-name e msg base s name i h alias_none
-
-  module _ (afford : Affords e.payload e.d2 (member_cost (length msg)) s) (q : there ≡ true) (flags : ℕ)
-      (d : (m : Message) → cut (◌from◌ base msg) ≡ ok m → flags_in TypeAlias-flags m ≡ flags) {s₁ : State} {S S₁ T T₁ : List ℕ}
-      (p : PutRows (row 8 (alias_cells (name_text e.payload e.d2 name) flags) ∷ []) s.types s s₁ S S₁ T T₁) where
-    written : (m : Message) → cut (◌from◌ base msg) ≡ ok m → (t : Text) → name_text e.payload e.d2 name ≡ some t
-        → PutRows (alias_record t m ∷ []) s.types s s₁ S S₁ T T₁
-    written m k t f =
-        let p' = subst (λ (v : Option Text). PutRows (row 8 (alias_cells v flags) ∷ []) s.types s s₁ S S₁ T T₁) f p in
-        subst (λ (v : ℕ). PutRows (row 8 (alias_cells (some t) v) ∷ []) s.types s s₁ S S₁ T T₁) (sym (d m k)) p'
-
-    pub alias-told : {w : Walked} {r : Picked} {S₂ T₂ : List ℕ} → PairTold alias_pair e msg base s₁ w S₁ S₂ T₁ T₂ → r ≡ picked_of w
-        → MemberTold alias_in alias_rows (member_cost (length msg)) e msg base s r S S₂ T T₂
-    alias-told =
-        pair-told alias_in alias_rows (member_cost (length msg)) TypeAlias-name e msg base s name i h alias_pair alias_of alias_record
-        alias_some q (within_less (member_cost (length msg)) (omega arith) (alias-within afford name flags p)) (put-types p) written
-        λ t m ts b s₂ S₂ T₂ f z. alias_puts t m ts f z
+module _ {e : Lent} {msg : List ℕ} {base : ℕ} {s : State} (name : Name)
+    (i : (c : Scope) → Scoped e c → (m : Message) → cut (◌from◌ base msg) ≡ ok m → (l : ℕ)
+    → name_in c TypeAlias-name m l ≡ ok (some (named_text e.payload e.d2 name), l))
+    (afford : Affords e (member_cost (length msg)) s) (flags : ℕ)
+    (d : (m : Message) → cut (◌from◌ base msg) ≡ ok m → flags_in TypeAlias-flags m ≡ flags) {s₁ : State} {S S₁ T T₁ : List ℕ}
+    (p : PutRows (row 8 (alias_cells (some (named_text e.payload e.d2 name)) flags) ∷ []) s.types s s₁ S S₁ T T₁) where
+  pub alias-told : {w : Walked} {r : Picked} {S₂ T₂ : List ℕ} → PairTold alias_pair e msg base s₁ w S₁ S₂ T₁ T₂ → r ≡ picked_of w
+      → MemberTold alias_in alias_rows (member_cost (length msg)) e msg base s r S S₂ T T₂
+  alias-told =
+      let t = named_text e.payload e.d2 name in
+      pair-told alias_in alias_rows (member_cost (length msg)) e msg base s alias_pair (alias_of t) (alias_record t)
+      (λ c o m k l. alias_some c m l t (i c o m k l)) (within_less (member_cost (length msg)) (omega arith) (alias-within afford name flags p)) (put-types p)
+      (λ m k. subst (λ (v : ℕ). PutRows (row 8 (alias_cells (some t) v) ∷ []) s.types s s₁ S S₁ T T₁) (sym (d m k)) p)
+      λ m ts b s₂ S₂ T₂ f z. alias_puts t m ts f z

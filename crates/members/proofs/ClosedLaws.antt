@@ -3,16 +3,15 @@
 use mathlib.Core.Path.{◌≡◌, refl, sym, ap, subst, ◌∙◌}
 use mathlib.Core.List.{List, [], ◌∷◌, ◌++◌, append-nil}
 use mathlib.Core.Option.{Option, none, some}
-use Prim.Native.Nat.{ℕ, ◌+◌, ◌-◌, ◌*◌, ◌≤◌}
+use Prim.Native.Nat.{ℕ, zero, suc, ◌+◌, ◌-◌, ◌*◌, ◌≤◌}
 use native.Mathlib.Omega.{arith}
-use lib.ListN.{length, take, drop, length-take}
+use lib.ListN.{length, take, drop, get_or, length-take}
 use lib.Seq.{sets, take-append_seam, length-take-le}
 use Rattle.foundation.specs.Choices.{map_option}
-use Rattle.foundation.specs.Digits.{little}
 use Rattle.foundation.specs.Results.{ok, ◌from◌}
-use Rattle.foundation.proofs.DigitLaws.{length_digits}
 use Rattle.foundation.proofs.OverlayLaws.{sets_front}
 use Rattle.wire.specs.Wire.{Message, cut}
+use Rattle.std.proofs.lemmas.List.{set-get_or}
 use Rattle.sheet.specs.Rows.{ref, Row, row, body_text, texts}
 use Rattle.sheet.specs.told.Put.{PutRows}
 use Rattle.sheet.specs.declared.State.{State}
@@ -64,6 +63,22 @@ default-within x n h {s} {s'} p =
     let l : length (Rattle.sheet.specs.Rows.sheet_from s.text (row 7 (ref x ∷ []) ∷ [])) ≡ 5 = sheet-length s.text (row 7 (ref x ∷ []) ∷ []) ∙ default-length x in
     record { counts = omega (arith, put-sheet p, put-text p, put-types p); types = omega (arith, put-types p) }
 
+-- what stands at n places from i on; written over them, it changes nothing
+standing : List ℕ → ℕ → ℕ → List ℕ
+standing l i zero = []
+standing l i (suc n) = get_or l i 0 ∷ standing l (suc i) n
+
+standing-length : (l : List ℕ) (i n : ℕ) → length (standing l i n) ≡ n
+unfolding standing
+standing-length l i zero = refl
+standing-length l i (suc n) = ap suc (standing-length l (suc i) n)
+
+standing-same : (l : List ℕ) (i n : ℕ) → sets l i (standing l i n) ≡ l
+unfolding standing
+standing-same l i zero = refl
+standing-same l i (suc n) =
+    ap (λ (m : List ℕ). sets m (suc i) (standing l (suc i) n)) (set-get_or l i 0) ∙ standing-same l (suc i) n
+
 -- The text that was written, if it is known.
 text-known : (o : Option (List ℕ)) (at : ℕ) (r : std.Option ℕ) (A A₁ t : List ℕ) → PartTold o at r A A₁ → o ≡ some t → A₁ ≡ sets A at t
 text-known o at (Some n) A A₁ t (u, e, p) f = let g : u ≡ t = cc in rw g at p.area
@@ -82,12 +97,12 @@ module _ {D : Type 0} (read : Scope → Message → Read (Option D)) (parts : D 
       → PartTold (map_option descriptor (parts d)) 0 y A A₁
   told c o m k d l b h w = (part-answer w u).is c o m k d (record { before = l; after = b; is = h })
 
-  pub close-absent : r ≡ None → {s' : State} {S S' : List ℕ} → ((T : List ℕ) → PutRows (row 7 (ref none ∷ []) ∷ []) s.types s s' S S' T T)
-      → (T : List ℕ) → CloseTold read parts e start end s s' S S' T T
-  close-absent w {s'} {S} {S'} p T = record {
-    spends = default-within none (part_cost * (4 + (end - start))) (omega (arith, ap length default_none)) (p T);
+  pub close-absent : r ≡ None → {s' : State} {S S' T T' : List ℕ}
+      → PutRows (row 7 (ref none ∷ []) ∷ []) s.types s s' S S' T T' → CloseTold read parts e start end s s' S S' T T'
+  close-absent w {s'} {S} {S'} {T} {T'} p = record {
+    spends = default-within none (part_cost * (4 + (end - start))) (omega (arith, ap length default_none)) p;
     is = λ c o m k d l b h.
-        subst (λ (x : Option (List ℕ)). PutRows (row 7 (ref x ∷ []) ∷ []) s.types s s' S S' T T) (sym (told c o m k d l b h w)) (p T);
+        subst (λ (x : Option (List ℕ)). PutRows (row 7 (ref x ∷ []) ∷ []) s.types s s' S S' T T') (sym (told c o m k d l b h w)) p;
   }
 
   -- the descriptor fits what was lent aside
@@ -104,31 +119,31 @@ module _ {D : Type 0} (read : Scope → Message → Read (Option D)) (parts : D 
       }
 
   -- it is walked again, into the text
-  module _ {size : ℕ} (w : r ≡ Some size) {s' : State} {S S' : List ℕ}
-      (p : (d T T' : List ℕ) → length d ≡ size → T' ≡ sets T s.text d → PutRows (row 7 (ref (some d) ∷ []) ∷ []) s.types s s' S S' T T') where
+  module _ {size : ℕ} (w : r ≡ Some size) {s' : State} {S S' T₁ T' : List ℕ}
+      (p : (d T : List ℕ) → length d ≡ size → T₁ ≡ sets T s.text d → PutRows (row 7 (ref (some d) ∷ []) ∷ []) s.types s s' S S' T T') where
     default-spends : Within (close_cost (end - start)) s s'
     default-spends =
-        let d = little size 0 in
+        let d = standing T₁ s.text size in
         let i : size ≤ part_cost * (4 + (end - start)) = written-within (part_cost * (4 + (end - start))) u.within w in
-        default-within (some d) (part_cost * (4 + (end - start))) (omega (arith, ap length (default-text d), length_digits 256 size 0))
-        (p d [] (sets [] s.text d) (length_digits 256 size 0) refl)
+        default-within (some d) (part_cost * (4 + (end - start))) (omega (arith, ap length (default-text d), standing-length T₁ s.text size))
+        (p d T₁ (standing-length T₁ s.text size) (sym (standing-same T₁ s.text size)))
 
-    pub close-long : {y : std.Option ℕ} {T T' : List ℕ} → DefaultOf read parts e start end s.text y T T' → CloseTold read parts e start end s s' S S' T T'
-    close-long {y} {T} {T'} v = record {
+    pub close-long : {y : std.Option ℕ} {T : List ℕ} → DefaultOf read parts e start end s.text y T T₁ → CloseTold read parts e start end s s' S S' T T'
+    close-long {y} {T} v = record {
       spends = default-spends;
       is = λ c o m k d l b h.
           let t = told c o m k d l b h w in
-          let f = text-known (map_option descriptor (parts d)) s.text y T T' t.0 (v.is c o m k d (record { before = l; after = b; is = h })) t.1 in
-          subst (λ (x : Option (List ℕ)). PutRows (row 7 (ref x ∷ []) ∷ []) s.types s s' S S' T T') (sym t.1) (p t.0 T T' (sym t.2.size) f);
+          let f = text-known (map_option descriptor (parts d)) s.text y T T₁ t.0 (v.is c o m k d (record { before = l; after = b; is = h })) t.1 in
+          subst (λ (x : Option (List ℕ)). PutRows (row 7 (ref x ∷ []) ∷ []) s.types s s' S S' T T') (sym t.1) (p t.0 T (sym t.2.size) f);
     }
 
 -- What is closed.
-module _ {payload d2 msg : List ℕ} {base : ℕ} {s : State} (st : Stands payload msg base) (h : Affords payload d2 (closed_cost (length msg)) s) where
-  pub member-room : Affords payload d2 (member_cost (length msg)) s × (base + length msg ≤ length payload)
+module _ {e : Lent} {msg : List ℕ} {base : ℕ} {s : State} (st : Stands e.payload msg base) (h : Affords e (closed_cost (length msg)) s) where
+  pub member-room : Affords e (member_cost (length msg)) s × (base + length msg ≤ length e.payload)
   member-room = (affords-less h (member_cost (length msg)) (omega arith), st.inside)
 
   pub closing-room : {r : Picked} {s₁ : State} → PickedWithin (member_cost (length msg)) s r → r ≡ Ok (Some s₁)
-      → Affords payload d2 (close_cost (length msg)) s₁ × Stands payload msg base
+      → Affords e (close_cost (length msg)) s₁ × Stands e.payload msg base
   closing-room p w = (affords-after h (close_cost (length msg)) (picked_within {n = member_cost (length msg)} p w) (omega arith), st)
 
 -- One that is skipped or refused, and so is not closed.

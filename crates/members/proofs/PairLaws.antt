@@ -1,16 +1,12 @@
--- Two types of one declaration in code, and a declaration of a name, one value and two types.
+-- Two types of one declaration in code, and a declaration of a name and two types.
 -- Assumes nothing.
 use mathlib.Core.Path.{◌≡◌, refl, ap, sym, subst, ◌∙◌}
-use mathlib.Core.Bool.{Bool, true, false}
 use mathlib.Core.List.{List, [], ◌∷◌, ◌++◌}
 use mathlib.Core.Option.{Option, none, some}
 use Prim.Native.Nat.{ℕ}
 use native.Mathlib.Omega.{arith}
-use Rattle.foundation.specs.Choices.{is_some}
 use Rattle.foundation.specs.Results as Results
 use Rattle.foundation.specs.Results.{Res, ok, refused, ◌from◌}
-use Rattle.foundation.specs.Texts.{Text}
-use Rattle.foundation.proofs.PresenceLaws.{none_is, some_is}
 use Rattle.wire.specs.Wire.{Message, cut}
 use Rattle.names.specs.told.Name.{name_text}
 use Rattle.names.specs.declared.name.Name.{Name}
@@ -32,6 +28,7 @@ use Rattle.members.specs.declared.pairs.TypePair.{TypePair}
 use Rattle.schema.specs.declared.Stop.{Stop}
 use Rattle.schema.proofs.TypeLaws.{spends_then}
 use Rattle.schema.proofs.CountLaws.{within_both, spends-within}
+use Rattle.std.specs.declared.option.Option as rust
 use Rattle.std.specs.declared.option.Option.TheVariants.{None}
 use Rattle.std.specs.declared.result.Result.TheVariants.{Ok, Err}
 use Rattle.schema.specs.told.SchemaTold.{Walked, Picked}
@@ -109,55 +106,50 @@ module _ (p : TypePair) {e : Lent} {msg : List ℕ} {base : ℕ} {s : State} {ow
         (type_rows (role_number p.first.role)) (type_rows (role_number p.second.role)) s s₁ w S S₁ S₂ T T₁ T₂ (own_is c o m k q) (u.is c o m k);
   }
 
--- A declaration of two types, which is skipped without a name.
-module _ {A : Type 0} (read : Scope → Message → Read (Option A)) (rows : A → List Row) (cost number : ℕ) (e : Lent) (msg : List ℕ) (base : ℕ) (s : State)
-    (name : Name)
-    (i : (units : List ℕ) (c : Scope) → NamesOf e.payload units e.ends e.notes e.tables.records c.names
-    → (m : Message) → cut (◌from◌ base msg) ≡ ok m → (l : ℕ) → name_in c number m l ≡ ok (name_text e.payload units name, l))
-    {there : Bool} (h : (payload d2 : List ℕ) → is_some (name_text payload d2 name) ≡ there) where
-  looked : (c : Scope) → Scoped e c → (m : Message) → cut (◌from◌ base msg) ≡ ok m → (l : ℕ) {o : Option Text}
-      → name_text e.payload e.d2 name ≡ o → name_in c number m l ≡ ok (o, l)
-  looked c o m k l q = i e.d2 c o.names m k l ∙ ap (λ (t : Option Text). ok (t, l)) q
+-- The name in a field, by what was found there.
+pub looked : (e : Lent) (msg : List ℕ) (base number : ℕ) {found x : rust.Option Name}
+    → ((units : List ℕ) (c : Scope) → NamesOf e.payload units e.ends e.notes e.tables.records c.names
+    → (m : Message) → cut (◌from◌ base msg) ≡ ok m → (l : ℕ) → name_in c number m l ≡ ok (name_text e.payload units found, l))
+    → found ≡ x → (c : Scope) → Scoped e c → (m : Message) → cut (◌from◌ base msg) ≡ ok m → (l : ℕ)
+    → name_in c number m l ≡ ok (name_text e.payload e.d2 x, l)
+looked e msg base number i q c o m k l = i e.d2 c o.names m k l ∙ ap (λ (y : rust.Option Name). ok (name_text e.payload e.d2 y, l)) q
 
-  pub pair-nameless : ((c : Scope) (m : Message) (l : ℕ) → name_in c number m l ≡ ok (none, l) → read c m l ≡ ok (none, l)) → there ≡ false → {S T : List ℕ}
-      → MemberTold read rows cost e msg base s (Ok None) S S T T
-  pair-nameless skips q = record {
-    spends = tt;
-    is = λ c o m k.
-        let absent = none_is (name_text e.payload e.d2 name) (h e.payload e.d2 ∙ q) in
-        (skips c m s.types (looked c o m k s.types absent), refl, refl);
-  }
+-- A member that is skipped without a name.
+pub nameless : {A : Type 0} (read : Scope → Message → Read (Option A)) (rows : A → List Row) (cost number : ℕ) {e : Lent} {msg : List ℕ} {base : ℕ} {s : State}
+    → ((c : Scope) (m : Message) (l : ℕ) → name_in c number m l ≡ ok (none, l) → read c m l ≡ ok (none, l))
+    → ((c : Scope) → Scoped e c → (m : Message) → cut (◌from◌ base msg) ≡ ok m → (l : ℕ) → name_in c number m l ≡ ok (none, l)) → {S T : List ℕ}
+    → MemberTold read rows cost e msg base s (Ok None) S S T T
+nameless read rows cost number {s = s} skips i = record { spends = tt; is = λ c o m k. (skips c m s.types (i c o m k s.types), refl, refl) }
 
-  -- What is made of its name, its message and the types that follow its record.
-  module _ (p : TypePair) (make : Text → Message → Option Ty × Option Ty → A) (record_of : Text → Message → Row)
-      (reads : (c : Scope) (m : Message) (l : ℕ) (t : Text) → name_in c number m l ≡ ok (some t, l)
-      → read c m l ≡ Results.◌>>=◌ (pair_in p c m l) (λ x. pure (some (make t m x.0)) x.1))
-      (q : there ≡ true) {s₁ : State} {S S₁ T T₁ : List ℕ} (within : Within cost s s₁) (left : s₁.types ≡ s.types)
-      (written : (m : Message) → cut (◌from◌ base msg) ≡ ok m → (t : Text) → name_text e.payload e.d2 name ≡ some t
-      → PutRows (record_of t m ∷ []) s.types s s₁ S S₁ T T₁)
-      (puts : (t : Text) (m : Message) (ts : Option Ty × Option Ty) (b : ℕ) (s₂ : State) (S₂ T₂ : List ℕ)
-      → PutRows (record_of t m ∷ []) s.types s s₁ S S₁ T T₁ → PutRows (pair_rows p ts) b s₁ s₂ S₁ S₂ T₁ T₂
-      → PutRows (rows (make t m ts)) b s s₂ S S₂ T T₂) where
-    spent : (w : Walked) → WalkedSpends s₁ w → PickedWithin cost s (picked_of w)
-    spent (Ok s₂) u = within_both cost (omega arith) within (spends-within u)
-    spent (Err stop) u = tt
+-- A declaration of two types: what is made of its message and the types that follow its record.
+module _ {A : Type 0} (read : Scope → Message → Read (Option A)) (rows : A → List Row) (cost : ℕ) (e : Lent) (msg : List ℕ) (base : ℕ) (s : State)
+    (p : TypePair) (make : Message → Option Ty × Option Ty → A) (record_of : Message → Row)
+    (reads : (c : Scope) → Scoped e c → (m : Message) → cut (◌from◌ base msg) ≡ ok m → (l : ℕ)
+    → read c m l ≡ Results.◌>>=◌ (pair_in p c m l) (λ x. pure (some (make m x.0)) x.1))
+    {s₁ : State} {S S₁ T T₁ : List ℕ} (within : Within cost s s₁) (left : s₁.types ≡ s.types)
+    (written : (m : Message) → cut (◌from◌ base msg) ≡ ok m → PutRows (record_of m ∷ []) s.types s s₁ S S₁ T T₁)
+    (puts : (m : Message) (ts : Option Ty × Option Ty) (b : ℕ) (s₂ : State) (S₂ T₂ : List ℕ)
+    → PutRows (record_of m ∷ []) s.types s s₁ S S₁ T T₁ → PutRows (pair_rows p ts) b s₁ s₂ S₁ S₂ T₁ T₂
+    → PutRows (rows (make m ts)) b s s₂ S S₂ T T₂) where
+  spent : (w : Walked) → WalkedSpends s₁ w → PickedWithin cost s (picked_of w)
+  spent (Ok s₂) u = within_both cost (omega arith) within (spends-within u)
+  spent (Err stop) u = tt
 
-    told : (c : Scope) (m : Message) (t : Text) → PutRows (record_of t m ∷ []) s.types s s₁ S S₁ T T₁ → (r : Res (Option A × ℕ))
-        → r ≡ Results.◌>>=◌ (pair_in p c m s₁.types) (λ x. pure (some (make t m x.0)) x.1)
-        → (w : Walked) (S₂ T₂ : List ℕ) → WalkedTold (pair_in p c m s₁.types) (pair_rows p) s₁ w S₁ S₂ T₁ T₂
-        → PickedTold r rows s (picked_of w) S S₂ T T₂
-    told c m t f r g (Ok s₂) S₂ T₂ (ts, b, y, z) = (make t m ts, b, g ∙ rw y, puts t m ts b s₂ S₂ T₂ f z)
-    told c m t f r g (Err stop) S₂ T₂ y = g ∙ rw y
+  told : (c : Scope) (m : Message) → PutRows (record_of m ∷ []) s.types s s₁ S S₁ T T₁ → (r : Res (Option A × ℕ))
+      → r ≡ Results.◌>>=◌ (pair_in p c m s₁.types) (λ x. pure (some (make m x.0)) x.1)
+      → (w : Walked) (S₂ T₂ : List ℕ) → WalkedTold (pair_in p c m s₁.types) (pair_rows p) s₁ w S₁ S₂ T₁ T₂
+      → PickedTold r rows s (picked_of w) S S₂ T T₂
+  told c m f r g (Ok s₂) S₂ T₂ (ts, b, y, z) = (make m ts, b, g ∙ rw y, puts m ts b s₂ S₂ T₂ f z)
+  told c m f r g (Err stop) S₂ T₂ y = g ∙ rw y
 
-    pub pair-told : {w : Walked} {r : Picked} {S₂ T₂ : List ℕ} → PairTold p e msg base s₁ w S₁ S₂ T₁ T₂ → r ≡ picked_of w
-        → MemberTold read rows cost e msg base s r S S₂ T T₂
-    pair-told {w} {r} {S₂} {T₂} u g =
-        let it : MemberTold read rows cost e msg base s (picked_of w) S S₂ T T₂ = record {
-          spends = spent w u.spends;
-          is = λ c o m k.
-              let t = some_is (name_text e.payload e.d2 name) (h e.payload e.d2 ∙ q) in
-              let is = reads c m s.types t.0 (looked c o m k s.types t.1)
-              ∙ ap (λ (l : ℕ). Results.◌>>=◌ (pair_in p c m l) (λ x. pure (some (make t.0 m x.0)) x.1)) (sym left) in
-              told c m t.0 (written m k t.0 t.1) (read c m s.types) is w S₂ T₂ (u.is c o m k);
-        } in
-        subst (λ (y : Picked). MemberTold read rows cost e msg base s y S S₂ T T₂) (sym g) it
+  pub pair-told : {w : Walked} {r : Picked} {S₂ T₂ : List ℕ} → PairTold p e msg base s₁ w S₁ S₂ T₁ T₂ → r ≡ picked_of w
+      → MemberTold read rows cost e msg base s r S S₂ T T₂
+  pair-told {w} {r} {S₂} {T₂} u g =
+      let it : MemberTold read rows cost e msg base s (picked_of w) S S₂ T T₂ = record {
+        spends = spent w u.spends;
+        is = λ c o m k.
+            let is = reads c o m k s.types
+            ∙ ap (λ (l : ℕ). Results.◌>>=◌ (pair_in p c m l) (λ x. pure (some (make m x.0)) x.1)) (sym left) in
+            told c m (written m k) (read c m s.types) is w S₂ T₂ (u.is c o m k);
+      } in
+      subst (λ (y : Picked). MemberTold read rows cost e msg base s y S S₂ T T₂) (sym g) it

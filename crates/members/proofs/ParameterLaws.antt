@@ -21,31 +21,41 @@ use Rattle.names.specs.declared.name.Name.{Name}
 use Rattle.sheet.specs.Rows.{row, cell_text, body_bytes, body_text, sheet_from, texts}
 use Rattle.sheet.specs.told.Put.{PutHead, PutRows}
 use Rattle.sheet.specs.declared.State.{State}
+use Rattle.sheet.specs.declared.Output.{Output}
 use Rattle.sheet.proofs.PutLaws.{put-sheet, put-text, put-types, put_same}
 use Rattle.sheet.proofs.RowLaws.{body_length, body-length}
 use Rattle.declaration_rows.specs.Declarations.{Ty, Parameter}
 use Rattle.schema.specs.Reading.{Read, pure, each, Scope, name_in}
 use Rattle.schema.specs.Types.{declared_type}
 use Rattle.schema.specs.Members.{bit_of, small_flags_in, parameter_in, parameters_in}
-use Rattle.declaration_rows.specs.Rows.{name_cell, parameter_role, vararg_role, parameter_rows}
+use Rattle.declaration_rows.specs.Rows.{name_cell, parameter_rows}
 use Rattle.declaration_rows.specs.told.Written.{parameter_cells}
 use Rattle.schema.specs.told.SchemaTold.{Lent, NamesOf, name_limit, stop_refused, WalkedSpends, WalkedTold, PickedTold}
 use Rattle.schema.specs.told.TypesTold.{picked_of}
-use Rattle.schema.specs.told.MembersTold.{Affords, Within, PickedWithin, ListedTold, parameter_cost, MemberTold}
+use Rattle.schema.specs.told.MembersTold.{section, Affords, Within, PickedWithin, ListedTold, parameter_cost, MemberTold}
 use Rattle.schema.specs.told.ListsTold.{ListAtTold}
 use Rattle.members.specs.told.PairsTold.{pair_in, pair_rows, PairTold}
-use Rattle.members.specs.told.ParametersTold.{WalkedWithin, ParameterTold, ParametersAtTold, ParametersInTold}
+use Rattle.members.specs.told.ParametersTold.{section_told, WalkedWithin, ParameterTold, ParametersAtTold, ParametersInTold}
 use Rattle.members.specs.declared.pairs.TypePair.{TypePair}
+use Rattle.schema.specs.declared.Stop.{Stop}
 use Rattle.schema.specs.declared.Stop.TheVariants as stop
 use Rattle.schema.proofs.NamedLaws.{cell-length}
 use Rattle.schema.proofs.CountLaws.{within_less, within_both, spends-within}
 use Rattle.schema.proofs.EachLaws.{always, each-kept}
 use Rattle.declaration_rows.proofs.RecordLaws.{parameter-put}
 use Rattle.members.proofs.PairLaws.{both-made}
+use Rattle.std.specs.declared.option.Option as rust
 use Rattle.std.specs.declared.result.Result.{Result}
 use Rattle.std.specs.declared.result.Result.TheVariants.{Ok, Err}
 use Rattle.schema.specs.told.SchemaTold.{Walked}
 use Rattle.schema.specs.told.MembersTold.{ListWalked}
+
+-- the answer of a list of parameters, once it is known
+pub listed_ok : {r : Result ℕ Stop} (o : Output) {count : ℕ} → r ≡ Ok count → section_told r o ≡ Ok (section o.state count)
+listed_ok o e = ap (λ (r : Result ℕ Stop). section_told r o) e
+
+pub listed_err : {r : Result ℕ Stop} (o : Output) {stop : Stop} → r ≡ Err stop → section_told r o ≡ Err stop
+listed_err o e = ap (λ (r : Result ℕ Stop). section_told r o) e
 
 -- what a parameter's record takes
 record_length : (o : ℕ) (name : Option Text) (default : Bool) → length (body_bytes o (parameter_cells name default)) ≡ 5
@@ -59,14 +69,14 @@ record_text name default = append-nil (cell_text (name_cell name))
 abbrev record_cost : ℕ
 record_cost = 6 + name_limit
 
-module _ {payload d2 : List ℕ} {n : ℕ} {s s₁ : State} (h : Affords payload d2 n s) (name : Name) (default : Bool) {S S₁ T T₁ : List ℕ}
-    (p : PutRows (row 5 (parameter_cells (name_text payload d2 name) default) ∷ []) s.types s s₁ S S₁ T T₁) where
+module _ {e : Lent} {n : ℕ} {s s₁ : State} (h : Affords e n s) (name : rust.Option Name) (default : Bool) {S S₁ T T₁ : List ℕ}
+    (p : PutRows (row 5 (parameter_cells (name_text e.payload e.d2 name) default) ∷ []) s.types s s₁ S S₁ T T₁) where
   pub parameter-within : Within record_cost s s₁
   unfolding sheet_from texts
   parameter-within =
-      let o = name_text payload d2 name in
+      let o = name_text e.payload e.d2 name in
       let q : PutHead 5 (parameter_cells o default) s.types s s₁ S S₁ T T₁ = put_same p (rw append-nil) (rw append-nil) in
-      let most = cell-length payload d2 name h.payload-short h.d2-short in
+      let most = cell-length e.payload e.d2 name h.payload-short h.d2-short in
       let cells = record_length s.text o default in
       let written = ap length (record_text o default) in
       record { counts = omega (arith, put-sheet q, put-text q, put-types q); types = omega (arith, put-types q) }
@@ -102,10 +112,10 @@ parameter_puts name m ts {default} {b} {b'} {s} {s₁} {s₂} {S} {S₁} {S₂} 
     let p' = subst (λ (v : Bool). PutRows (row 5 (parameter_cells name v) ∷ []) b s s₁ S S₁ T T₁) (sym d) p in
     parameter-put (parameter_of name m ts) p' q
 
-module _ (e : Lent) (msg : List ℕ) (base : ℕ) (s : State) (name : Name)
+module _ (e : Lent) (msg : List ℕ) (base : ℕ) (s : State) (name : rust.Option Name)
     (i : (units : List ℕ) (c : Scope) → NamesOf e.payload units e.ends e.notes e.tables.records c.names
     → (m : Message) → cut (◌from◌ base msg) ≡ ok m → (l : ℕ) → name_in c ValueParameter-name m l ≡ ok (name_text e.payload units name, l))
-    (afford : Affords e.payload e.d2 parameter_cost s) (default : Bool)
+    (afford : Affords e parameter_cost s) (default : Bool)
     (d : (m : Message) → cut (◌from◌ base msg) ≡ ok m → bit_of 1 (small_flags_in ValueParameter-flags m) ≡ default) {s₁ : State} {S S₁ T T₁ : List ℕ}
     (p : PutRows (row 5 (parameter_cells (name_text e.payload e.d2 name) default) ∷ []) s.types s s₁ S S₁ T T₁) where
   spent : (w : Walked) → WalkedSpends s₁ w → WalkedWithin parameter_cost s w

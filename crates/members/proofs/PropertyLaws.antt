@@ -1,14 +1,14 @@
 -- Properties: what is read of one in which order, its record, and the property that both come to.
 -- Assumes nothing.
-use mathlib.Core.Path.{◌≡◌, refl, ap, sym, subst, ◌∙◌}
-use mathlib.Core.Bool.{Bool, true, false}
+use mathlib.Core.Path.{◌≡◌, sym, subst}
+use mathlib.Core.Bool.{Bool}
 use mathlib.Core.List.{List, [], ◌∷◌, append-nil}
 use mathlib.Core.Logic.{⊎_elim}
 use mathlib.Core.Option.{Option, none, some}
 use Prim.Native.Nat.{ℕ, ◌+◌, ◌^◌, ◌≤◌}
 use native.Mathlib.Omega.{arith}
 use lib.ListN.{length, length-append}
-use Rattle.foundation.specs.Choices.{is_some, All}
+use Rattle.foundation.specs.Choices.{All}
 use Rattle.foundation.specs.Results.{ok, ◌from◌}
 use Rattle.foundation.specs.Texts.{Text}
 use Rattle.fields.specs.Fields.{Property-name, Property-return_type, Property-receiver_type, Property-getter_flags, Property-setter_flags, Property-return_type_id, Property-receiver_type_id, Property-flags, Property-property_signature, JvmPropertySignature-getter, JvmPropertySignature-setter}
@@ -16,7 +16,7 @@ use Rattle.wire.specs.Wire.{Message, cut}
 use Rattle.wire.specs.Messages.{message}
 use Rattle.wire.specs.told.WireTold.{wire_refused}
 use Rattle.wire.specs.declared.WireError.{WireError}
-use Rattle.names.specs.told.Name.{name_text}
+use Rattle.names.specs.told.Name.{named_text}
 use Rattle.names.specs.declared.name.Name.{Name}
 use Rattle.sheet.specs.Rows.{Cell, num, ref, cell_text, cell_bytes, row, body_bytes, body_text, sheet_from, texts}
 use Rattle.sheet.specs.told.Put.{PutHead, PutRows}
@@ -44,7 +44,7 @@ use Rattle.declaration_rows.proofs.WrittenLaws.{Small, property-small}
 use Rattle.declaration_rows.proofs.RecordLaws.{property-put}
 use Rattle.schema.proofs.CountLaws.{within_both, spends-within, affords-after, affords-ready}
 use Rattle.schema.proofs.TypeLaws.{ready-after}
-use Rattle.std.specs.declared.option.Option.TheVariants.{Some, None}
+use Rattle.std.specs.declared.option.Option.TheVariants.{Some}
 use Rattle.std.specs.declared.result.Result.{Result}
 use Rattle.std.specs.declared.result.Result.TheVariants.{Ok, Err}
 use Rattle.schema.specs.told.SchemaTold.{Walked, Picked}
@@ -83,12 +83,12 @@ row_cost k cs n small l {s} {s'} {S} {S'} {T} {T'} p =
     }
 
 -- A property's record can be afforded, and then its types.
-pub property_ready : {payload d2 : List ℕ} (n : ℕ) {s s₁ s₂ : State} {x : Walked} → Affords payload d2 (member_cost n) s → Within record_cost s s₁
-    → WalkedSpends s₁ x → x ≡ Ok s₂ → Ready payload d2 s₂
+pub property_ready : {e : Lent} (n : ℕ) {s s₁ s₂ : State} {x : Walked} → Affords e (member_cost n) s → Within record_cost s s₁
+    → WalkedSpends s₁ x → x ≡ Ok s₂ → Ready e s₂
 property_ready n {s₁ = s₁} h p q e = ready-after (affords-ready (affords-after h 0 p (omega arith))) (subst (WalkedSpends s₁) e q)
 
 -- A property's record by what was looked up for it.
-module _ (payload d2 msg : List ℕ) (base : ℕ) (name : Name) (n : PropertyNames) {s s' : State} {S S' T T' : List ℕ} (room : RecordRoom (2 ^ 61) payload d2 s) where
+module _ (e : Lent) (msg : List ℕ) (base : ℕ) (name : Name) (n : PropertyNames) {s s' : State} {S S' T T' : List ℕ} (room : RecordRoom (2 ^ 61) e.payload e.d2 s) where
   pub record-told : {flags : ℕ} {receiver getter_default setter_default : Bool} (g' h' : SignatureNames)
       → ((m : Message) → cut (◌from◌ base msg) ≡ ok m → flags_in Property-flags m ≡ flags)
       → ((c : Scope) (m : Message) (l : ℕ) (o : Option Ty) (b : ℕ) → cut (◌from◌ base msg) ≡ ok m
@@ -98,16 +98,16 @@ module _ (payload d2 msg : List ℕ) (base : ℕ) (name : Name) (n : PropertyNam
       → ((x : SignatureNames) → n.getter ≡ Ok x → g' ≡ x) → ((x : SignatureNames) → n.setter ≡ Ok x → h' ≡ x)
       → PutRows
       (row 4 (
-      property_cells (name_text payload d2 name) flags receiver getter_default setter_default (signature_by payload d2 n.field)
-      (signature_by payload d2 g') (signature_by payload d2 h'))
+      property_cells (some (named_text e.payload e.d2 name)) flags receiver getter_default setter_default (signature_by e.payload e.d2 n.field)
+      (signature_by e.payload e.d2 g') (signature_by e.payload e.d2 h'))
       ∷ []) s.types s s' S S' T T'
-      → PropertyRecordTold payload d2 msg base name n s s' S S' T T'
+      → PropertyRecordTold e msg base name n s s' S S' T T'
   record-told {flags} {receiver} {getter_default} {setter_default} g' h' fl rc gd sd gn hn p = record {
     spends =
         row_cost 4
-        (property_cells (name_text payload d2 name) flags receiver getter_default setter_default (signature_by payload d2 n.field)
-        (signature_by payload d2 g') (signature_by payload d2 h'))
-        record_cost (property-small room name flags receiver getter_default setter_default n.field g' h') (omega arith) p;
+        (property_cells (some (named_text e.payload e.d2 name)) flags receiver getter_default setter_default (signature_by e.payload e.d2 n.field)
+        (signature_by e.payload e.d2 g') (signature_by e.payload e.d2 h'))
+        record_cost (property-small room (Some name) flags receiver getter_default setter_default n.field g' h') (omega arith) p;
     types = put-types p;
     is = λ c m k l o b d g h eg eh.
         same (sym (fl m k)) (sym (rc c m l o b k d)) (sym (gd m k)) (sym (sd m k)) (gn g eg) (hn h eh) p;
@@ -116,11 +116,11 @@ module _ (payload d2 msg : List ℕ) (base : ℕ) (name : Name) (n : PropertyNam
       same : {f f₂ : ℕ} {r r₂ a a₂ b b₂ : Bool} {x x₂ y y₂ : SignatureNames} → f ≡ f₂ → r ≡ r₂ → a ≡ a₂ → b ≡ b₂ → x ≡ x₂ → y ≡ y₂
           → PutRows
           (row 4 (
-          property_cells (name_text payload d2 name) f r a b (signature_by payload d2 n.field) (signature_by payload d2 x) (signature_by payload d2 y))
+          property_cells (some (named_text e.payload e.d2 name)) f r a b (signature_by e.payload e.d2 n.field) (signature_by e.payload e.d2 x) (signature_by e.payload e.d2 y))
           ∷ []) s.types s s' S S' T T'
           → PutRows
           (row 4 (
-          property_cells (name_text payload d2 name) f₂ r₂ a₂ b₂ (signature_by payload d2 n.field) (signature_by payload d2 x₂) (signature_by payload d2 y₂))
+          property_cells (some (named_text e.payload e.d2 name)) f₂ r₂ a₂ b₂ (signature_by e.payload e.d2 n.field) (signature_by e.payload e.d2 x₂) (signature_by e.payload e.d2 y₂))
           ∷ []) s.types s s' S S' T T'
       same e₁ e₂ e₃ e₄ e₅ e₆ h = rw (← e₁, ← e₂, ← e₃, ← e₄, ← e₅, ← e₆) h
 
@@ -141,7 +141,7 @@ property_of m name field getter setter receiver type = record {
 
 -- What is read of it, step by step: without a name; by its signature message; its receiver; its accessors; its type.
 module _ (c : Scope) (m : Message) (l : ℕ) where
-  property-nameless : name_in c Property-name m l ≡ ok (none, l) → property_in c m l ≡ ok (none, l)
+  pub property-nameless : name_in c Property-name m l ≡ ok (none, l) → property_in c m l ≡ ok (none, l)
   unfolding property_in
   property-nameless e = rw e
 
@@ -182,7 +182,7 @@ module _ (c : Scope) (m : Message) (l : ℕ) where
 
 -- A property whose name is there: its record is written, then its receiver's type, then its own.
 module _ (e : Lent) (msg : List ℕ) (base : ℕ) (name : Name) (n : PropertyNames) (s : State) {s₁ : State} {S S₁ T T₁ : List ℕ}
-    (head : PropertyRecordTold e.payload e.d2 msg base name n s s₁ S S₁ T T₁) {x : Walked} {S₂ T₂ : List ℕ}
+    (head : PropertyRecordTold e msg base name n s s₁ S S₁ T T₁) {x : Walked} {S₂ T₂ : List ℕ}
     (first : OptionalTold e msg base Property-receiver_type Property-receiver_type_id receiver_role s₁ x S₁ S₂ T₁ T₂) where
   module _ (c : Scope) (o : Option Message) (number : ℕ) (w : Signed) (h : AccessorTold e.payload e.d2 c o number w) (l : ℕ) where
     accessor-there : (v : SignatureNames) → w ≡ Ok v
@@ -203,7 +203,7 @@ module _ (e : Lent) (msg : List ℕ) (base : ℕ) (name : Name) (n : PropertyNam
   pub named-unreceived : {stop : Stop} → x ≡ Err stop → NamedPropertyTold e msg base name n s (Err stop) S S₂ T T₂
   named-unreceived {stop} g = record {
     spends = tt;
-    is = λ c o m k t q named signed.
+    is = λ c o m k named signed.
         let l = s.types in receiver-refused c m l (named l) signed.1 (signed.2.field l) stop (received g c o m k);
   }
 
@@ -212,7 +212,7 @@ module _ (e : Lent) (msg : List ℕ) (base : ℕ) (name : Name) (n : PropertyNam
         → NamedPropertyTold e msg base name n s (Err (stop.Wire error)) S S₂ T T₂
     named-unsigned {error} f = record {
       spends = tt;
-      is = λ c o m k t q named signed.
+      is = λ c o m k named signed.
           let l = s.types in
           let r = received g c o m k in
           let three = signed.2 in
@@ -243,7 +243,7 @@ module _ (e : Lent) (msg : List ℕ) (base : ℕ) (name : Name) (n : PropertyNam
       unfolding both
       named-untyped {stop} p = record {
         spends = tt;
-        is = λ c o m k t q named signed.
+        is = λ c o m k named signed.
             let l = s.types in
             let r = received g c o m k in
             let three = signed.2 in
@@ -260,7 +260,7 @@ module _ (e : Lent) (msg : List ℕ) (base : ℕ) (name : Name) (n : PropertyNam
             let a = spends-within (subst (WalkedSpends s₁) g first.spends) in
             let b = spends-within (subst (WalkedSpends s₂) p last.spends) in
             within_both (member_cost (length msg)) (omega arith) head.spends (within_both 0 (omega arith) a b);
-        is = λ c o m k t q named signed.
+        is = λ c o m k named signed.
             let l = s.types in
             let r = received g c o m k in
             let three = signed.2 in
@@ -268,66 +268,30 @@ module _ (e : Lent) (msg : List ℕ) (base : ℕ) (name : Name) (n : PropertyNam
             let f' = signature_by e.payload e.d2 n.field in
             let g' = signature_by e.payload e.d2 both.0 in
             let h' = signature_by e.payload e.d2 both.1 in
-            let it = property_of m t f' g' h' r.0 u.0 in
+            let it = property_of m (named_text e.payload e.d2 name) f' g' h' r.0 u.0 in
             let is = property-read c m l (named l) signed.1 (three.field l) r.2
             (accessor-there c signed.0 JvmPropertySignature-getter n.getter three.getter r.1 both.0 both.2)
             (accessor-there c signed.0 JvmPropertySignature-setter n.setter three.setter r.1 both.1 both.3) u.2 in
-            let cells : PutRows
-            (row 4 (
-            property_cells (some t) it.flags it.has_receiver it.getter_is_default it.setter_is_default f' g' h')
-            ∷ []) s.types s s₁ S S₁ T T₁ =
-            subst (λ (w : Option Text).
-            PutRows (row 4 (property_cells w it.flags it.has_receiver it.getter_is_default it.setter_is_default f' g' h') ∷ []) s.types s s₁ S S₁ T T₁)
-            q (head.is c m k l r.0 r.1 r.2 both.0 both.1 both.2 both.3) in
+            let cells = head.is c m k l r.0 r.1 r.2 both.0 both.1 both.2 both.3 in
             let types = rows_then (type_rows receiver_role r.0) (type_rows return_role u.0) r.3 u.3 in
             (it, u.1, is, property-put it cells types);
       }
 
 -- A property by its name and its signatures.
-absent_none : (o : Option Text) → is_some o ≡ false → o ≡ none
-absent_none none e = refl
-absent_none (some t) e = let z : ◌≡◌ {A = ℕ} 0 1 = cc in absurd (omega arith)
-
-there_some : (o : Option Text) → is_some o ≡ true → (t : Text) × (o ≡ some t)
-there_some none e = let z : ◌≡◌ {A = ℕ} 0 1 = cc in absurd (omega arith)
-there_some (some t) e = (t, refl)
-
-module _ (e : Lent) (msg : List ℕ) (base : ℕ) (s : State) (name : Name)
-    (looked : (c : Scope) → Scoped e c → (m : Message) → cut (◌from◌ base msg) ≡ ok m → (l : ℕ)
-    → name_in c Property-name m l ≡ ok (name_text e.payload e.d2 name, l)) where
-  pub property-dropped : {S T : List ℕ} → is_some (name_text e.payload e.d2 name) ≡ false
-      → MemberTold property_in property_rows (member_cost (length msg)) e msg base s (Ok None) S S T T
-  property-dropped h = record {
+module _ {e : Lent} {msg : List ℕ} {base : ℕ} {s : State} (name : Name)
+    (named : (c : Scope) → Scoped e c → (m : Message) → cut (◌from◌ base msg) ≡ ok m → (l : ℕ)
+    → name_in c Property-name m l ≡ ok (some (named_text e.payload e.d2 name), l)) {x : PropertySigned}
+    (signed : (c : Scope) → Scoped e c → (m : Message) → cut (◌from◌ base msg) ≡ ok m → PropertySignedTold e.payload e.d2 c m x) where
+  pub property-unsigned : {error : WireError} → x ≡ Err error → {S S' T T' : List ℕ}
+      → MemberTold property_in property_rows (member_cost (length msg)) e msg base s (Err (stop.Wire error)) S S' T T'
+  property-unsigned {error} g = record {
     spends = tt;
-    is = λ c o m k.
-        let none = absent_none (name_text e.payload e.d2 name) h in
-        (property-nameless c m s.types (looked c o m k s.types ∙ ap (λ (t : Option Text). ok (t, s.types)) none), refl, refl);
+    is = λ c o m k. property-broken c m s.types (named c o m k s.types) error (subst (PropertySignedTold e.payload e.d2 c m) g (signed c o m k));
   }
 
-  module _ (there : is_some (name_text e.payload e.d2 name) ≡ true) where
-    named : (c : Scope) → Scoped e c → (m : Message) → cut (◌from◌ base msg) ≡ ok m
-        → (t : Text) × (name_text e.payload e.d2 name ≡ some t) × ((l : ℕ) → name_in c Property-name m l ≡ ok (some t, l))
-    named c o m k =
-        let t = there_some (name_text e.payload e.d2 name) there in
-        (t.0, t.1, λ l. looked c o m k l ∙ ap (λ (w : Option Text). ok (w, l)) t.1)
-
-    module _ {x : PropertySigned}
-        (signed : (c : Scope) → Scoped e c → (m : Message) → cut (◌from◌ base msg) ≡ ok m → PropertySignedTold e.payload e.d2 c m x) where
-      pub property-unsigned : {error : WireError} → x ≡ Err error → {S S' T T' : List ℕ}
-          → MemberTold property_in property_rows (member_cost (length msg)) e msg base s (Err (stop.Wire error)) S S' T T'
-      unfolding named
-      property-unsigned {error} g = record {
-        spends = tt;
-        is = λ c o m k.
-            property-broken c m s.types ((named c o m k).2 s.types) error (subst (PropertySignedTold e.payload e.d2 c m) g (signed c o m k));
-      }
-
-      pub property-named : {n : PropertyNames} → x ≡ Ok n → {r : Picked} {S S' T T' : List ℕ}
-          → NamedPropertyTold e msg base name n s r S S' T T' → MemberTold property_in property_rows (member_cost (length msg)) e msg base s r S S' T T'
-      unfolding named
-      property-named g told = record {
-        spends = told.spends;
-        is = λ c o m k.
-            let t = named c o m k in
-            told.is c o m k t.0 t.1 t.2 (subst (PropertySignedTold e.payload e.d2 c m) g (signed c o m k));
-      }
+  pub property-named : {n : PropertyNames} → x ≡ Ok n → {r : Picked} {S S' T T' : List ℕ}
+      → NamedPropertyTold e msg base name n s r S S' T T' → MemberTold property_in property_rows (member_cost (length msg)) e msg base s r S S' T T'
+  property-named g told = record {
+    spends = told.spends;
+    is = λ c o m k. told.is c o m k (named c o m k) (subst (PropertySignedTold e.payload e.d2 c m) g (signed c o m k));
+  }

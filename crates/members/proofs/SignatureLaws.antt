@@ -1,13 +1,12 @@
 -- Signatures by their two names.
 -- Assumes nothing.
 use mathlib.Core.Path.{◌≡◌, refl, ap, subst, ◌∙◌}
-use mathlib.Core.Bool.{true, false}
 use mathlib.Core.List.{List}
 use mathlib.Core.Option.{Option, none, some}
 use Prim.Native.Nat.{ℕ, ◌+◌, ◌-◌}
 use native.Mathlib.Omega.{arith}
 use lib.ListN.{take, drop}
-use Rattle.foundation.specs.Choices.{if_some, is_some, map_option, or_else, both_of}
+use Rattle.foundation.specs.Choices.{if_some, map_option, or_else, both_of}
 use Rattle.foundation.specs.Results.{ok, ◌from◌}
 use Rattle.foundation.specs.Texts.{Text}
 use Rattle.fields.specs.Fields.{Property-property_signature, JvmMethodSignature-desc, JvmPropertySignature-field}
@@ -23,7 +22,6 @@ use Rattle.members.specs.told.SignaturesTold.{NamesTold, SignedTold, AccessorTol
 use Rattle.declaration_rows.specs.declared.SignatureNames.{SignatureNames}
 use Rattle.members.specs.told.SignaturesTold.{Signed}
 use Rattle.members.specs.declared.signatures.PropertyNames.{PropertyNames}
-use Rattle.schema.proofs.NamedLaws.{absent-name}
 use Rattle.std.specs.declared.option.Option as rust
 use Rattle.std.specs.declared.option.Option.TheVariants.{Some, None}
 use Rattle.std.specs.Result.{result_unwrap_or}
@@ -31,15 +29,6 @@ use Rattle.std.specs.declared.result.Result.{Result}
 use Rattle.std.specs.declared.result.Result.TheVariants.{Ok, Err}
 use Rattle.foundation.specs.declared.Span.{Span}
 use Rattle.messages.specs.told.Asked.{span}
-
--- A name, or another if it is absent.
-pub own_name : (a b : Option Text) → is_some a ≡ true → a ≡ or_else a b
-own_name none b e = let z : ◌≡◌ {A = ℕ} 0 1 = cc in absurd (omega arith)
-own_name (some t) b e = refl
-
-pub other_name : (a b : Option Text) → is_some a ≡ false → b ≡ or_else a b
-other_name none b e = refl
-other_name (some t) b e = let z : ◌≡◌ {A = ℕ} 0 1 = cc in absurd (omega arith)
 
 or_none : {A : Type 0} (a : Option A) → or_else a none ≡ a
 or_none none = refl
@@ -84,10 +73,10 @@ module _ (payload units : List ℕ) (c : Scope) where
       unfolding signature_in
       signed-inline g h fallback l = let i = here t g in rw i.2 (signature-of i.0 (h i.0 i.1) l fallback)
 
-      pub signed-nothing : x ≡ Ok None → (n : SignatureNames) → n.descriptor.source ≡ 0 → SignedTold payload units c number m (Ok n)
+      pub signed-nothing : x ≡ Ok None → (n : SignatureNames) → n.descriptor ≡ None → SignedTold payload units c number m (Ok n)
       unfolding signature_in
       signed-nothing g n h fallback l =
-          rw (here t g, absent-name payload units n.descriptor h, undescribed (or_else (name_text payload units n.name) fallback))
+          rw (here t g, h, undescribed (or_else (name_text payload units n.name) fallback))
 
       pub signed-refused : {error : WireError} → x ≡ Err error → SignedTold payload units c number m (Err error)
       unfolding signature_in
@@ -102,10 +91,10 @@ module _ (payload units : List ℕ) (c : Scope) where
 
     -- without a message, or with a broken one
     pub field-absent : (x : Result (rust.Option Span) WireError) → EmbeddedTold base msg JvmPropertySignature-field x → result_unwrap_or x None ≡ None → (l : ℕ)
-        → (n : SignatureNames) → n.name.source ≡ 0 → field_in c m l ≡ ok (signature_by payload units n, l)
+        → (n : SignatureNames) → n.name ≡ None → field_in c m l ≡ ok (signature_by payload units n, l)
     unfolding field_in
-    field-absent (Ok o) t g l n h = rw (here t (ap Ok g), absent-name payload units n.name h)
-    field-absent (Err error) t g l n h = rw (here t refl, absent-name payload units n.name h)
+    field-absent (Ok o) t g l n h = rw (here t (ap Ok g), h)
+    field-absent (Err error) t g l n h = rw (here t refl, h)
 
   -- Without a name to fall back to; a constructor's; with one that is looked up.
   module _ (number : ℕ) (m : Message) (n : SignatureNames) (h : SignedTold payload units c number m (Ok n)) (l : ℕ) where
@@ -118,11 +107,11 @@ module _ (payload units : List ℕ) (c : Scope) where
   accessor-told number m (Ok n) h = λ l. signature-by number m n h l
   accessor-told number m (Err error) h = λ l. h none l
 
-  pub unsigned-field : (n : SignatureNames) → n.name.source ≡ 0 → (l : ℕ) → of_signature (field_in c) none l ≡ ok (signature_by payload units n, l)
-  unsigned-field n h l = rw (absent-name payload units n.name h)
+  pub unsigned-field : (n : SignatureNames) → n.name ≡ None → (l : ℕ) → of_signature (field_in c) none l ≡ ok (signature_by payload units n, l)
+  unsigned-field n h l = rw (h)
 
-  pub unsigned-accessor : (number : ℕ) (n : SignatureNames) → n.name.source ≡ 0 → AccessorTold payload units c none number (Ok n)
-  unsigned-accessor number n h l = rw (absent-name payload units n.name h)
+  pub unsigned-accessor : (number : ℕ) (n : SignatureNames) → n.name ≡ None → AccessorTold payload units c none number (Ok n)
+  unsigned-accessor number n h l = rw (h)
 
   module _ {base : ℕ} {msg : List ℕ} {m : Message} (k : cut (◌from◌ base msg) ≡ ok m) {x : Result (rust.Option Span) WireError}
       (t : EmbeddedTold base msg Property-property_signature x) where

@@ -4,3 +4,4 @@ pub mod PairsTold
 pub mod ParametersTold
 pub mod ClosedTold
 pub mod SignaturesTold
+pub mod EndsTold

@@ -1,13 +1,15 @@
 // Constructors and functions. The definitions: schema's specs/Members.antt; what the readers tell: specs/told/CallablesTold.antt, schema's specs/told/MembersTold.antt.
 ghost use Rattle.std.specs.Prelude.{◌+◌, ◌≤◌, length};
+ghost use Rattle.sheet.specs.told.Put.{SameAreas};
 ghost use Rattle.schema.specs.Members.{constructor_in, function_in};
 ghost use Rattle.declaration_rows.specs.Rows.{constructor_rows, function_rows};
 ghost use Rattle.schema.specs.told.SchemaTold.{lent, Ready};
 ghost use Rattle.schema.specs.told.MembersTold.{Affords, member_cost, MemberTold};
+ghost use Rattle.schema.specs.told.WroteTold.{picked, walked, Stays, Writes};
 ghost use Rattle.members.specs.told.CallablesTold.{function_head_cost, FunctionHead, FunctionTypesTold};
 
 use crate::parameters::parameters_in;
-use crate::signatures::{Signed, names_of, or_name, signature_in};
+use crate::signatures::{Signed, names_of, signature_in};
 use declaration_rows::{Role, SignatureNames, put_constructor, put_count, put_function};
 use fields::{
     CONSTRUCTOR_CONSTRUCTOR_SIGNATURE, CONSTRUCTOR_FLAGS, CONSTRUCTOR_VALUE_PARAMETER,
@@ -15,195 +17,106 @@ use fields::{
     FUNCTION_RECEIVER_TYPE_ID, FUNCTION_RETURN_TYPE, FUNCTION_RETURN_TYPE_ID,
     FUNCTION_VALUE_PARAMETER, OMITTED_FLAGS,
 };
-use names::name::{Name, is_there};
+use foundation::{Context, Located};
+use names::name::Name;
 use schema::flags::flags_in;
 use schema::name::name_in;
 use schema::receiver::has_receiver;
-use schema::{Stop, Tables, TypeSlot};
-use sheet::State;
+use schema::{Stop, TypeSlot};
+use sheet::Output;
 use type_references::declared_type;
 
 // A constructor. Its signature is looked up first, since it stands in its record; its refusal is due after the parameters.
 pub(crate) fn constructor_in(
-    msg: &[u8],
-    base: u32,
-    payload: &[u8],
-    d2: &[u16],
-    ends: &[u32],
-    notes: &[u64],
-    tables: Tables,
-    state: State,
-    sheet: &mut [u8],
-    text: &mut [u8],
-) -> Result<Option<State>, Stop>
-    requires { Affords payload.now d2.now (member_cost (length msg.now)) state × (base + length msg.now ≤ length payload.now) }
-    ensures { MemberTold constructor_in constructor_rows (member_cost (length msg.now)) (lent payload.now d2.now ends.now notes.now tables) msg.now base state result sheet.old sheet.new text.old text.new }
+    msg: Located<'_>,
+    context: &Context<'_>,
+    out: &mut Output<'_>,
+) -> Result<bool, Stop>
+    requires { Affords (lent context.now) (member_cost (length msg.bytes.now)) out.old.state × (msg.base + length msg.bytes.now ≤ length context.now.payload.now) }
+    ensures same_areas { SameAreas out.old out.new }
+    ensures stays { Stays result out.old out.new }
+    ensures written { Writes (MemberTold constructor_in constructor_rows (member_cost (length msg.entry.bytes.now)) (lent context.now) msg.entry.bytes.now msg.entry.base) out.old (picked result out.new) out.new }
 {
-    let flags = flags_in(msg, base, CONSTRUCTOR_FLAGS, OMITTED_FLAGS);
-    let signed = signature_in(
-        msg,
-        base,
-        CONSTRUCTOR_CONSTRUCTOR_SIGNATURE,
-        payload,
-        ends,
-        notes,
-        tables.records,
-    );
-    let head = put_constructor(payload, d2, flags, names_of(signed), state, sheet, text);
-    let after = State {
-        sheet: head.sheet + 2,
-        ..head
-    };
-    let parameters = parameters_in(
-        msg,
-        base,
-        CONSTRUCTOR_VALUE_PARAMETER,
-        payload,
-        d2,
-        ends,
-        notes,
-        tables,
-        after,
-        sheet,
-        text,
-    )?;
+    let flags = flags_in(msg, CONSTRUCTOR_FLAGS, OMITTED_FLAGS);
+    let signed = signature_in(msg, CONSTRUCTOR_CONSTRUCTOR_SIGNATURE, context);
+    put_constructor(context, flags, names_of(signed), out);
+    let place = out.state.sheet;
+    out.state.sheet += 2;
+    let count = parameters_in(msg, CONSTRUCTOR_VALUE_PARAMETER, context, out)?;
     signed?;
-    put_count(sheet, head.sheet, parameters.count);
-    Ok(Some(parameters.state))
+    put_count(out.sheet, place, count);
+    Ok(true)
 }
 
 // A function's record up to its parameter count. The name of its signature falls back to the function's own.
 fn function_head(
-    msg: &[u8],
-    base: u32,
+    msg: Located<'_>,
     name: Name,
     signed: Signed,
-    payload: &[u8],
-    d2: &[u16],
-    state: State,
-    sheet: &mut [u8],
-    text: &mut [u8],
-) -> State
-    requires { Affords payload.now d2.now function_head_cost state }
-    ensures { FunctionHead payload.now d2.now msg.now base name signed state result sheet.old sheet.new text.old text.new }
+    context: &Context<'_>,
+    out: &mut Output<'_>,
+)
+    requires { Affords (lent context.now) function_head_cost out.old.state }
+    ensures same_areas { SameAreas out.old out.new }
+    ensures written { Writes (FunctionHead (lent context.now) msg.entry.bytes.now msg.entry.base name signed) out.old out.new.state out.new }
 {
-    let flags = flags_in(msg, base, FUNCTION_FLAGS, OMITTED_FLAGS);
+    let flags = flags_in(msg, FUNCTION_FLAGS, OMITTED_FLAGS);
     let own = names_of(signed);
     let names = SignatureNames {
-        name: or_name(own.name, name),
+        name: own.name.or(Some(name)),
         descriptor: own.descriptor,
     };
-    let receiver = has_receiver(msg, base, FUNCTION_RECEIVER_TYPE, FUNCTION_RECEIVER_TYPE_ID);
-    put_function(
-        payload, d2, name, flags, names, receiver, state, sheet, text,
-    )
+    let receiver = has_receiver(msg, FUNCTION_RECEIVER_TYPE, FUNCTION_RECEIVER_TYPE_ID);
+    put_function(context, Some(name), flags, names, receiver, out);
 }
 
 // What follows a function's parameters: its receiver's type, the refusal of its signature, its return type.
 fn function_types(
-    msg: &[u8],
-    base: u32,
+    msg: Located<'_>,
     signed: Signed,
-    payload: &[u8],
-    d2: &[u16],
-    ends: &[u32],
-    notes: &[u64],
-    tables: Tables,
-    state: State,
-    sheet: &mut [u8],
-    text: &mut [u8],
-) -> Result<State, Stop>
-    requires { Ready payload.now d2.now state × (base + length msg.now ≤ length payload.now) }
-    ensures { FunctionTypesTold (lent payload.now d2.now ends.now notes.now tables) msg.now base signed state result sheet.old sheet.new text.old text.new }
+    context: &Context<'_>,
+    out: &mut Output<'_>,
+) -> Result<(), Stop>
+    requires { Ready (lent context.now) out.old.state × (msg.base + length msg.bytes.now ≤ length context.now.payload.now) }
+    ensures same_areas { SameAreas out.old out.new }
+    ensures written { Writes (FunctionTypesTold (lent context.now) msg.entry.bytes.now msg.entry.base signed) out.old (walked result out.new) out.new }
 {
     let received = TypeSlot {
         inline: FUNCTION_RECEIVER_TYPE,
         indexed: FUNCTION_RECEIVER_TYPE_ID,
         role: Role::Receiver,
     };
-    let next = declared_type(
-        msg, base, received, payload, d2, ends, notes, tables, state, sheet, text,
-    )?;
+    declared_type(msg, received, context, out)?;
     signed?;
     let returned = TypeSlot {
         inline: FUNCTION_RETURN_TYPE,
         indexed: FUNCTION_RETURN_TYPE_ID,
         role: Role::Return,
     };
-    declared_type(
-        msg, base, returned, payload, d2, ends, notes, tables, next, sheet, text,
-    )
+    declared_type(msg, returned, context, out)
 }
 
 // A function. One without a name is skipped before anything inside it is read. Its signature is looked up first, since it stands in its
 // record.
 pub(crate) fn function_in(
-    msg: &[u8],
-    base: u32,
-    payload: &[u8],
-    d2: &[u16],
-    ends: &[u32],
-    notes: &[u64],
-    tables: Tables,
-    state: State,
-    sheet: &mut [u8],
-    text: &mut [u8],
-) -> Result<Option<State>, Stop>
-    requires { Affords payload.now d2.now (member_cost (length msg.now)) state × (base + length msg.now ≤ length payload.now) }
-    ensures { MemberTold function_in function_rows (member_cost (length msg.now)) (lent payload.now d2.now ends.now notes.now tables) msg.now base state result sheet.old sheet.new text.old text.new }
+    msg: Located<'_>,
+    context: &Context<'_>,
+    out: &mut Output<'_>,
+) -> Result<bool, Stop>
+    requires { Affords (lent context.now) (member_cost (length msg.bytes.now)) out.old.state × (msg.base + length msg.bytes.now ≤ length context.now.payload.now) }
+    ensures same_areas { SameAreas out.old out.new }
+    ensures stays { Stays result out.old out.new }
+    ensures written { Writes (MemberTold function_in function_rows (member_cost (length msg.entry.bytes.now)) (lent context.now) msg.entry.bytes.now msg.entry.base) out.old (picked result out.new) out.new }
 {
-    let name = name_in(
-        msg,
-        base,
-        FUNCTION_NAME,
-        payload,
-        ends,
-        notes,
-        tables.records,
-    );
-    if !is_there(name) {
-        return Ok(None);
-    }
-    let signed = signature_in(
-        msg,
-        base,
-        FUNCTION_METHOD_SIGNATURE,
-        payload,
-        ends,
-        notes,
-        tables.records,
-    );
-    let head = function_head(msg, base, name, signed, payload, d2, state, sheet, text);
-    let after = State {
-        sheet: head.sheet + 2,
-        ..head
+    let Some(name) = name_in(msg, FUNCTION_NAME, context) else {
+        return Ok(false);
     };
-    let parameters = parameters_in(
-        msg,
-        base,
-        FUNCTION_VALUE_PARAMETER,
-        payload,
-        d2,
-        ends,
-        notes,
-        tables,
-        after,
-        sheet,
-        text,
-    )?;
-    let last = function_types(
-        msg,
-        base,
-        signed,
-        payload,
-        d2,
-        ends,
-        notes,
-        tables,
-        parameters.state,
-        sheet,
-        text,
-    )?;
-    put_count(sheet, head.sheet, parameters.count);
-    Ok(Some(last))
+    let signed = signature_in(msg, FUNCTION_METHOD_SIGNATURE, context);
+    function_head(msg, name, signed, context, out);
+    let place = out.state.sheet;
+    out.state.sheet += 2;
+    let count = parameters_in(msg, FUNCTION_VALUE_PARAMETER, context, out)?;
+    function_types(msg, signed, context, out)?;
+    put_count(out.sheet, place, count);
+    Ok(true)
 }

@@ -1,13 +1,16 @@
 // Value parameters: a name, whether a default is declared, a type and the type of vararg elements. The definitions: schema's specs/Members.antt,
 // `parameter_in`; what the readers tell: specs/told/ParametersTold.antt.
 ghost use Rattle.std.specs.Prelude.{◌≡◌, ◌+◌, ◌*◌, ◌≤◌, length};
+ghost use Rattle.foundation.specs.told.Located.{told_part};
 ghost use Rattle.foundation.specs.Results.{ok, ◌from◌};
 ghost use Rattle.fields.specs.Fields.{ValueParameter-flags};
+ghost use Rattle.sheet.specs.told.Put.{SameAreas};
 ghost use Rattle.wire.specs.Wire.{cut, Message};
 ghost use Rattle.schema.specs.Members.{bit_of, small_flags_in};
 ghost use Rattle.schema.specs.told.SchemaTold.{lent};
 ghost use Rattle.schema.specs.told.MembersTold.{Affords, parameter_cost};
-ghost use Rattle.members.specs.told.ParametersTold.{ParameterTold, ParametersAtTold, ParametersInTold};
+ghost use Rattle.schema.specs.told.WroteTold.{walked, Writes};
+ghost use Rattle.members.specs.told.ParametersTold.{section_told, ParameterTold, ParametersAtTold, ParametersInTold};
 
 use crate::pairs::{TypePair, type_pair};
 use declaration_rows::{Role, put_parameter};
@@ -16,47 +19,30 @@ use fields::{
     VALUE_PARAMETER_TYPE_ID, VALUE_PARAMETER_VARARG_ELEMENT_TYPE,
     VALUE_PARAMETER_VARARG_ELEMENT_TYPE_ID,
 };
-use messages::{check_messages, next_body};
+use foundation::{Context, Located};
+use messages::{bodies_from, check_messages};
 use schema::flags::flags_in;
 use schema::name::name_in;
-use schema::{Section, Stop, Tables, TypeSlot};
-use sheet::State;
+use schema::{Stop, TypeSlot};
+use sheet::Output;
 
 // Does a parameter declare a default?
-fn declares_default(msg: &[u8], base: u32) -> bool
-    ensures { (m : Message) → cut (◌from◌ base msg.now) ≡ ok m → bit_of 1 (small_flags_in ValueParameter-flags m) ≡ result }
+fn declares_default(msg: Located<'_>) -> bool
+    ensures { (m : Message) → cut (told_part msg.entry) ≡ ok m → bit_of 1 (small_flags_in ValueParameter-flags m) ≡ result }
 {
-    let flags = flags_in(msg, base, VALUE_PARAMETER_FLAGS, OMITTED_SMALL_FLAGS);
+    let flags = flags_in(msg, VALUE_PARAMETER_FLAGS, OMITTED_SMALL_FLAGS);
     flags / 2 % 2 == 1
 }
 
 // A parameter, with a name or without.
-fn parameter_in(
-    msg: &[u8],
-    base: u32,
-    payload: &[u8],
-    d2: &[u16],
-    ends: &[u32],
-    notes: &[u64],
-    tables: Tables,
-    state: State,
-    sheet: &mut [u8],
-    text: &mut [u8],
-) -> Result<State, Stop>
-    requires { Affords payload.now d2.now parameter_cost state × (base + length msg.now ≤ length payload.now) }
-    ensures { ParameterTold (lent payload.now d2.now ends.now notes.now tables) msg.now base state result sheet.old sheet.new text.old text.new }
+fn parameter_in(msg: Located<'_>, context: &Context<'_>, out: &mut Output<'_>) -> Result<(), Stop>
+    requires { Affords (lent context.now) parameter_cost out.old.state × (msg.base + length msg.bytes.now ≤ length context.now.payload.now) }
+    ensures same_areas { SameAreas out.old out.new }
+    ensures written { Writes (ParameterTold (lent context.now) msg.entry.bytes.now msg.entry.base) out.old (walked result out.new) out.new }
 {
-    let name = name_in(
-        msg,
-        base,
-        VALUE_PARAMETER_NAME,
-        payload,
-        ends,
-        notes,
-        tables.records,
-    );
-    let default = declares_default(msg, base);
-    let head = put_parameter(payload, d2, name, default, state, sheet, text);
+    let name = name_in(msg, VALUE_PARAMETER_NAME, context);
+    let default = declares_default(msg);
+    put_parameter(context, name, default, out);
     let pair = TypePair {
         first: TypeSlot {
             inline: VALUE_PARAMETER_TYPE,
@@ -69,71 +55,40 @@ fn parameter_in(
             role: Role::VarargElement,
         },
     };
-    type_pair(
-        msg, base, pair, payload, d2, ends, notes, tables, head, sheet, text,
-    )
+    type_pair(msg, pair, context, out)
 }
 
 // The parameters in a field, one after the other. All of them are cut.
+// Not `list::members_at` with one kind more: its readers of members read parameters, so that they would call themselves.
 fn parameters_at(
-    msg: &[u8],
-    base: u32,
+    msg: Located<'_>,
     number: u32,
-    payload: &[u8],
-    d2: &[u16],
-    ends: &[u32],
-    notes: &[u64],
-    tables: Tables,
-    state: State,
-    sheet: &mut [u8],
-    text: &mut [u8],
-) -> Result<Section, Stop>
-    requires { Affords payload.now d2.now (parameter_cost * length msg.now) state × (base + length msg.now ≤ length payload.now) }
-    ensures { ParametersAtTold (lent payload.now d2.now ends.now notes.now tables) msg.now base number state result sheet.old sheet.new text.old text.new }
+    context: &Context<'_>,
+    out: &mut Output<'_>,
+) -> Result<usize, Stop>
+    requires { Affords (lent context.now) (parameter_cost * length msg.bytes.now) out.old.state × (msg.base + length msg.bytes.now ≤ length context.now.payload.now) }
+    ensures same_areas { SameAreas out.old out.new }
+    ensures written { Writes (ParametersAtTold (lent context.now) msg.entry.bytes.now msg.entry.base number) out.old (section_told result out.new) out.new }
 {
-    let mut at = 0;
     let mut count: usize = 0;
-    let mut next = state;
-    loop {
-        let Some(parameter) = next_body(msg, base, number, at) else {
-            return Ok(Section { state: next, count });
-        };
-        at = parameter.end;
-        next = parameter_in(
-            &msg[parameter.start..parameter.end],
-            base + parameter.start as u32,
-            payload,
-            d2,
-            ends,
-            notes,
-            tables,
-            next,
-            sheet,
-            text,
-        )?;
+    for parameter in bodies_from(msg, number, 0) {
+        parameter_in(msg.part(parameter), context, out)?;
         count += 1;
     }
+    Ok(count)
 }
 
 // The parameters in a field, all cut before the first is read.
 pub(crate) fn parameters_in(
-    msg: &[u8],
-    base: u32,
+    msg: Located<'_>,
     number: u32,
-    payload: &[u8],
-    d2: &[u16],
-    ends: &[u32],
-    notes: &[u64],
-    tables: Tables,
-    state: State,
-    sheet: &mut [u8],
-    text: &mut [u8],
-) -> Result<Section, Stop>
-    requires { Affords payload.now d2.now (parameter_cost * length msg.now) state × (base + length msg.now ≤ length payload.now) }
-    ensures { ParametersInTold (lent payload.now d2.now ends.now notes.now tables) msg.now base number state result sheet.old sheet.new text.old text.new }
+    context: &Context<'_>,
+    out: &mut Output<'_>,
+) -> Result<usize, Stop>
+    requires { Affords (lent context.now) (parameter_cost * length msg.bytes.now) out.old.state × (msg.base + length msg.bytes.now ≤ length context.now.payload.now) }
+    ensures same_areas { SameAreas out.old out.new }
+    ensures written { Writes (ParametersInTold (lent context.now) msg.entry.bytes.now msg.entry.base number) out.old (section_told result out.new) out.new }
 {
-    check_messages(msg, base, number)?;
-    parameters_at(
-        msg, base, number, payload, d2, ends, notes, tables, state, sheet, text,
-    )
+    check_messages(msg, number)?;
+    parameters_at(msg, number, context, out)
 }

@@ -1,5 +1,7 @@
 // Properties. The definition: schema's specs/Members.antt, `property_in`; what the readers tell: specs/told/PropertiesTold.antt, schema's specs/told/MembersTold.antt.
 ghost use Rattle.std.specs.Prelude.{◌≡◌, ◌+◌, ◌*◌, ◌^◌, ◌≤◌, length};
+ghost use Rattle.sheet.specs.told.Put.{SameAreas};
+ghost use Rattle.foundation.specs.told.Located.{told_part};
 ghost use Rattle.foundation.specs.Results.{ok, ◌from◌};
 ghost use Rattle.wire.specs.Wire.{cut, Message};
 ghost use Rattle.schema.specs.Members.{accessor_is_default, property_in};
@@ -7,6 +9,7 @@ ghost use Rattle.declaration_rows.specs.Rows.{property_rows};
 ghost use Rattle.schema.specs.told.SchemaTold.{lent};
 ghost use Rattle.declaration_rows.specs.told.Written.{RecordRoom};
 ghost use Rattle.schema.specs.told.MembersTold.{Affords, member_cost, MemberTold};
+ghost use Rattle.schema.specs.told.WroteTold.{picked, Stays, Writes};
 ghost use Rattle.members.specs.told.PropertiesTold.{PropertyRecordTold, NamedPropertyTold};
 
 use crate::signatures::{PropertyNames, check_accessors, names_of, property_signatures};
@@ -16,19 +19,20 @@ use fields::{
     PROPERTY_RECEIVER_TYPE, PROPERTY_RECEIVER_TYPE_ID, PROPERTY_RETURN_TYPE,
     PROPERTY_RETURN_TYPE_ID, PROPERTY_SETTER_FLAGS,
 };
-use names::name::{Name, is_there};
+use foundation::{Context, Located};
+use names::name::Name;
 use schema::flags::flags_in;
 use schema::name::name_in;
 use schema::receiver::has_receiver;
-use schema::{Stop, Tables, TypeSlot};
-use sheet::State;
+use schema::{Stop, TypeSlot};
+use sheet::Output;
 use type_references::declared_type;
 
 // An accessor is default unless bit 6 of its flags says otherwise.
-fn is_default(msg: &[u8], base: u32, number: u32) -> bool
-    ensures { (m : Message) → cut (◌from◌ base msg.now) ≡ ok m → accessor_is_default number m ≡ result }
+fn is_default(msg: Located<'_>, number: u32) -> bool
+    ensures { (m : Message) → cut (told_part msg.entry) ≡ ok m → accessor_is_default number m ≡ result }
 {
-    let flags = flags_in(msg, base, number, OMITTED_SMALL_FLAGS);
+    let flags = flags_in(msg, number, OMITTED_SMALL_FLAGS);
     flags / 64 % 2 != 1
 }
 
@@ -40,103 +44,74 @@ struct Named {
 }
 
 // Kind 4.
-fn put_record(
-    msg: &[u8],
-    base: u32,
-    payload: &[u8],
-    d2: &[u16],
-    own: Named,
-    state: State,
-    sheet: &mut [u8],
-    text: &mut [u8],
-) -> State
-    requires { RecordRoom (2 ^ 61) payload.now d2.now state }
-    ensures { PropertyRecordTold payload.now d2.now msg.now base own.name own.names state result sheet.old sheet.new text.old text.new }
+fn put_record(msg: Located<'_>, context: &Context<'_>, own: Named, out: &mut Output<'_>)
+    requires { RecordRoom (2 ^ 61) context.now.payload.now context.now.d2.now out.old.state }
+    ensures same_areas { SameAreas out.old out.new }
+    ensures written { Writes (PropertyRecordTold (lent context.now) msg.entry.bytes.now msg.entry.base own.name own.names) out.old out.new.state out.new }
 {
     let flags = PropertyFlags {
-        word: flags_in(msg, base, PROPERTY_FLAGS, OMITTED_FLAGS),
-        receiver: has_receiver(msg, base, PROPERTY_RECEIVER_TYPE, PROPERTY_RECEIVER_TYPE_ID),
-        getter: is_default(msg, base, PROPERTY_GETTER_FLAGS),
-        setter: is_default(msg, base, PROPERTY_SETTER_FLAGS),
+        word: flags_in(msg, PROPERTY_FLAGS, OMITTED_FLAGS),
+        receiver: has_receiver(msg, PROPERTY_RECEIVER_TYPE, PROPERTY_RECEIVER_TYPE_ID),
+        getter: is_default(msg, PROPERTY_GETTER_FLAGS),
+        setter: is_default(msg, PROPERTY_SETTER_FLAGS),
     };
     let names = own.names;
     put_property(
-        payload,
-        d2,
-        own.name,
+        context,
+        Some(own.name),
         flags,
         names.field,
         names_of(names.getter),
         names_of(names.setter),
-        state,
-        sheet,
-        text,
-    )
+        out,
+    );
 }
 
 // A property whose name is there and whose signatures are looked up: its record, its receiver's type, then what its accessors are refused
 // for, then its own type.
 fn named_property(
-    msg: &[u8],
-    base: u32,
+    msg: Located<'_>,
     own: Named,
-    payload: &[u8],
-    d2: &[u16],
-    ends: &[u32],
-    notes: &[u64],
-    tables: Tables,
-    state: State,
-    sheet: &mut [u8],
-    text: &mut [u8],
-) -> Result<Option<State>, Stop>
-    requires { Affords payload.now d2.now (member_cost (length msg.now)) state × (base + length msg.now ≤ length payload.now) }
-    ensures { NamedPropertyTold (lent payload.now d2.now ends.now notes.now tables) msg.now base own.name own.names state result sheet.old sheet.new text.old text.new }
+    context: &Context<'_>,
+    out: &mut Output<'_>,
+) -> Result<bool, Stop>
+    requires { Affords (lent context.now) (member_cost (length msg.bytes.now)) out.old.state × (msg.base + length msg.bytes.now ≤ length context.now.payload.now) }
+    ensures same_areas { SameAreas out.old out.new }
+    ensures stays { Stays result out.old out.new }
+    ensures written { Writes (NamedPropertyTold (lent context.now) msg.entry.bytes.now msg.entry.base own.name own.names) out.old (picked result out.new) out.new }
 {
-    let written = put_record(msg, base, payload, d2, own, state, sheet, text);
+    put_record(msg, context, own, out);
     let receiver = TypeSlot {
         inline: PROPERTY_RECEIVER_TYPE,
         indexed: PROPERTY_RECEIVER_TYPE_ID,
         role: Role::Receiver,
     };
-    let next = declared_type(
-        msg, base, receiver, payload, d2, ends, notes, tables, written, sheet, text,
-    )?;
+    declared_type(msg, receiver, context, out)?;
     check_accessors(own.names)?;
     let returned = TypeSlot {
         inline: PROPERTY_RETURN_TYPE,
         indexed: PROPERTY_RETURN_TYPE_ID,
         role: Role::Return,
     };
-    let last = declared_type(
-        msg, base, returned, payload, d2, ends, notes, tables, next, sheet, text,
-    )?;
-    Ok(Some(last))
+    declared_type(msg, returned, context, out)?;
+    Ok(true)
 }
 
 // A property: skipped without a name, before anything inside it is read.
 pub(crate) fn property_in(
-    msg: &[u8],
-    base: u32,
-    payload: &[u8],
-    d2: &[u16],
-    ends: &[u32],
-    notes: &[u64],
-    tables: Tables,
-    state: State,
-    sheet: &mut [u8],
-    text: &mut [u8],
-) -> Result<Option<State>, Stop>
-    requires { Affords payload.now d2.now (member_cost (length msg.now)) state × (base + length msg.now ≤ length payload.now) }
-    ensures { MemberTold property_in property_rows (member_cost (length msg.now)) (lent payload.now d2.now ends.now notes.now tables) msg.now base state result sheet.old sheet.new text.old text.new }
+    msg: Located<'_>,
+    context: &Context<'_>,
+    out: &mut Output<'_>,
+) -> Result<bool, Stop>
+    requires { Affords (lent context.now) (member_cost (length msg.bytes.now)) out.old.state × (msg.base + length msg.bytes.now ≤ length context.now.payload.now) }
+    ensures same_areas { SameAreas out.old out.new }
+    ensures stays { Stays result out.old out.new }
+    ensures written { Writes (MemberTold property_in property_rows (member_cost (length msg.entry.bytes.now)) (lent context.now) msg.entry.bytes.now msg.entry.base) out.old (picked result out.new) out.new }
 {
-    let records = tables.records;
-    let name = name_in(msg, base, PROPERTY_NAME, payload, ends, notes, records);
-    if !is_there(name) {
-        return Ok(None);
-    }
-    let names = property_signatures(msg, base, payload, ends, notes, records)?;
+    let Some(name) = name_in(msg, PROPERTY_NAME, context) else {
+        return Ok(false);
+    };
+    let names = property_signatures(msg, context)?;
     let own = Named { name, names };
-    named_property(
-        msg, base, own, payload, d2, ends, notes, tables, state, sheet, text,
-    )
+    named_property(msg, own, context, out)
 }

@@ -145,14 +145,14 @@ bodies-passed base s k n v rest = go (eqb n k) refl
     go false t e = ap bodies_of (values-passed k (value_of base s v) rest (eqb-false n k t))
 
 -- the walk to the next body: from the place i on the bodies are those from the place `at` on
-abbrev pub Bodies : ℕ → ℕ → List ℕ → ℕ → ℕ → Type 0
-Bodies k base s at i = Leads (λ m rest. bodies k m ≡ bodies k rest) (rest_of base s at) (rest_of base s i)
+abbrev pub BodiesLeft : ℕ → ℕ → List ℕ → ℕ → ℕ → Type 0
+BodiesLeft k base s at i = Leads (λ m rest. bodies k m ≡ bodies k rest) (rest_of base s at) (rest_of base s i)
 
 module _ (k base : ℕ) (s : List ℕ) (at : ℕ) where
-  pub bodies-start : Bodies k base s at at
+  pub bodies-start : BodiesLeft k base s at at
   bodies-start m w = (m, w, refl)
 
-  module _ (i : ℕ) (o : Bodies k base s at i) where
+  module _ (i : ℕ) (o : BodiesLeft k base s at i) where
     pub bodies-end : length s ≤ i → NextBodyTold base s k at None
     unfolding bodies_of values
     bodies-end h = record { is = leads-end (λ m rest. bodies k m ≡ bodies k rest) (rest_of base s at) base s i o h; inside = tt; later = tt; begins = tt }
@@ -168,7 +168,7 @@ module _ (k base : ℕ) (s : List ℕ) (at : ℕ) where
 
     module _ (x : Read code.Field) (e : FieldTold base s (read_field (rest_of base s i)) (Ok x)) (h : i < length s) {r : Option Span}
         (q : r ≡ piece_if k x.value.number x.value.value) where
-      pub bodies-on : r ≡ None → Bodies k base s at x.next
+      pub bodies-on : r ≡ None → BodiesLeft k base s at x.next
       bodies-on z =
           leads-next (rest_of base s at) base s i x e h (λ m rest. bodies k m ≡ bodies k rest) (λ m rest. bodies k m ≡ bodies k rest) o
           λ m rest c. c ∙ bodies-passed base s k x.value.number x.value.value rest (sym q ∙ z)
@@ -204,6 +204,14 @@ checked_part base s a e c h t = subst (λ (p : Part). CheckedTold (cut p) c) (pa
 pub checked_at : (s : List ℕ) (a e : ℕ) (c : Result Unit WireError) → CheckedTold (cut (◌from◌ a (take (e - a) (drop a s)))) c → CheckedTold (cut (part_between 0 s a e)) c
 checked_at s a e c t = subst (λ (n : ℕ). CheckedTold (cut (◌from◌ n (take (e - a) (drop a s)))) c) (sym (zero-add a)) t
 
+-- a part that is handed on by itself
+module _ (base : ℕ) (s : List ℕ) (x : Span) {b : ℕ} {bytes : List ℕ} (e : (b ≡ base + x.start) × (bytes ≡ take (x.end - x.start) (drop x.start s))) where
+  pub part_told : ◌from◌ b bytes ≡ part_between base s x.start x.end
+  part_told = rw (e.0, e.1)
+
+  pub checked_in : (c : Result Unit WireError) → CheckedTold (cut (◌from◌ b bytes)) c → CheckedTold (cut (part_between base s x.start x.end)) c
+  checked_in c t = subst (λ (p : Part). CheckedTold (cut p) c) part_told t
+
 -- the messages of a list: what is checked from a place on holds of all of them
 abbrev pub Cutting : ℕ → ℕ → List ℕ → ℕ → Type 0
 Cutting k base s at =
@@ -225,10 +233,6 @@ module _ (k base : ℕ) (s : List ℕ) where
   cutting-start m w = (m, ap cut (whole base s) ∙ w, λ c h. h)
 
   module _ (at : ℕ) (o : Cutting k base s at) where
-    pub cutting-end : length s ≤ at → (m : Message) → cut (◌from◌ base s) ≡ ok m → CheckedTold (messages k m) (Ok tt)
-    unfolding values bodies_of cut_all
-    cutting-end h m w = leads-end _ (◌from◌ base s) base s at o h m w (Ok tt) ([], refl)
-
     module _ {x : Option Span} (t : NextBodyTold base s k at x) where
       here : {y : Option Span} → x ≡ y → (m : Message) → cut (rest_of base s at) ≡ ok m → NextIs base s k m y
       here g m w = subst (NextIs base s k m) g (t.is m w)

@@ -2,13 +2,13 @@
 -- Assumes nothing.
 use mathlib.Core.Path.{◌≡◌, refl, ap, sym, ◌∙◌, subst}
 use mathlib.Core.List.{List, [], ◌∷◌, ◌++◌}
-use Prim.Native.Nat.{ℕ, ◌≤◌, ◌<◌}
+use Prim.Native.Nat.{ℕ, ◌+◌, ◌-◌, ◌≤◌, ◌<◌}
 use native.Mathlib.Omega.{arith}
 use lib.ListN.{length, take, drop, length-drop}
 use Rattle.foundation.specs.Results.{Res, ok, refused, ◌>>=◌, Part, ◌from◌, got}
 use Rattle.wire.specs.Wire.{Value, read_varint, read_field, Message, cut, packed}
 use Rattle.wire.specs.Messages.{values, varints_in, joined, varints}
-use Rattle.wire.specs.told.WireTold.{SkipTold, wire_refused, rest_of, part_between, value_of, Inside, SpanInside, FieldTold}
+use Rattle.wire.specs.told.WireTold.{SkipTold, wire_refused, rest_of, value_of, Inside, SpanInside, FieldTold}
 use Rattle.messages.specs.told.Asked.{CheckedTold}
 use Rattle.messages.specs.told.Repeated.{first_two, first_two_of, two_told, pushed, pushed_all, pushed_to}
 use Rattle.std.specs.Prelude.{Result, Ok, Err}
@@ -23,7 +23,7 @@ use Rattle.messages.specs.declared.repeated.Two.TheVariants.{Neither, Both}
 use Rattle.wire.proofs.Progress.{none_empty, packed_none, packed_next}
 use Rattle.wire.proofs.SkipLaws.{skip-leads}
 use Rattle.wire.proofs.WalkLaws.{bind_ok, byte_left, Leads, leads-start, leads-next, leads-never, leads-end, values-found, values-passed}
-use Rattle.messages.proofs.BodyLaws.{part-is}
+use Rattle.messages.proofs.BodyLaws.{part_told}
 
 both_stay : (a b : ℕ) (ns : List ℕ) → pushed_all (Both a b) ns ≡ Both a b
 both_stay a b [] = refl
@@ -62,11 +62,6 @@ module _ (base : ℕ) (s : List ℕ) (i : ℕ) (t : Two) where
     run-refused error e =
         let on : packed (rest_of base s i) ≡ wire_refused error = packed_next (rest_of base s i) (byte_left s i h) ∙ rw e in
         ap (pushed_to t) on
-
-pub run-part : (base : ℕ) (s : List ℕ) (t : Two) (a e : ℕ) (r : Result Two WireError) → a ≤ e
-    → pushed_to t (packed (rest_of base (take e s) a)) ≡ two_told r
-    → pushed_to t (packed (part_between base s a e)) ≡ two_told r
-run-part base s t a e r h w = ap (λ (p : Part). pushed_to t (packed p)) (sym (part-is base s a e h)) ∙ w
 
 -- the values of a field
 value_pushed : (t u : Two) (v : Value) (vs : List Value) → pushed_to t (varints_in v) ≡ ok u
@@ -164,7 +159,7 @@ module _ (base : ℕ) (s : List ℕ) (t : Two) {v : WireValue} where
     pub body-inside : SpanInside s x
     body-inside = subst (Inside s) g i
 
-    pub push-body : (r : Result Two WireError) → pushed_to t (packed (rest_of base (take x.end s) x.start)) ≡ two_told r
-        → pushed_to t (varints_in (value_of base s v)) ≡ two_told r
-    push-body r w =
-        ap (λ (w : WireValue). pushed_to t (varints_in (value_of base s w))) g ∙ run-part base s t x.start x.end r body-inside.0 w
+    pub push-body : {b : ℕ} {bytes : List ℕ} → (b ≡ base + x.start) × (bytes ≡ take (x.end - x.start) (drop x.start s)) → (r : Result Two WireError)
+        → pushed_to t (packed (◌from◌ b bytes)) ≡ two_told r → pushed_to t (varints_in (value_of base s v)) ≡ two_told r
+    push-body e r w =
+        ap (λ (w : WireValue). pushed_to t (varints_in (value_of base s w))) g ∙ ap (λ (p : Part). pushed_to t (packed p)) (sym (part_told base s x e)) ∙ w

@@ -20,7 +20,7 @@ use Rattle.messages.specs.told.Asked.{CheckedTold, FoundTold, found_or, bodies, 
 use Rattle.messages.proofs.CheckLaws.{checked-field, skip-checked}
 use Rattle.messages.proofs.FindLaws.{Occur, find-end, find-never, find-found, find-passed}
 use Rattle.messages.proofs.SeenLaws.{SeenBefore, seen_end, seen_never, seen_next}
-use Rattle.messages.proofs.BodyLaws.{Bodies, bodies-end, bodies-never, bodies-on, bodies-here}
+use Rattle.messages.proofs.BodyLaws.{BodiesLeft, bodies-end, bodies-never, bodies-on, bodies-here}
 
 -- what holds from the place after skipped fields holds from the first
 module _ (base : ℕ) {s ks : List ℕ} {at next : ℕ} (t : SkipTold s ks at next) (i : ℕ) (h : i < length ks) where
@@ -34,7 +34,7 @@ module _ (base : ℕ) {s ks : List ℕ} {at next : ℕ} (t : SkipTold s ks at ne
   seen-skipped (Some v) o = o
   seen-skipped None o = occur-skipped o
 
-  bodies-skipped : (start : ℕ) → Bodies k base s start at → Bodies k base s start next
+  bodies-skipped : (start : ℕ) → BodiesLeft k base s start at → BodiesLeft k base s start next
   bodies-skipped start = skip-leads base t i h (λ m rest. bodies k m ≡ bodies k rest) (λ m a b e q. q ∙ ap bodies_of e) (rest_of base s start)
 
 -- a walk that stood at `at`, and after the step at `next`
@@ -48,7 +48,7 @@ module _ (base : ℕ) (s ks : List ℕ) {at next : ℕ} where
       pub seen-over : (f : Option WireValue) → SeenBefore (get_or ks i 0) base s at f → FoundTold base s (get_or ks i 0) f
       seen-over f o = seen_end (get_or ks i 0) base s next t.gives.1 f (seen-skipped base t.gives.0 i h f o)
 
-      pub bodies-over : (start : ℕ) → Bodies (get_or ks i 0) base s start at → NextBodyTold base s (get_or ks i 0) start None
+      pub bodies-over : (start : ℕ) → BodiesLeft (get_or ks i 0) base s start at → NextBodyTold base s (get_or ks i 0) start None
       bodies-over start o = bodies-end (get_or ks i 0) base s start next (bodies-skipped base t.gives.0 i h start o) t.gives.1
 
     module _ {r : Result code.Field WireError} (t : FieldsNext base s ks at (Some r) next) where
@@ -63,7 +63,7 @@ module _ (base : ℕ) (s ks : List ℕ) {at next : ℕ} where
         pub seen-never : (f : Option WireValue) → SeenBefore (get_or ks i 0) base s at f → FoundTold base s (get_or ks i 0) f
         seen-never f o = let x = (there g).gives in seen_never (get_or ks i 0) base s x.0 x.2 e x.3 f (seen-skipped base x.1 i h f o)
 
-        pub bodies-refused : (start : ℕ) → Bodies (get_or ks i 0) base s start at → NextBodyTold base s (get_or ks i 0) start None
+        pub bodies-refused : (start : ℕ) → BodiesLeft (get_or ks i 0) base s start at → NextBodyTold base s (get_or ks i 0) start None
         bodies-refused start o = let x = (there g).gives in bodies-never (get_or ks i 0) base s start x.0 (bodies-skipped base x.1 i h start o) e x.3 x.2
 
       -- at a field
@@ -78,8 +78,8 @@ module _ (base : ℕ) (s ks : List ℕ) {at next : ℕ} where
             → SeenBefore (get_or ks i 0) base s next w
         seen-next v o = let x = (there g).gives in seen_next (get_or ks i 0) base s x.0 x.2 (record { value = f; next = next }) x.3 v (seen-skipped base x.1 i h v o)
 
-        module _ (start : ℕ) (b : Bodies (get_or ks i 0) base s start at) {p : Option Span} (q : p ≡ piece_if (get_or ks i 0) f.number f.value) where
-          pub bodies-passed : p ≡ None → Bodies (get_or ks i 0) base s start next
+        module _ (start : ℕ) (b : BodiesLeft (get_or ks i 0) base s start at) {p : Option Span} (q : p ≡ piece_if (get_or ks i 0) f.number f.value) where
+          pub bodies-passed : p ≡ None → BodiesLeft (get_or ks i 0) base s start next
           bodies-passed z = let x = (there g).gives in
               bodies-on (get_or ks i 0) base s start x.0 (bodies-skipped base x.1 i h start b) (record { value = f; next = next }) x.3 x.2 q z
 

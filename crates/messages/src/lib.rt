@@ -1,54 +1,44 @@
-// Messages: a slice that is cut into fields, and what it says of a field. A function that asks a message tells what the definitions say
-// where the slice can be cut, and is safe on any. The definitions: wire's specs/Messages.antt; how the answers tell them: specs/told/Asked.antt.
+// Messages: a part of the decoded bytes that is cut into fields, and what it says of a field. A function that asks a message tells what the
+// definitions say where it can be cut, and is safe on any. The definitions: wire's specs/Messages.antt; how the answers tell them: specs/told/Asked.antt.
 #![tactic(auto)]
 
-ghost use Rattle.std.specs.Prelude.{◌≡◌, ℕ, ◌≤◌, ◌<◌, length, get_or, None};
-ghost use Rattle.foundation.specs.Results.{ok, ◌from◌};
+ghost use Rattle.std.specs.Prelude.{◌≡◌, ℕ, ◌-◌, ◌<◌, length, get_or, None, ⊤};
+ghost use Rattle.std.specs.Iterator.{at_most};
+ghost use Rattle.foundation.specs.Results.{ok};
+ghost use Rattle.foundation.specs.told.Located.{told_part};
 ghost use Rattle.wire.specs.Wire.{cut, Message};
 ghost use Rattle.wire.specs.Messages.{varint_of, index, messages};
-ghost use Rattle.wire.specs.told.WireTold.{rest_of, part_between};
-ghost use Rattle.messages.specs.told.Asked.{CheckedTold, FoundTold, found_or, number_told, number_in, piece_in, BytesTold, index_told, index_in, EmbeddedTold, piece_if, NextBodyTold};
+ghost use Rattle.wire.specs.told.WireTold.{rest_of};
+ghost use Rattle.messages.specs.told.Asked.{CheckedTold, FoundTold, found_or, number_told, number_in, piece_in, BytesTold, index_told, index_in, EmbeddedTold, piece_if, NextBodyTold, after_body};
 
 pub mod repeated; // repeated.rt: repeated numbers, single and packed
 pub mod reader; // reader.rt: a reader over a message
 
-use foundation::Span;
+use foundation::{Located, Span};
 use wire::{Field, WireError, WireValue, fields_from};
 
-// Cuts what is left of a slice from a place on.
-pub fn check_from(s: &[u8], base: u32, at: usize) -> Result<(), WireError>
-    ensures { CheckedTold (cut (rest_of base s.now at)) result }
+// Cuts what is left of a message from a place on.
+fn check_from(s: Located<'_>, at: usize) -> Result<(), WireError>
+    ensures { CheckedTold (cut (rest_of s.entry.base s.entry.bytes.now at)) result }
 {
-    for field in fields_from(s, base, [], at) {
+    for field in fields_from(s, [], at) {
         field?;
     }
     Ok(())
 }
 
 // Cuts a whole message.
-pub fn check(s: &[u8], base: u32) -> Result<(), WireError>
-    ensures { CheckedTold (cut (◌from◌ base s.now)) result }
+pub fn check(s: Located<'_>) -> Result<(), WireError>
+    ensures { CheckedTold (cut (told_part s.entry)) result }
 {
-    check_from(s, base, 0)
-}
-
-// Cuts the message in a part of a slice. It is handed on as a slice of its own, with its own offset. An offset above 32 bits, which no payload
-// has, can't be handed on; then the message is cut where it stands.
-fn check_part(s: &[u8], base: u32, part: Span) -> Result<(), WireError>
-    requires { (part.start ≤ part.end) × (part.end ≤ length s.now) }
-    ensures { CheckedTold (cut (part_between base s.now part.start part.end)) result }
-{
-    match u32::try_from(base as usize + part.start) {
-        Ok(offset) => check(&s[part.start..part.end], offset),
-        Err(_) => check_from(&s[..part.end], base, part.start),
-    }
+    check_from(s, 0)
 }
 
 // The first occurrence of a field, of whatever wire type.
-pub fn find(s: &[u8], base: u32, number: u32) -> Option<WireValue>
-    ensures { FoundTold base s.now number result }
+pub fn find(s: Located<'_>, number: u32) -> Option<WireValue>
+    ensures { FoundTold s.entry.base s.entry.bytes.now number result }
 {
-    for read in fields_from(s, base, [number], 0) {
+    for read in fields_from(s, [number], 0) {
         let Ok(field) = read else {
             return None;
         };
@@ -71,11 +61,11 @@ fn keep_first<const N: usize>(found: &mut [Option<WireValue>; N], numbers: [u32;
 }
 
 // The first occurrences of several fields, by one walk.
-pub fn find_each<const N: usize>(s: &[u8], base: u32, numbers: [u32; N]) -> [Option<WireValue>; N]
-    ensures { (i : ℕ) → i < N → FoundTold base s.now (get_or numbers.entry i 0) (get_or result i None) }
+pub fn find_each<const N: usize>(s: Located<'_>, numbers: [u32; N]) -> [Option<WireValue>; N]
+    ensures { (i : ℕ) → i < N → FoundTold s.entry.base s.entry.bytes.now (get_or numbers.entry i 0) (get_or result i None) }
 {
     let mut found = [None; N];
-    for read in fields_from(s, base, numbers, 0) {
+    for read in fields_from(s, numbers, 0) {
         let Ok(field) = read else {
             break;
         };
@@ -105,33 +95,33 @@ pub fn piece_in(found: Option<WireValue>) -> Option<Span>
     found?.bytes()
 }
 
-pub fn varint(s: &[u8], base: u32, number: u32) -> Option<u64>
-    ensures { (m : Message) → cut (◌from◌ base s.now) ≡ ok m → varint_of number m ≡ number_told result }
+pub fn varint(s: Located<'_>, number: u32) -> Option<u64>
+    ensures { (m : Message) → cut (told_part s.entry) ≡ ok m → varint_of number m ≡ number_told result }
 {
-    number_in(find(s, base, number))
+    number_in(find(s, number))
 }
 
 // The bytes of a field whose first occurrence is length-delimited.
-pub fn bytes(s: &[u8], base: u32, number: u32) -> Option<Span>
-    ensures { BytesTold base s.now number result }
+pub fn bytes(s: Located<'_>, number: u32) -> Option<Span>
+    ensures { BytesTold s.entry.base s.entry.bytes.now number result }
 {
-    piece_in(find(s, base, number))
+    piece_in(find(s, number))
 }
 
-pub fn index(s: &[u8], base: u32, number: u32) -> Option<u32>
-    ensures { (m : Message) → cut (◌from◌ base s.now) ≡ ok m → index number m ≡ index_told result }
+pub fn index(s: Located<'_>, number: u32) -> Option<u32>
+    ensures { (m : Message) → cut (told_part s.entry) ≡ ok m → index number m ≡ index_told result }
 {
-    index_in(find(s, base, number))
+    index_in(find(s, number))
 }
 
 // The place of the message in the first occurrence of a field, if the field is there, once the message is cut.
-pub fn message(s: &[u8], base: u32, number: u32) -> Result<Option<Span>, WireError>
-    ensures { EmbeddedTold base s.now number result }
+pub fn message(s: Located<'_>, number: u32) -> Result<Option<Span>, WireError>
+    ensures { EmbeddedTold s.entry.base s.entry.bytes.now number result }
 {
-    let Some(body) = bytes(s, base, number) else {
+    let Some(body) = bytes(s, number) else {
         return Ok(None);
     };
-    check_part(s, base, body)?;
+    check(s.part(body))?;
     Ok(Some(body))
 }
 
@@ -146,10 +136,10 @@ fn body_of(asked: u32, field: Field) -> Option<Span>
 }
 
 // The next length-delimited occurrence of a field from a place on. Asked again from its end on, it gives the one after it.
-pub fn next_body(s: &[u8], base: u32, number: u32, at: usize) -> Option<Span>
-    ensures { NextBodyTold base s.now number at result }
+pub fn next_body(s: Located<'_>, number: u32, at: usize) -> Option<Span>
+    ensures { NextBodyTold s.entry.base s.entry.bytes.now number at result }
 {
-    for read in fields_from(s, base, [number], at) {
+    for read in fields_from(s, [number], at) {
         let Ok(field) = read else {
             return None;
         };
@@ -160,17 +150,43 @@ pub fn next_body(s: &[u8], base: u32, number: u32, at: usize) -> Option<Span>
     None
 }
 
-// Cuts every message of a list, before the first is read.
-pub fn check_messages(s: &[u8], base: u32, number: u32) -> Result<(), WireError>
-    ensures { (m : Message) → cut (◌from◌ base s.now) ≡ ok m → CheckedTold (messages number m) result }
+// A walk over the bodies of a field's length-delimited occurrences. It ends at the message's end, and where a field is refused.
+#[derive(Clone, Copy)]
+pub struct Bodies<'a> {
+    s: Located<'a>,
+    number: u32,
+    at: usize,
+}
+
+impl<'a> Iterator for Bodies<'a> {
+    type Item = Span;
+
+    ghost can_next = { λ i. ⊤ };
+
+    ghost next_gives = { λ i r t. NextBodyTold i.s.base i.s.bytes.now i.number i.at r × (t.at ≡ after_body i.at r) × (t.s ≡ i.s) × (t.number ≡ i.number) };
+
+    ghost remaining = { λ i. at_most (length i.s.bytes.now - i.at) };
+
+    fn next(&mut self) -> Option<Span> {
+        let body = next_body(self.s, self.number, self.at)?;
+        self.at = body.end;
+        Some(body)
+    }
+}
+
+// The bodies of a field from a place on.
+pub fn bodies_from<'a>(s: Located<'a>, number: u32, at: usize) -> Bodies<'a>
+    ensures { (result.s ≡ s.entry) × (result.number ≡ number) × (result.at ≡ at) }
 {
-    let mut at = 0;
-    while at < s.len() {
-        let Some(body) = next_body(s, base, number, at) else {
-            return Ok(());
-        };
-        check_part(s, base, body)?;
-        at = body.end;
+    Bodies { s, number, at }
+}
+
+// Cuts every message of a list, before the first is read.
+pub fn check_messages(s: Located<'_>, number: u32) -> Result<(), WireError>
+    ensures { (m : Message) → cut (told_part s.entry) ≡ ok m → CheckedTold (messages number m) result }
+{
+    for body in bodies_from(s, number, 0) {
+        check(s.part(body))?;
     }
     Ok(())
 }

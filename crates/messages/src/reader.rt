@@ -5,7 +5,7 @@ ghost use Rattle.foundation.specs.Results.{◌from◌};
 ghost use Rattle.wire.specs.Wire.{read_delimited};
 ghost use Rattle.messages.specs.told.Reader.{DelimitedRead, SplitTold};
 
-use foundation::Span;
+use foundation::{Located, Span};
 use wire::{WireError, delimited_at};
 
 #[derive(Clone, Copy)]
@@ -43,7 +43,11 @@ impl<'a> WireReader<'a> {
     fn delimited(&mut self) -> Result<Span, WireError>
         ensures { (self.new.«data» ≡ self.old.«data») × DelimitedRead self.old.«data».now self.old.offset result self.new.offset }
     {
-        let body = delimited_at(self.data, 0, self.offset)?;
+        let data = Located {
+            base: 0,
+            bytes: self.data,
+        };
+        let body = delimited_at(data, self.offset)?;
         self.offset = body.end;
         Ok(body)
     }

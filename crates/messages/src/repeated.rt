@@ -1,12 +1,14 @@
 // Repeated numbers: single and packed values of a field, joined in order.
 ghost use Rattle.std.specs.Prelude.{◌≡◌};
-ghost use Rattle.foundation.specs.Results.{ok, ◌from◌};
+ghost use Rattle.foundation.specs.Results.{ok};
+ghost use Rattle.foundation.specs.told.Located.{told_part};
 ghost use Rattle.wire.specs.Wire.{cut, packed, Message};
 ghost use Rattle.wire.specs.Messages.{varints_in, varints};
-ghost use Rattle.wire.specs.told.WireTold.{rest_of, value_of, Inside};
+ghost use Rattle.wire.specs.told.WireTold.{value_of, Inside};
 ghost use Rattle.messages.specs.told.Asked.{CheckedTold};
 ghost use Rattle.messages.specs.told.Repeated.{pushed, pushed_to, first_two_of, two_told};
 
+use foundation::Located;
 use wire::{WireError, WireValue, fields_from, varint_at};
 
 // The first two numbers of a list, mod 2^32, as far as it has them.
@@ -28,23 +30,23 @@ fn push(two: Two, value: u64) -> Two
     }
 }
 
-// Adds the numbers of a packed run, which is the slice from a place on.
-fn push_packed(s: &[u8], base: u32, at: usize, two: Two) -> Result<Two, WireError>
-    ensures { pushed_to two (packed (rest_of base s.now at)) ≡ two_told result }
+// Adds the numbers of a packed run.
+fn push_packed(run: Located<'_>, two: Two) -> Result<Two, WireError>
+    ensures { pushed_to two (packed (told_part run.entry)) ≡ two_told result }
 {
-    let mut i = at;
+    let mut at = 0;
     let mut have = two;
-    while i < s.len() {
-        let read = varint_at(s, base, i)?;
+    while at < run.bytes.len() {
+        let read = varint_at(run, at)?;
         have = push(have, read.value);
-        i = read.next;
+        at = read.next;
     }
     Ok(have)
 }
 
-fn push_value(s: &[u8], base: u32, value: WireValue, two: Two) -> Result<Two, WireError>
-    requires { Inside s.now value }
-    ensures { pushed_to two (varints_in (value_of base s.now value)) ≡ two_told result }
+fn push_value(s: Located<'_>, value: WireValue, two: Two) -> Result<Two, WireError>
+    requires { Inside s.bytes.now value }
+    ensures { pushed_to two (varints_in (value_of s.entry.base s.entry.bytes.now value)) ≡ two_told result }
 {
     match value {
         WireValue::Varint(number) => Ok(push(two, number)),
@@ -52,30 +54,30 @@ fn push_value(s: &[u8], base: u32, value: WireValue, two: Two) -> Result<Two, Wi
             width: _,
             number: _,
         } => Ok(two),
-        WireValue::Body(body) => push_packed(&s[..body.end], base, body.start, two),
+        WireValue::Body(body) => push_packed(s.part(body), two),
     }
 }
 
 // The first two numbers of a field. A number after them that can't be read refuses too.
-pub fn first_two(s: &[u8], base: u32, number: u32) -> Result<Two, WireError>
-    ensures { (m : Message) → cut (◌from◌ base s.now) ≡ ok m → first_two_of (varints number m) ≡ two_told result }
+pub fn first_two(s: Located<'_>, number: u32) -> Result<Two, WireError>
+    ensures { (m : Message) → cut (told_part s.entry) ≡ ok m → first_two_of (varints number m) ≡ two_told result }
 {
     let mut two = Two::Neither;
-    for read in fields_from(s, base, [number], 0) {
+    for read in fields_from(s, [number], 0) {
         let Ok(field) = read else {
             return Ok(two);
         };
         if field.number == number {
-            two = push_value(s, base, field.value, two)?;
+            two = push_value(s, field.value, two)?;
         }
     }
     Ok(two)
 }
 
 // Tests that every number of a field can be read.
-pub fn check_varints(s: &[u8], base: u32, number: u32) -> Result<(), WireError>
-    ensures { (m : Message) → cut (◌from◌ base s.now) ≡ ok m → CheckedTold (varints number m) result }
+pub fn check_varints(s: Located<'_>, number: u32) -> Result<(), WireError>
+    ensures { (m : Message) → cut (told_part s.entry) ≡ ok m → CheckedTold (varints number m) result }
 {
-    first_two(s, base, number)?;
+    first_two(s, number)?;
     Ok(())
 }

@@ -1,27 +1,24 @@
 -- The whole reading: faults, kinds, the head alone.
 -- Assumes nothing.
 use mathlib.Core.Path.{◌≡◌, refl, ap, sym, subst, ◌∙◌}
-use mathlib.Core.Bool.{Bool, true, false, ◌&&◌, ◌||◌}
+use mathlib.Core.Bool.{Bool, true, false, ◌||◌}
 use mathlib.Core.List.{List, [], ◌∷◌, ◌++◌}
 use mathlib.Core.Option.{Option, none, some}
 use Prim.Native.Nat.{ℕ, ◌*◌, ◌^◌, ◌≤◌, ◌<◌, min}
 use native.Mathlib.Omega.{arith}
-use borrow.Author.Tests.{ltb-false, leb-true, lt-ltb, le-ltb, eq-eqb}
-use lib.Dec.{eqb, leb, ltb}
-use lib.IntN.{ℤ, pos, negsuc}
+use borrow.Author.Tests.{ltb-false, lt-ltb, le-ltb}
+use lib.Dec.{ltb}
+use lib.IntN.{ℤ}
 use lib.ListN.{length}
 use lib.Seq.{sets}
 use lib.Signed.{lt_z}
 use Rattle.std.specs.Prelude.{if◌then◌else◌}
 use Rattle.foundation.specs.Digits.{little}
 use Rattle.foundation.specs.Results.{Res, refused, Cause, d1_too_long, d2_too_long, string_ends, newer_version}
-use Rattle.foundation.proofs.ChoiceLaws.{if_ind, and_left, and_right}
-use Rattle.foundation.specs.Texts.{Text}
 use Rattle.encoding.specs.Encoding.{unit_limit}
 use Rattle.lookup.specs.told.Strings.{codes_from}
-use Rattle.names.specs.told.Name.{name_text, absent_name}
 use Rattle.names.specs.Names.{ends_fit}
-use Rattle.names.specs.declared.name.Name.{Name}
+use Rattle.std.specs.declared.option.Option.TheVariants.{None}
 use Rattle.sheet.specs.Rows.{num, Row, row, sheet_from, texts, body_bytes, body_text}
 use Rattle.sheet.specs.told.Put.{PutHead, PutRows, past}
 use Rattle.sheet.specs.declared.State.{State}
@@ -34,7 +31,6 @@ use Rattle.declaration_rows.specs.told.Written.{head_cells, head_counts}
 use Rattle.declaration_rows.proofs.RecordLaws.{head-put, aliases-put}
 use Rattle.declaration_rows.proofs.WrittenLaws.{head-room, head_small}
 use Rattle.declarations.specs.Payload.{declaration_rows}
-use Rattle.declarations.proofs.BodyLaws.{no_name}
 use Rattle.inputs.specs.Inputs.{Input, kind_of, carries_declarations, string_limit, supported_major, major, later_fault, fault_of, input}
 use Rattle.inputs.specs.told.KindTold.{kind_number}
 use Rattle.inputs.specs.told.OutcomesTold.{fault_cause, fault_told, told}
@@ -161,24 +157,22 @@ module _ (kind : ℕ) (S T : List ℕ) where
   unfolding sheet_written
   alone-over h = alone-answer ∙ rw (alone_length kind, lt-ltb (length S) 23 h)
 
-  pub alone-done : (n : Name) → n ≡ absent_name → (payload d2 : List ℕ) {s s₁ s₂ : State} → s ≡ start → {S₁ S₂ S₃ S₄ T₁ : List ℕ}
-      → PutHead 1 (head_cells kind (name_text payload d2 n) 6) s.types s s₁ S S₁ T T₁
-      → PutHead 9 [] s₁.types (past 6 s₁) s₂ S₁ S₂ T₁ T₁ → S₃ ≡ sets S₂ s₂.sheet (little 2 0)
-      → ((o : ℕ) → S₄ ≡ sets S₃ s₁.sheet (body_bytes o (head_counts 0 0 0))) → 23 ≤ length S
-      → answered S T kind nothing_read ≡ told (Ok (record { sheet = 23; text = 0; types = 0 })) S₄ T₁
+  pub alone-done : {s s₁ s₂ : State} → s ≡ start → {S₁ S₂ S₃ S₄ S' T₁ T₂ T' : List ℕ}
+      → PutHead 1 (head_cells kind none 6) s.types s s₁ S S₁ T T₁
+      → PutHead 9 [] s₁.types (past 6 s₁) s₂ S₁ S₂ T₁ T₂ → S₃ ≡ sets S₂ s₂.sheet (little 2 0)
+      → ((o : ℕ) → S₄ ≡ sets S₃ s₁.sheet (body_bytes o (head_counts 0 0 0))) → 23 ≤ length S → S' ≡ S₄ → T' ≡ T₂
+      → answered S T kind nothing_read ≡ told (Ok (record { sheet = 23; text = 0; types = 0 })) S' T'
   unfolding sheet_written
-  alone-done n e payload d2 {s} {s₁} {s₂} f {S₁} {S₂} {S₃} {S₄} {T₁} p q z c h =
-      let name = ap (name_text payload d2) e ∙ no_name payload d2 in
-      let p₁ = subst (λ (o : Option Text). PutHead 1 (head_cells kind o 6) s.types s s₁ S S₁ T T₁) name p in
-      let p₂ = subst (λ (x : State). PutHead 1 (head_cells kind none 6) x.types x s₁ S S₁ T T₁) f p₁ in
-      let w : PutRows (alone kind) s₂.types start (past 2 s₂) S S₄ T T₁ = alone-put p₂ in
+  alone-done {s} {s₁} {s₂} f {S₁} {S₂} {S₃} {S₄} {S'} {T₁} {T₂} {T'} p q z c h i j =
+      let p₁ = subst (λ (x : State). PutHead 1 (head_cells kind none 6) x.types x s₁ S S₁ T T₁) f p in
+      let w : PutRows (alone kind) s₂.types start (past 2 s₂) S S₄ T T₂ = alone-put p₁ in
       let l = alone_length kind in
       let t : length (texts (alone kind)) ≡ 0 = ap length (alone_text kind) in
       let x = put_front w (omega arith) (omega arith) in
-      alone-answer ∙ rw (le-ltb (length S) (length (sheet_from 0 (alone kind))) (omega arith)) (rw (x.0, x.1, l, t))
+      alone-answer ∙ rw (le-ltb (length S) (length (sheet_from 0 (alone kind))) (omega arith)) (rw (i, j, x.0, x.1, l, t))
     where
-      alone-put : PutHead 1 (head_cells kind none 6) allowance start s₁ S S₁ T T₁ → PutRows (alone kind) s₂.types start (past 2 s₂) S S₄ T T₁
-      alone-put p = alone_rows kind (head-put kind none 6 0 0 0 (row 9 (num 2 0 ∷ []) ∷ []) p (aliases-put 0 [] q (no_rows (past 2 s₂) S₂ T₁) z) c)
+      alone-put : PutHead 1 (head_cells kind none 6) allowance start s₁ S S₁ T T₁ → PutRows (alone kind) s₂.types start (past 2 s₂) S S₄ T T₂
+      alone-put p = alone_rows kind (head-put kind none 6 0 0 0 (row 9 (num 2 0 ∷ []) ∷ []) p (aliases-put 0 [] q (no_rows (past 2 s₂) S₂ T₂) z) c)
 
 -- the room of the head alone
 pub alone_room : (kind : ℕ) (r : Reply) → r.sizes ≡ record { sheet = 23; text = 0; types = 0 } → r.sections ≡ no_lists
@@ -202,11 +196,11 @@ alone_room kind r e f =
     )
 
 -- where the head ends
-pub alone_ends : (kind : ℕ) (n : Name) (payload d2 : List ℕ) → length payload ≤ 32768 → length d2 ≤ 32768 → {s s₁ : State} {S S₁ T T₁ : List ℕ} → s ≡ start
-    → PutHead 1 (head_cells kind (name_text payload d2 n) 6) s.types s s₁ S S₁ T T₁ → s₁.sheet ≤ 2 ^ 60
-alone_ends kind n payload d2 a b {s} e p =
+pub alone_ends : (kind : ℕ) (payload d2 : List ℕ) → length payload ≤ 32768 → length d2 ≤ 32768 → {s s₁ : State} {S S₁ T T₁ : List ℕ} → s ≡ start
+    → PutHead 1 (head_cells kind none 6) s.types s s₁ S S₁ T T₁ → s₁.sheet ≤ 2 ^ 60
+alone_ends kind payload d2 a b {s} e p =
     let r : written.RecordRoom 0 payload d2 s = subst (written.RecordRoom 0 payload d2) (sym e) (record { payload = a; d2 = b; places = omega arith }) in
-    omega (arith, (head-room (head_cells kind (name_text payload d2 n) 6) (head_small r kind n 6) r 1 p).places)
+    omega (arith, (head-room (head_cells kind none 6) (head_small r kind None 6) r 1 p).places)
 
 pub start-room : (payload d2 : List ℕ) → length payload ≤ 32768 → length d2 ≤ 32768 → {s : State} → s ≡ start → written.RecordRoom (2 ^ 61) payload d2 s
 start-room payload d2 a b e = subst (written.RecordRoom (2 ^ 61) payload d2) (sym e) (record { payload = a; d2 = b; places = omega arith })

@@ -17,11 +17,11 @@ ghost use Rattle.metadata.specs.told.ReadTold.{told_by};
 
 use declaration_rows::{put_aliases, put_count, put_head, put_head_counts};
 use fields::OMITTED_FLAGS;
+use foundation::{Context, Tables};
 use inputs::outcome::{Refusal, Sizes};
-use inputs::{Kind, fault_of, kind_of};
-use names::name::absent;
+use inputs::{Kind, Units, fault_of, kind_of};
 use passes::{Asked, PassError, Reply, Task, decode_in, start, without_lists};
-use sheet::State;
+use sheet::Output;
 
 // Both lengths and the types entered, or the refusal; and the version as it came.
 #[derive(Clone, Copy)]
@@ -44,25 +44,29 @@ fn head_alone(kind: Kind, sheet: &mut [u8], text: &mut [u8]) -> Result<Sizes, Re
     if sheet.len() < HEAD_ALONE.sheet {
         return Err(Refusal::SheetTooLong);
     }
-    let payload = [0u8; 0];
-    let d2 = [0u16; 0];
-    let head = put_head(
-        &payload,
-        &d2,
-        kind.number(),
-        absent(),
-        OMITTED_FLAGS,
-        start(),
+    let context = Context {
+        payload: &[],
+        d2: &[],
+        ends: &[],
+        notes: &[],
+        tables: Tables {
+            records: 0,
+            types: 0,
+            first_nullable: None,
+        },
+    };
+    let mut out = Output {
         sheet,
         text,
-    );
-    let after = State {
-        sheet: head.sheet + 6,
-        ..head
+        state: start(),
     };
-    let begun = put_aliases(after, sheet);
-    put_count(sheet, begun.sheet, 0);
-    put_head_counts(sheet, head.sheet, 0, 0, 0);
+    put_head(&context, kind.number(), None, OMITTED_FLAGS, &mut out);
+    let head = out.state.sheet;
+    out.state.sheet += 6;
+    put_aliases(&mut out);
+    let aliases = out.state.sheet;
+    put_count(out.sheet, aliases, 0);
+    put_head_counts(out.sheet, head, 0, 0, 0);
     Ok(HEAD_ALONE)
 }
 
@@ -79,14 +83,12 @@ fn alone(asked: Asked, sheet: &mut [u8], text: &mut [u8]) -> Result<Reply, Refus
 // A d1 of so many units at most, in a frame with room for its bytes, for their notes, and for the first pass.
 fn in_frame_of<const BYTES: usize, const NOTES: usize, const SHEET: usize, const TEXT: usize>(
     asked: Asked,
-    d1: &[u16],
-    d2: &[u16],
-    ends: &[u32],
+    units: &Units<'_>,
     sheet: &mut [u8],
     text: &mut [u8],
 ) -> Result<Reply, Refusal>
-    requires { InLimits d1.now d2.now ends.now × (length d1.now ≤ BYTES) × (3 * BYTES ≤ 2 * codes_from NOTES) × (BYTES + NOTES + SHEET + TEXT ≤ 2 ^ 20) }
-    ensures { TaskTold asked (reading_of (kind_number asked.kind) d1.now d2.now ends.now) result sheet.old sheet.new text.old text.new }
+    requires { InLimits units.now.d1.now units.now.d2.now units.now.ends.now × (length units.now.d1.now ≤ BYTES) × (3 * BYTES ≤ 2 * codes_from NOTES) × (BYTES + NOTES + SHEET + TEXT ≤ 2 ^ 20) }
+    ensures { TaskTold asked (reading_of (kind_number asked.kind) units.now.d1.now units.now.d2.now units.now.ends.now) result sheet.old sheet.new text.old text.new }
 {
     let mut bytes = [0u8; BYTES];
     let mut notes = [0u64; NOTES];
@@ -94,9 +96,7 @@ fn in_frame_of<const BYTES: usize, const NOTES: usize, const SHEET: usize, const
     let mut scratch_text = [0u8; TEXT];
     let passed = decode_in(
         asked,
-        d1,
-        d2,
-        ends,
+        units,
         &mut bytes,
         &mut notes,
         &mut scratch_sheet,
@@ -114,19 +114,17 @@ fn in_frame_of<const BYTES: usize, const NOTES: usize, const SHEET: usize, const
 // A longer d1, in the frame that is enough: of 181 KB up to 8,192 units, of 557 KB for any.
 fn in_longer(
     asked: Asked,
-    d1: &[u16],
-    d2: &[u16],
-    ends: &[u32],
+    units: &Units<'_>,
     sheet: &mut [u8],
     text: &mut [u8],
 ) -> Result<Reply, Refusal>
-    requires { InLimits d1.now d2.now ends.now }
-    ensures { TaskTold asked (reading_of (kind_number asked.kind) d1.now d2.now ends.now) result sheet.old sheet.new text.old text.new }
+    requires { InLimits units.now.d1.now units.now.d2.now units.now.ends.now }
+    ensures { TaskTold asked (reading_of (kind_number asked.kind) units.now.d1.now units.now.d2.now units.now.ends.now) result sheet.old sheet.new text.old text.new }
 {
-    if d1.len() <= 8192 {
-        return in_frame_of::<8192, 14368, 14336, 45056>(asked, d1, d2, ends, sheet, text);
+    if units.d1.len() <= 8192 {
+        return in_frame_of::<8192, 14368, 14336, 45056>(asked, units, sheet, text);
     }
-    in_frame_of::<32768, 51232, 49152, 65536>(asked, d1, d2, ends, sheet, text)
+    in_frame_of::<32768, 51232, 49152, 65536>(asked, units, sheet, text)
 }
 
 // A kind that carries declarations: a frame of 6 KB up to 256 units, as most classes have, of 26 KB up to 1,024. `in_longer` is called from two places,
@@ -135,27 +133,25 @@ fn in_longer(
 // It requires what `fault_of` has found of the input: refusals 1 to 4 are the entries' own.
 fn in_frame(
     asked: Asked,
-    d1: &[u16],
-    d2: &[u16],
-    ends: &[u32],
+    units: &Units<'_>,
     sheet: &mut [u8],
     text: &mut [u8],
 ) -> Result<Reply, Refusal>
-    requires { InLimits d1.now d2.now ends.now }
-    ensures { TaskTold asked (reading_of (kind_number asked.kind) d1.now d2.now ends.now) result sheet.old sheet.new text.old text.new }
+    requires { InLimits units.now.d1.now units.now.d2.now units.now.ends.now }
+    ensures { TaskTold asked (reading_of (kind_number asked.kind) units.now.d1.now units.now.d2.now units.now.ends.now) result sheet.old sheet.new text.old text.new }
 {
-    if d1.len() <= 256 {
-        return in_frame_of::<256, 560, 512, 1024>(asked, d1, d2, ends, sheet, text);
+    if units.d1.len() <= 256 {
+        return in_frame_of::<256, 560, 512, 1024>(asked, units, sheet, text);
     }
-    if d1.len() <= 1024 {
-        return in_frame_of::<1024, 2096, 2048, 6144>(asked, d1, d2, ends, sheet, text);
+    if units.d1.len() <= 1024 {
+        return in_frame_of::<1024, 2096, 2048, 6144>(asked, units, sheet, text);
     }
     match asked.task {
-        Task::Read => in_longer(asked, d1, d2, ends, sheet, text),
+        Task::Read => in_longer(asked, units, sheet, text),
         Task::Room => {
             let mut no_sheet = [0u8; 0];
             let mut no_text = [0u8; 0];
-            in_longer(asked, d1, d2, ends, &mut no_sheet, &mut no_text)
+            in_longer(asked, units, &mut no_sheet, &mut no_text)
         }
     }
 }
@@ -163,19 +159,17 @@ fn in_frame(
 // What the host has kept to, of a metadata kind.
 fn of_kind(
     asked: Asked,
-    d1: &[u16],
-    d2: &[u16],
-    ends: &[u32],
+    units: &Units<'_>,
     sheet: &mut [u8],
     text: &mut [u8],
 ) -> Result<Reply, Refusal>
-    requires { InLimits d1.now d2.now ends.now }
-    ensures { TaskTold asked (reading_by (kind_number asked.kind) d1.now d2.now ends.now) result sheet.old sheet.new text.old text.new }
+    requires { InLimits units.now.d1.now units.now.d2.now units.now.ends.now }
+    ensures { TaskTold asked (reading_by (kind_number asked.kind) units.now.d1.now units.now.d2.now units.now.ends.now) result sheet.old sheet.new text.old text.new }
 {
     if !asked.kind.carries_declarations() {
         return alone(asked, sheet, text);
     }
-    in_frame(asked, d1, d2, ends, sheet, text)
+    in_frame(asked, units, sheet, text)
 }
 
 // The reply for a task, whatever the input.
@@ -183,20 +177,18 @@ fn reply_to(
     task: Task,
     k: i32,
     version: [i32; 3],
-    d1: &[u16],
-    d2: &[u16],
-    ends: &[u32],
+    units: &Units<'_>,
     sheet: &mut [u8],
     text: &mut [u8],
 ) -> Result<Reply, Refusal>
-    ensures { TaskToldBy task (kind_of k) (reading (input k version d1.now d2.now ends.now)) result sheet.old sheet.new text.old text.new }
+    ensures { TaskToldBy task (kind_of k) (reading (input k version units.now.d1.now units.now.d2.now units.now.ends.now)) result sheet.old sheet.new text.old text.new }
 {
-    fault_of(d1, d2, ends, version)?;
+    fault_of(units, version)?;
     let asked = Asked {
         task,
         kind: kind_of(k),
     };
-    of_kind(asked, d1, d2, ends, sheet, text)
+    of_kind(asked, units, sheet, text)
 }
 
 // Reads the metadata of one class: k, mv, d1's units, d2's units and where its strings end; writes sheet and text into the two areas.
@@ -211,7 +203,8 @@ pub fn read(
 ) -> Answer
     ensures { (read sheet.old text.old (input k version d1.now d2.now ends.now) ≡ told_by result sheet.new text.new) × (result.version ≡ version) }
 {
-    let reply = reply_to(Task::Read, k, version, d1, d2, ends, sheet, text);
+    let units = Units { d1, d2, ends };
+    let reply = reply_to(Task::Read, k, version, &units, sheet, text);
     Answer {
         outcome: reply.map(|reply| reply.sizes),
         version,
@@ -229,7 +222,8 @@ pub fn measure(
 ) -> Result<Reply, Refusal>
     ensures { RoomTold (kind_of k) (reading (input k version d1.now d2.now ends.now)) result }
 {
+    let units = Units { d1, d2, ends };
     let mut sheet = [0u8; 0];
     let mut text = [0u8; 0];
-    reply_to(Task::Room, k, version, d1, d2, ends, &mut sheet, &mut text)
+    reply_to(Task::Room, k, version, &units, &mut sheet, &mut text)
 }

@@ -19,7 +19,9 @@ use Rattle.characters.proofs.LengthLaws.{AtMost, InBytes, width_most, bytes_cons
 use Rattle.foundation.proofs.EveryLaws.{every_all, all-at, some_map, some_weaken}
 use Rattle.names.specs.Records.{Record, predefined_strings, predefined_text, base_text, substituted, replace_of, dotted, dollars_dotted, operated, text_of}
 use Rattle.names.specs.Names.{Names, unwrapped, qualified_name}
-use Rattle.names.specs.told.Name.{turned, dropped}
+use Rattle.names.specs.told.Name.{operation_of, turned, dropped}
+use Rattle.names.specs.declared.name.Operation.{Operation}
+use Rattle.names.specs.declared.name.Operation.TheVariants.{Nothing, InternalToClassId, DescToClassId}
 use Rattle.names.proofs.StepLaws.{PartOf, unwrapped-part, dropped-part, operated-is, base_ind, text-keeps, qualified-keeps}
 
 -- A part is no longer than its text, in bytes too; a text keeps its length when a character is replaced, and gains no bytes if
@@ -67,15 +69,15 @@ unfolding replace_of
 replace_length n from to t h = if_ind (IfSome (AtMost n)) (is_scalar from && is_scalar to) (λ e. rw length-map h) λ e. tt
 
 -- an operation adds no bytes
-pub turned-bytes : (op : ℕ) (t : Text) → length (utf8 (turned op t)) ≤ length (utf8 t)
+pub turned-bytes : (op : Operation) (t : Text) → length (utf8 (turned op t)) ≤ length (utf8 t)
 unfolding turned
-turned-bytes op t =
-    let n = length (utf8 t) in
-    if_ind (InBytes n) (eqb op 1) (λ e. dotted-bytes t) λ e. if_ind (InBytes n) (eqb op 2) (λ e. dollars-bytes t) λ e. le_refl n
+turned-bytes Nothing t = le_refl (length (utf8 t))
+turned-bytes InternalToClassId t = dotted-bytes t
+turned-bytes DescToClassId t = dollars-bytes t
 
 operated-bytes : (op : ℕ) (t : Text) → length (utf8 (operated op t)) ≤ length (utf8 t)
 operated-bytes op t =
-    omega (arith, ap (λ (u : Text). length (utf8 u)) (operated-is op t), turned-bytes op (dropped op t), part_bytes t (dropped op t) (dropped-part op t))
+    omega (arith, ap (λ (u : Text). length (utf8 u)) (operated-is op t), turned-bytes (operation_of op) (dropped op t), part_bytes t (dropped op t) (dropped-part op t))
 
 pub text-bytes : (r : Record) → IfSome (InBytes (4 * base_length r)) (text_of r)
 text-bytes r =

@@ -3,24 +3,26 @@
 use mathlib.Core.Path.{◌≡◌, refl, ap, sym, ◌∙◌}
 use mathlib.Core.Bool.{Bool, true, false, ◌||◌}
 use mathlib.Core.List.{List, [], ◌∷◌, map}
-use mathlib.Core.Option.{Option, none, some}
-use Prim.Native.Nat.{ℕ, ◌-◌, ◌≤◌, ◌<◌}
+use Prim.Native.Nat.{ℕ, ◌-◌, ◌≤◌}
 use native.Mathlib.Omega.{arith}
-use borrow.Author.Tests.{ne_eqb, eqb-true}
 use lib.Dec.{eqb}
 use lib.ListN.{length, take, drop, length-drop}
 use lib.Seq.{take_all}
 use Rattle.std.specs.Prelude.{if◌then◌else◌}
 use Rattle.foundation.specs.Texts.{Text}
 use Rattle.foundation.proofs.ChoiceLaws.{if_ind}
+use Rattle.foundation.specs.declared.Span.{Span}
 use Rattle.characters.specs.Characters.{width, utf8, from_utf8, from_utf16}
 use Rattle.characters.specs.told.Places.{part_from}
 use Rattle.characters.specs.told.Plain.{instead, with_dots, slashed_character}
-use Rattle.characters.proofs.TestLaws.{below}
-use Rattle.names.specs.told.Name.{predefined_list, source_text, fitted, is_measured, sized, turned, stepped_by, name_text}
+use Rattle.names.specs.told.Name.{predefined_list, OfBytes, source_text, fitted, is_measured, sized, turned, stepped_by, named_text}
 use Rattle.names.specs.Records.{substituted, dotted, dollars_dotted}
-use Rattle.names.specs.told.Stream.{with_dollars, changed, change_of, slashed_text, base_of, changed_bytes, sized_bytes, source_bytes, name_bytes}
+use Rattle.names.specs.told.Stream.{with_dollars, turns_dollars, turns_both, changed, change_of, slashed_text, base_of, changed_bytes, sized_bytes, name_bytes}
 use Rattle.names.specs.declared.name.Name.{Name}
+use Rattle.names.specs.declared.name.Source.{Source}
+use Rattle.names.specs.declared.name.Source.TheVariants.{Payload, Predefined, D2}
+use Rattle.names.specs.declared.name.Operation.{Operation}
+use Rattle.names.specs.declared.name.Operation.TheVariants.{Nothing, InternalToClassId, DescToClassId}
 use Rattle.names.specs.declared.name.Change.{Change}
 use Rattle.names.proofs.FittedLaws.{sized-map}
 use Rattle.names.proofs.WidthLaws.{dollars-width, dots_width, slashes_width}
@@ -58,23 +60,20 @@ map_same [] = refl
 map_same (c ∷ t) = ap (λ (u : Text). c ∷ u) (map_same t)
 
 -- What a name's steps do to each character.
-stepped_cases : (t : Text) (one two qualified : Bool) → (one ≡ true → two ≡ false)
-    → let it = if one then dotted t else if two then dollars_dotted t else t in
-    (if qualified then dotted it else it) ≡ map (λ c. with_dots (one || qualified) (with_dollars two c)) t
-stepped_cases t true true q h =
-    let e = h refl in
-    let z : ◌≡◌ {A = ℕ} 0 1 = cc in
-    absurd (omega arith)
-stepped_cases t true false true h =
+stepped_cases : (t : Text) (op : Operation) (qualified : Bool)
+    → let it = turned op t in
+    (if qualified then dotted it else it) ≡ map (λ c. with_dots (turns_both op || qualified) (with_dollars (turns_dollars op) c)) t
+unfolding turned
+stepped_cases t InternalToClassId true =
     ap dotted (dotted-each t)
     ∙ dotted-each (map (with_dots true) t)
     ∙ map-map (with_dots true) (with_dots true) t
     ∙ map_each (λ c. with_dots true (with_dots true c)) (with_dots true) dots_once t
-stepped_cases t true false false h = dotted-each t
-stepped_cases t false true true h = dotted-each (dollars_dotted t) ∙ map-map (with_dots true) (instead 0x24 0x2e) t
-stepped_cases t false true false h = refl
-stepped_cases t false false true h = dotted-each t
-stepped_cases t false false false h = map_same t
+stepped_cases t InternalToClassId false = dotted-each t
+stepped_cases t DescToClassId true = dotted-each (dollars_dotted t) ∙ map-map (with_dots true) (instead 0x24 0x2e) t
+stepped_cases t DescToClassId false = refl
+stepped_cases t Nothing true = dotted-each t
+stepped_cases t Nothing false = map_same t
 
 zero-shown : (dollars dots slashes : Bool) → slashed_character slashes (with_dots dots (with_dollars dollars 0)) ≡ 0
 zero-shown true true true = refl
@@ -92,105 +91,55 @@ slashed-map false f t = refl
 
 pub stepped-is : (n : Name) (t : Text) (slashes : Bool)
     → slashed_text slashes (stepped_by n t) ≡ sized n.size (map (changed (change_of n slashes)) t)
-unfolding turned changed
+unfolding changed
 stepped-is n t slashes =
-    let op = n.operation in
-    let dollars = eqb op 2 in
-    let dots = eqb op 1 || n.qualified in
+    let dollars = turns_dollars n.operation in
+    let dots = turns_both n.operation || n.qualified in
     let u = sized n.size (substituted n.from n.to t) in
     let f : ℕ → ℕ = λ c. slashed_character slashes (with_dots dots (with_dollars dollars c)) in
-    let h : eqb op 1 ≡ true → eqb op 2 ≡ false = λ e. ne_eqb op 2 λ g. omega (arith, eqb-true op 1 e) in
     let w : (c : ℕ) → width (f c) ≡ width c = λ c.
     slashes_width slashes (with_dots dots (with_dollars dollars c)) ∙ dots_width dots (with_dollars dollars c) ∙ dollars-width dollars c in
-    ap (slashed_text slashes) (stepped_cases u (eqb op 1) (eqb op 2) n.qualified h)
+    ap (slashed_text slashes) (stepped_cases u n.operation n.qualified)
     ∙ slashed-map slashes (λ c. with_dots dots (with_dollars dollars c)) u
     ∙ sized-map f w (zero-shown dollars dots slashes) n.size (substituted n.from n.to t)
     ∙ ap (sized n.size) (map-map f (instead n.from n.to) t)
 
 -- What a name is made of, by its source.
-module _ (payload d2 : List ℕ) (n : Name) where
-  pub source-none : (n.source ≡ 1 → ⊥) → (n.source ≡ 2 → ⊥) → (n.source ≡ 3 → ⊥) → source_text payload d2 n ≡ none
-  unfolding source_text
-  source-none f g h = rw (ne_eqb n.source 1 f, ne_eqb n.source 2 g, ne_eqb n.source 3 h)
-
-  pub source-absent : n.source ≡ 0 → source_text payload d2 n ≡ none
-  source-absent e = source-none (λ f. omega arith) (λ f. omega arith) λ f. omega arith
-
-  pub source-past : 3 < n.source → source_text payload d2 n ≡ none
-  source-past e = source-none (λ f. omega arith) (λ f. omega arith) λ f. omega arith
-
-  pub source-units : n.source ≡ 3 → source_text payload d2 n ≡ some (from_utf16 (part_from n.start n.end d2))
-  unfolding source_text
-  source-units e = rw e
-
-  source-payload : n.source ≡ 1 → source_text payload d2 n ≡ some (from_utf8 (part_from n.start n.end (base_of n.source payload predefined_list)))
+module _ (payload d2 : List ℕ) (source : Source) (part : Span) where
+  pub source-payload : source ≡ Payload → source_text payload d2 source part ≡ from_utf8 (part_from part.start part.end payload)
   unfolding source_text
   source-payload e = rw e
 
-  source-list : n.source ≡ 2 → source_text payload d2 n ≡ some (from_utf8 (part_from n.start n.end (base_of n.source payload predefined_list)))
-  unfolding source_text
-  source-list e = rw e
-
-  pub source-bytes : 0 < n.source → n.source ≤ 3 → (n.source ≡ 3 → ⊥)
-      → source_text payload d2 n ≡ some (from_utf8 (part_from n.start n.end (base_of n.source payload predefined_list)))
-  source-bytes g h f =
-      below 2 n.source (λ l. let e : n.source ≡ 1 = omega arith in source-payload e) λ l.
-      below 3 n.source (λ m. let e : n.source ≡ 2 = omega arith in source-list e) λ m.
-      let e : n.source ≡ 3 = omega arith in
-      absurd (f e)
-
-  pub source-listed : n.source ≡ 2 → source_text payload d2 n ≡ some (from_utf8 (part_from n.start n.end predefined_list))
+  pub source-listed : source ≡ Predefined → source_text payload d2 source part ≡ from_utf8 (part_from part.start part.end predefined_list)
   unfolding source_text
   source-listed e = rw e
 
-  pub source-own : 0 < n.source → n.source ≤ 3 → (n.source ≡ 3 → ⊥) → (n.source ≡ 2 → ⊥)
-      → source_text payload d2 n ≡ some (from_utf8 (part_from n.start n.end payload))
-  source-own g h f k = source-bytes g h f ∙ rw (ne_eqb n.source 2 k)
+  pub source-units : source ≡ D2 → source_text payload d2 source part ≡ from_utf16 (part_from part.start part.end d2)
+  unfolding source_text
+  source-units e = rw e
 
-  pub source-there : 0 < n.source → n.source ≤ 3 → (t : Text) × (source_text payload d2 n ≡ some t)
-  source-there g h =
-      below 3 n.source (λ l. (_, source-bytes g h λ e. omega arith)) λ l.
-      let e : n.source ≡ 3 = omega arith in
-      (_, source-units e)
+-- of bytes: a part of the payload or of the list
+pub source-bytes : (payload d2 : List ℕ) (source : Source) (part : Span) → OfBytes source
+    → source_text payload d2 source part ≡ from_utf8 (part_from part.start part.end (base_of source payload predefined_list))
+unfolding source_text
+source-bytes payload d2 Payload part o = refl
+source-bytes payload d2 Predefined part o = refl
+source-bytes payload d2 D2 part o = absurd o
 
-  module _ (slashes : Bool) where
-    pub none-bytes : source_text payload d2 n ≡ none → name_bytes payload d2 n slashes ≡ []
-    unfolding name_bytes name_text
-    none-bytes e = rw e
-
-    pub absent-bytes : n.source ≡ 0 → name_bytes payload d2 n slashes ≡ []
-    absent-bytes e = none-bytes (source-absent e)
-
-    pub past_bytes : 3 < n.source → name_bytes payload d2 n slashes ≡ []
-    past_bytes e = none-bytes (source-past e)
-
-    pub some_bytes : (t : Text) → source_text payload d2 n ≡ some t
-        → name_bytes payload d2 n slashes ≡ source_bytes n.size (change_of n slashes) (source_text payload d2 n)
-    unfolding name_bytes name_text
-    some_bytes t e = rw e (ap utf8 (stepped-is n t slashes))
-
-    pub name-bytes : 0 < n.source → n.source ≤ 3
-        → name_bytes payload d2 n slashes ≡ source_bytes n.size (change_of n slashes) (source_text payload d2 n)
-    name-bytes g h =
-        let s = source-there g h in
-        some_bytes s.0 s.1
-
-    -- by the change that the code made
-    pub name-parts : {h : Change} → h ≡ change_of n slashes → 0 < n.source → n.source ≤ 3
-        → name_bytes payload d2 n slashes ≡ source_bytes n.size h (source_text payload d2 n)
-    name-parts e g i =
-        name-bytes g i
-        ∙ ap (λ (k : Change). source_bytes n.size k (source_text payload d2 n)) (sym e)
-
-pub source_some : (size : ℕ) (h : Change) {o : Option Text} {t : Text} → o ≡ some t → sized_bytes size h t ≡ source_bytes size h o
-source_some size h e = ap (source_bytes size h) (sym e)
+-- A name's bytes, by the change that the code made.
+pub name-parts : (payload d2 : List ℕ) (n : Name) (slashes : Bool) {h : Change} → h ≡ change_of n slashes
+    → name_bytes payload d2 n slashes ≡ sized_bytes n.size h (source_text payload d2 n.source n.part)
+unfolding name_bytes named_text
+name-parts payload d2 n slashes e =
+    ap utf8 (stepped-is n (source_text payload d2 n.source n.part) slashes)
+    ∙ ap (λ (k : Change). sized_bytes n.size k (source_text payload d2 n.source n.part)) (sym e)
 
 -- by whether a size is noted
-pub source_walked : (size : ℕ) (h : Change) {o : Option Text} {t : Text} → is_measured size ≡ false → o ≡ some t → changed_bytes h t ≡ source_bytes size h o
-source_walked size h {o} {t} m e =
-    ap (λ (b : Bool). utf8 (if b then fitted size (map (changed h) t) else map (changed h) t)) (sym m) ∙ source_some size h e
+module _ (size : ℕ) (h : Change) {o t : Text} (e : o ≡ t) where
+  pub sized_walked : is_measured size ≡ false → changed_bytes h t ≡ sized_bytes size h o
+  sized_walked m =
+      ap (λ (b : Bool). utf8 (if b then fitted size (map (changed h) t) else map (changed h) t)) (sym m) ∙ ap (sized_bytes size h) (sym e)
 
-pub source-fitted : (size : ℕ) (h : Change) {o : Option Text} {t : Text} → is_measured size ≡ true → o ≡ some t
-    → utf8 (fitted size (map (changed h) t)) ≡ source_bytes size h o
-source-fitted size h {o} {t} m e =
-    ap (λ (b : Bool). utf8 (if b then fitted size (map (changed h) t) else map (changed h) t)) (sym m) ∙ source_some size h e
+  pub sized-fitted : is_measured size ≡ true → utf8 (fitted size (map (changed h) t)) ≡ sized_bytes size h o
+  sized-fitted m =
+      ap (λ (b : Bool). utf8 (if b then fitted size (map (changed h) t) else map (changed h) t)) (sym m) ∙ ap (sized_bytes size h) (sym e)

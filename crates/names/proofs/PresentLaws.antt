@@ -2,48 +2,35 @@
 -- Assumes nothing.
 use mathlib.Core.Path.{◌≡◌, refl, ap, sym, ◌∙◌}
 use mathlib.Core.Bool.{Bool, true, false, ◌&&◌}
-use mathlib.Core.List.{List, []}
-use mathlib.Core.Option.{Option, none, some}
-use Prim.Native.Nat.{ℕ, ◌-◌, ◌*◌, ◌≤◌, ◌<◌}
+use mathlib.Core.List.{List}
+use Prim.Native.Nat.{ℕ, ◌-◌, ◌*◌, ◌≤◌}
 use native.Mathlib.Omega.{arith}
-use borrow.Author.Tests.{leb-true, leb-false}
+use borrow.Author.Tests.{leb-true}
 use lib.Dec.{eqb, leb}
 use lib.ListN.{length, drop, length-map, length-take, length-drop}
-use Rattle.std.specs.Prelude.{if◌then◌else◌}
-use Rattle.foundation.specs.Choices.{if_some, is_some, map_option, IfSome}
+use Rattle.std.specs.Prelude.{if◌then◌else◌, Some, None}
+use Rattle.std.specs.declared.option.Option as rust
+use Rattle.std.specs.Option as options
+use Rattle.foundation.specs.Choices.{is_some}
 use Rattle.foundation.specs.Texts.{Text}
 use Rattle.foundation.proofs.ChoiceLaws.{if_ind}
-use Rattle.characters.specs.Characters.{width, from_utf8, from_utf16, utf8}
+use Rattle.characters.specs.Characters.{width, from_utf8}
 use Rattle.characters.specs.told.Places.{part_from}
 use Rattle.characters.proofs.LengthLaws.{AtMost, InBytes, bytes_most, from_utf8-length, from_utf16-length}
 use Rattle.names.specs.Records.{substituted}
-use Rattle.names.specs.told.Name.{predefined_list, source_text, is_measured, sized, turned, stepped_by, name_text}
+use Rattle.names.specs.told.Name.{predefined_list, source_text, is_measured, sized, turned, stepped_by, named_text, name_text}
 use Rattle.names.specs.told.Stream.{slashed_text, name_bytes}
 use Rattle.names.specs.declared.name.Name.{Name}
+use Rattle.names.specs.declared.name.Source.{Source}
+use Rattle.names.specs.declared.name.Source.TheVariants.{Payload, Predefined, D2}
 use Rattle.names.proofs.LengthLaws.{substituted-bytes, dotted-bytes, turned-bytes}
 use Rattle.names.proofs.FittedLaws.{fitted-bytes}
-use Rattle.names.proofs.NameLaws.{source-none, source-there}
 use Rattle.names.proofs.AsciiLaws.{not_plain_lem as never}
 
-module _ (payload d2 : List ℕ) (n : Name) where
-  pub absent-name : n.source ≡ 0 → is_some (name_text payload d2 n) ≡ false
-  unfolding name_text
-  absent-name e = rw (source-none payload d2 n (λ f. omega arith) (λ f. omega arith) λ f. omega arith)
-
-  past-name : 3 < n.source → is_some (name_text payload d2 n) ≡ false
-  unfolding name_text
-  past-name h = rw (source-none payload d2 n (λ f. omega arith) (λ f. omega arith) λ f. omega arith)
-
-  some-name : 0 < n.source → n.source ≤ 3 → is_some (name_text payload d2 n) ≡ true
-  unfolding name_text
-  some-name g h = rw (source-there payload d2 n g h).1
-
-  pub present-name : (n.source ≡ 0 → ⊥) → is_some (name_text payload d2 n) ≡ leb n.source 3
-  present-name f = go (leb n.source 3) refl
-    where
-      go : (b : Bool) → leb n.source 3 ≡ b → is_some (name_text payload d2 n) ≡ b
-      go true e = some-name (omega arith) (leb-true n.source 3 e)
-      go false e = past-name (leb-false n.source 3 e)
+-- Is there a name?
+pub name-there : (payload d2 : List ℕ) (o : rust.Option Name) → is_some (name_text payload d2 o) ≡ options.is_some o
+name-there payload d2 None = refl
+name-there payload d2 (Some n) = refl
 
 -- A part has no more characters than what it is a part of.
 part_most : (start end k : ℕ) (s : List ℕ) → length s ≤ k → length (part_from start end s) ≤ k
@@ -63,19 +50,17 @@ measured_most size e = go (leb 1 size) refl (leb size 131072) refl
 
 -- A name of sources that are no longer than k takes at most four bytes for each.
 module _ (payload d2 : List ℕ) (n : Name) (k : ℕ) (f : length payload ≤ k) (g : length d2 ≤ k) (h : 32768 ≤ k) where
-  units-most : IfSome (AtMost k) (if eqb n.source 3 then some (from_utf16 (part_from n.start n.end d2)) else none)
-  units-most =
-      if_ind (IfSome (AtMost k)) (eqb n.source 3)
-      (λ e. omega (arith, from_utf16-length (part_from n.start n.end d2), part_most n.start n.end k d2 g)) λ e. tt
+  bytes_of : (s : List ℕ) → length s ≤ k → AtMost k (from_utf8 (part_from n.part.start n.part.end s))
+  bytes_of s l = omega (arith, from_utf8-length 0 (part_from n.part.start n.part.end s), part_most n.part.start n.part.end k s l)
 
-  bytes_of : (s : List ℕ) → length s ≤ k → AtMost k (from_utf8 (part_from n.start n.end s))
-  bytes_of s l = omega (arith, from_utf8-length 0 (part_from n.start n.end s), part_most n.start n.end k s l)
-
-  source-most : IfSome (AtMost k) (source_text payload d2 n)
+  source-most : AtMost k (source_text payload d2 n.source n.part)
   unfolding source_text
-  source-most =
-      if_ind (IfSome (AtMost k)) (eqb n.source 1) (λ e. bytes_of payload f) λ e.
-      if_ind (IfSome (AtMost k)) (eqb n.source 2) (λ e. bytes_of predefined_list (omega (arith, list_length))) λ e. units-most
+  source-most = go n.source
+    where
+      go : (source : Source) → AtMost k (source_text payload d2 source n.part)
+      go Payload = bytes_of payload f
+      go Predefined = bytes_of predefined_list (omega (arith, list_length))
+      go D2 = omega (arith, from_utf16-length (part_from n.part.start n.part.end d2), part_most n.part.start n.part.end k d2 g)
 
   sized-most : (t : Text) → InBytes (4 * k) t → InBytes (4 * k) (sized n.size t)
   sized-most t l =
@@ -96,9 +81,7 @@ module _ (payload d2 : List ℕ) (n : Name) (k : ℕ) (f : length payload ≤ k)
       if_ind (InBytes (4 * k)) slashes (λ e. omega (arith, substituted-bytes 0x2e 0x2f t refl)) λ e. l
 
   pub name-most : (slashes : Bool) → length (name_bytes payload d2 n slashes) ≤ 4 * k
-  unfolding name_bytes name_text
-  name-most slashes = go (source_text payload d2 n) source-most
-    where
-      go : (o : Option Text) → IfSome (AtMost k) o → length (if_some (map_option (stepped_by n) o) [] λ t. utf8 (slashed_text slashes t)) ≤ 4 * k
-      go none l = omega arith
-      go (some t) l = printed-most slashes (stepped_by n t) (stepped-most t l)
+  unfolding name_bytes named_text
+  name-most slashes =
+      let t = source_text payload d2 n.source n.part in
+      printed-most slashes (stepped_by n t) (stepped-most t source-most)

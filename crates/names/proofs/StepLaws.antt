@@ -20,7 +20,8 @@ use Rattle.characters.specs.Splits.{split_at, substring_of}
 use Rattle.characters.proofs.StepLaws.{Joins, split_joins}
 use Rattle.foundation.proofs.EveryLaws.{all-at, some_map, some_then, some_weaken}
 use Rattle.names.specs.Records.{Record, predefined_text, base_text, replace_of, dotted, dollars_dotted, all_but_last, without_ends, operated, stepped, text_of, decides}
-use Rattle.names.specs.told.Name.{turned, dropped}
+use Rattle.names.specs.told.Name.{operation_of, turned, dropped}
+use Rattle.names.specs.declared.name.Operation.TheVariants.{Nothing, InternalToClassId, DescToClassId}
 use Rattle.names.specs.Names.{Names, record_at, string, without_last, unwrapped, qualified_name, strings_from, d2_string}
 
 -- A text that stands in another.
@@ -80,14 +81,13 @@ pub dropped-part : (op : ℕ) (t : Text) → PartOf t (dropped op t)
 dropped-part op t = if_ind (PartOf t) (eqb op 2) (λ e. ends-part t) λ e. record { before = []; after = []; whole = append-nil t }
 
 -- An operation drops and then turns.
-pub operated-is : (op : ℕ) (t : Text) → operated op t ≡ turned op (dropped op t)
+pub operated-is : (op : ℕ) (t : Text) → operated op t ≡ turned (operation_of op) (dropped op t)
 unfolding operated turned
 operated-is op t = go (eqb op 1) refl (eqb op 2) refl
   where
     go : (a : Bool) → eqb op 1 ≡ a → (b : Bool) → eqb op 2 ≡ b
         → (if a then dotted t else if b then dollars_dotted (without_ends t) else t)
-        ≡ (let u = if b then without_ends t else t in
-        if a then dotted u else if b then dollars_dotted u else u)
+        ≡ turned (if a then InternalToClassId else if b then DescToClassId else Nothing) (if b then without_ends t else t)
     go true e true f = absurd (omega (arith, eqb-true op 1 e, eqb-true op 2 f))
     go true e false f = refl
     go false e true f = refl

@@ -1,59 +1,66 @@
 // A name, by the part that it is made of and what is done to its characters. What it means: specs/told/Name.antt, `name_text`.
-ghost use Rattle.std.specs.Prelude.{◌≡◌, ◌-◌, List, ℕ, take, drop};
-ghost use Rattle.foundation.specs.Choices.{is_some};
+ghost use Rattle.std.specs.Prelude.{◌≡◌, ◌-◌, take, drop};
 ghost use Rattle.characters.specs.told.Places.{part_from};
 ghost use Rattle.characters.specs.told.Plain.{instead, with_dots, slashed_character};
-ghost use Rattle.names.specs.told.Name.{name_text, absent_name};
+ghost use Rattle.names.specs.told.Name.{operation_of, operation_number};
 ghost use Rattle.names.specs.Records.{predefined_text};
 ghost use Rattle.names.specs.told.Stream.{listed_text, base_of, change_of, with_dollars, changed};
 
 use foundation::Span;
 
+// What the characters of a name are a part of: the payload, the predefined list, or d2.
+#[derive(Clone, Copy)]
+pub enum Source {
+    Payload,
+    Predefined,
+    D2,
+}
+
+// What a record's operation does to the characters of a name: nothing; / and $ become dots; $ alone does.
+#[derive(Clone, Copy)]
+pub enum Operation {
+    Nothing = 0,
+    InternalToClassId = 1,
+    DescToClassId = 2,
+}
+
+impl Operation {
+    // By its number in a record. One that is neither 1 nor 2 does nothing.
+    pub fn of(number: u64) -> Operation
+        ensures { result ≡ operation_of number }
+    {
+        match number {
+            1 => Operation::InternalToClassId,
+            2 => Operation::DescToClassId,
+            _ => Operation::Nothing,
+        }
+    }
+
+    pub fn number(self) -> u8
+        ensures { result ≡ operation_number self }
+    {
+        self as u8
+    }
+}
+
 #[derive(Clone, Copy)]
 pub struct Name {
-    // What the characters are a part of: 0 nothing, the name is absent; 1 the payload; 2 the predefined list; 3 d2.
-    pub source: u8,
-    pub start: usize,
-    pub end: usize,
+    pub source: Source,
+    // the part of it
+    pub part: Span,
     // Every character `from` becomes `to`. Both 0: none is replaced.
     pub from: u32,
     pub to: u32,
-    // What a record's operation does to the characters: 1 turns $ and / into dots, 2 turns $ alone. 0: nothing.
-    pub operation: u8,
+    pub operation: Operation,
     // A class name: / and $ become dots.
     pub qualified: bool,
-    // How many bytes of UTF-8 the characters take after `from` became `to`, where it is noted; 0: it is not.
+    // How many bytes of UTF-8 the characters take after `from` became `to`, where it is noted; 0: it is not. No Option: the notes pack it
+    // into a word with others.
     pub size: usize,
 }
 
-// Nothing, if the name is absent.
-pub fn absent() -> Name
-    ensures { result ≡ absent_name }
-{
-    Name {
-        source: 0,
-        start: 0,
-        end: 0,
-        from: 0,
-        to: 0,
-        operation: 0,
-        qualified: false,
-        size: 0,
-    }
-}
-
-// Does a name have a source? One that has none is absent.
-pub fn is_there(name: Name) -> bool
-    ensures { (payload d2 : List ℕ) → is_some (name_text payload d2 name) ≡ result }
-{
-    let source = name.source;
-    if source == 0 {
-        return false;
-    }
-    source <= 3
-}
-
-// The predefined strings one after the other.
+// The predefined strings one after the other. They are no array of texts, since a name is a part of its source: the two words that are noted
+// of a record have room for two places and none for the number of a string, and this list is written as it stands.
 pub const PREDEFINED: [u8; 878] =
     *b"kotlin/Anykotlin/Nothingkotlin/Unitkotlin/Throwablekotlin/Numberkotlin/Bytekotlin/Doublekotlin/Floatkotlin/Intkotlin/Longkotlin/Shortkotlin/Booleankotlin/Charkotlin/CharSequencekotlin/Stringkotlin/Comparablekotlin/Enumkotlin/Arraykotlin/ByteArraykotlin/DoubleArraykotlin/FloatArraykotlin/IntArraykotlin/LongArraykotlin/ShortArraykotlin/BooleanArraykotlin/CharArraykotlin/Cloneablekotlin/Annotationkotlin/collections/Iterablekotlin/collections/MutableIterablekotlin/collections/Collectionkotlin/collections/MutableCollectionkotlin/collections/Listkotlin/collections/MutableListkotlin/collections/Setkotlin/collections/MutableSetkotlin/collections/Mapkotlin/collections/MutableMapkotlin/collections/Map.Entrykotlin/collections/MutableMap.MutableEntrykotlin/collections/Iteratorkotlin/collections/MutableIteratorkotlin/collections/ListIteratorkotlin/collections/MutableListIterator";
 
@@ -79,10 +86,11 @@ pub fn predefined(index: u32) -> Option<Span>
     })
 }
 
-// The part of `s` from a place to another, as far as `s` goes.
-pub fn part_of<T>(s: &[T], start: usize, end: usize) -> &[T]
-    ensures { result.now ≡ take (end - start) (drop start s.now) }
+// A part of `s`, as far as `s` goes.
+pub fn part_of<T>(s: &[T], part: Span) -> &[T]
+    ensures { result.now ≡ take (part.end - part.start) (drop part.start s.now) }
 {
+    let Span { start, end } = part;
     if end <= start {
         return &s[0..0];
     }
@@ -99,16 +107,15 @@ pub fn part_of<T>(s: &[T], start: usize, end: usize) -> &[T]
 pub fn base_text<'p, 'l: 'p>(
     payload: &'p [u8],
     list: &'l [u8],
-    source: u8,
-    start: usize,
-    end: usize,
+    source: Source,
+    part: Span,
 ) -> &'p [u8]
-    ensures { result.now ≡ part_from start end (base_of source payload.now list.now) }
+    ensures { result.now ≡ part_from part.start part.end (base_of source payload.now list.now) }
 {
-    if source == 2 {
-        return part_of(list, start, end);
+    match source {
+        Source::Predefined => part_of(list, part),
+        _ => part_of(payload, part),
     }
-    part_of(payload, start, end)
 }
 
 // What is done to each character of a name, in this order.
@@ -130,8 +137,8 @@ pub fn change_of(name: Name, slashes: bool) -> Change
     Change {
         from: name.from,
         to: name.to,
-        dollars: name.operation == 2,
-        dots: name.operation == 1 || name.qualified,
+        dollars: matches!(name.operation, Operation::DescToClassId),
+        dots: matches!(name.operation, Operation::InternalToClassId) || name.qualified,
         slashes,
     }
 }

@@ -1,7 +1,8 @@
 // The records of the name table, read from their messages, and their index. The definitions: specs/Records.antt, specs/told/Index.antt; how
 // the answers tell them: specs/told/RecordTold.antt.
 ghost use Rattle.std.specs.Prelude.{◌≡◌, ℕ, ◌+◌, ◌*◌, ◌<◌, length, set};
-ghost use Rattle.foundation.specs.Results.{ok, ◌from◌};
+ghost use Rattle.foundation.specs.told.Located.{told_part};
+ghost use Rattle.foundation.specs.Results.{ok};
 ghost use Rattle.wire.specs.Wire.{cut, Message};
 ghost use Rattle.wire.specs.Messages.{varints};
 ghost use Rattle.messages.specs.told.Asked.{FoundTold, index_told};
@@ -15,9 +16,9 @@ use fields::{
     RECORD_OPERATION, RECORD_PREDEFINED_INDEX, RECORD_RANGE, RECORD_REPLACE_CHAR, RECORD_STRING,
     RECORD_SUBSTRING_INDEX, STRING_TABLE_TYPES_LOCAL_NAME, STRING_TABLE_TYPES_RECORD,
 };
-use foundation::Span;
+use foundation::{Located, Span};
 use messages::repeated::{Two, check_varints, first_two};
-use messages::{check, find_each, index, index_in, next_body, number_in, piece_in};
+use messages::{bodies_from, check, find_each, index, index_in, number_in, piece_in};
 use wire::{WireError, WireValue};
 
 // How many indices a record serves: range 0 counts as 1, and so does no range.
@@ -37,12 +38,12 @@ fn operation_in(found: Option<WireValue>) -> u64
 }
 
 // A step's two numbers. Errors in its values, or fewer than two of them, mean that the step isn't taken.
-fn two_in(s: &[u8], base: u32, number: u32, found: Option<WireValue>) -> Two
-    ensures { FoundTold base s.now number found → (m : Message) → cut (◌from◌ base s.now) ≡ ok m → two_of (varints number m) ≡ both_numbers result }
+fn two_in(message: Located<'_>, number: u32, found: Option<WireValue>) -> Two
+    ensures { FoundTold message.entry.base message.entry.bytes.now number found → (m : Message) → cut (told_part message.entry) ≡ ok m → two_of (varints number m) ≡ both_numbers result }
 {
     match found {
         None => Two::Neither,
-        Some(_) => first_two(s, base, number).unwrap_or(Two::Neither),
+        Some(_) => first_two(message, number).unwrap_or(Two::Neither),
     }
 }
 
@@ -59,12 +60,11 @@ pub struct Record {
 }
 
 // The record of a message that is cut: one walk finds the first occurrence of each of its fields.
-pub fn record_in(s: &[u8], base: u32) -> Record
-    ensures { RecordTold base s.now result }
+pub fn record_in(message: Located<'_>) -> Record
+    ensures { RecordTold message.entry.base message.entry.bytes.now result }
 {
     let [range, predefined, operation, substring, replaced, string] = find_each(
-        s,
-        base,
+        message,
         [
             RECORD_RANGE,
             RECORD_PREDEFINED_INDEX,
@@ -79,8 +79,8 @@ pub fn record_in(s: &[u8], base: u32) -> Record
         string: piece_in(string),
         predefined: index_in(predefined),
         operation: operation_in(operation),
-        substring: two_in(s, base, RECORD_SUBSTRING_INDEX, substring),
-        replaced: two_in(s, base, RECORD_REPLACE_CHAR, replaced),
+        substring: two_in(message, RECORD_SUBSTRING_INDEX, substring),
+        replaced: two_in(message, RECORD_REPLACE_CHAR, replaced),
     }
 }
 
@@ -131,38 +131,37 @@ fn note_records(bytes: &[u8], at: usize, notes: &mut [u64]) -> Result<usize, Ind
     let room = notes.len() / RECORD_WORDS;
     let mut total: u64 = 0;
     let mut count: usize = 0;
-    let mut i = at;
-    while i < bytes.len() {
-        let Some(record) = next_body(bytes, 0, STRING_TABLE_TYPES_RECORD, i) else {
-            return Ok(count);
+    let table = Located { base: 0, bytes };
+    for record in bodies_from(table, STRING_TABLE_TYPES_RECORD, at) {
+        let message = Located {
+            base: record.start,
+            bytes: &bytes[record.start..record.end],
         };
-        let message = &bytes[record.start..record.end];
-        let base = record.start as u32;
-        check(message, base)?;
+        check(message)?;
         if room <= count {
             return Err(IndexError::NoRoom);
         }
-        let range = served(index(message, base, RECORD_RANGE));
+        let range = served(index(message, RECORD_RANGE));
         total += range as u64;
-        put_entry(notes, count, base, record.end as u32, total);
+        put_entry(notes, count, record.start as u32, record.end as u32, total);
         count += 1;
-        i = record.end;
     }
     Ok(count)
 }
 
-// The index of a name table, and how many records it has: `bytes` are the decoded ones up to its end, and it begins at `at`. An error in the local names refuses after
-// all records are cut.
+// The index of a name table, and how many records it has: `bytes` are the decoded ones up to its end, and it begins at `at`. An error in the
+// local names refuses after all records are cut.
 pub fn index_records(bytes: &[u8], at: usize, notes: &mut [u64]) -> Result<usize, IndexError>
     ensures { (m : Message) → cut (rest_of 0 bytes.now at) ≡ ok m → IndexTold bytes.now at m notes.new result }
 {
     if bytes.len() < at {
         return Err(IndexError::NoRoom);
     }
-    if 4294967295 < at {
-        return Err(IndexError::NoRoom);
-    }
     let count = note_records(bytes, at, notes)?;
-    check_varints(&bytes[at..], at as u32, STRING_TABLE_TYPES_LOCAL_NAME)?;
+    let table = Located {
+        base: at,
+        bytes: &bytes[at..],
+    };
+    check_varints(table, STRING_TABLE_TYPES_LOCAL_NAME)?;
     Ok(count)
 }

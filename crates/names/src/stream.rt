@@ -4,11 +4,11 @@ ghost use Rattle.std.proofs.lemmas.List.Edits.{sets};
 ghost use Rattle.characters.specs.Characters.{from_utf8, utf8};
 ghost use Rattle.characters.specs.told.Places.{part_from};
 ghost use Rattle.names.specs.told.Name.{predefined_list, source_text, fitted, is_measured};
-ghost use Rattle.names.specs.told.Stream.{changed, changed_bytes, KeepsWidth, fitted_of, source_bytes, name_bytes, PutText, NoneReplaced};
+ghost use Rattle.names.specs.told.Stream.{changed, changed_bytes, KeepsWidth, fitted_of, sized_bytes, name_bytes, PutText, NoneReplaced};
 
 use crate::encoded::Encoded;
-use crate::name::{Change, Name, PREDEFINED, change_of, character_of, part_of};
-use foundation::Read;
+use crate::name::{Change, Name, PREDEFINED, Source, change_of, character_of, part_of};
+use foundation::{Context, Read, Span};
 
 // A text, each character changed, one by one. Answers the place after it.
 fn put_characters<E: Encoded>(text: E, change: Change, area: &mut [u8], at: usize) -> usize
@@ -79,11 +79,11 @@ fn put_text<E: Encoded>(text: E, change: Change, area: &mut [u8], at: usize) -> 
 }
 
 // A part of the predefined list. The list stands in no function that writes other names, since each call copies it.
-fn put_listed(start: usize, end: usize, change: Change, area: &mut [u8], at: usize) -> usize
-    requires { at + length (changed_bytes change (from_utf8 (part_from start end predefined_list))) < 2 ^ 64 }
-    ensures { PutText (changed_bytes change (from_utf8 (part_from start end predefined_list))) at result area.old area.new }
+fn put_listed(part: Span, change: Change, area: &mut [u8], at: usize) -> usize
+    requires { at + length (changed_bytes change (from_utf8 (part_from part.start part.end predefined_list))) < 2 ^ 64 }
+    ensures { PutText (changed_bytes change (from_utf8 (part_from part.start part.end predefined_list))) at result area.old area.new }
 {
-    put_text(part_of(&PREDEFINED, start, end), change, area, at)
+    put_text(part_of(&PREDEFINED, part), change, area, at)
 }
 
 // What is written next of a text whose size is noted, and where it goes on.
@@ -151,49 +151,29 @@ fn put_measured<E: Encoded>(text: E, change: Change, size: usize, area: &mut [u8
 }
 
 // A measured part of the predefined list.
-fn put_measured_list(
-    start: usize,
-    end: usize,
-    change: Change,
-    size: usize,
-    area: &mut [u8],
-    at: usize,
-)
+fn put_measured_list(part: Span, change: Change, size: usize, area: &mut [u8], at: usize)
     requires { at + size < 2 ^ 64 }
-    ensures { area.new ≡ sets area.old at (utf8 (fitted size (map (changed change) (from_utf8 (part_from start end predefined_list))))) }
+    ensures { area.new ≡ sets area.old at (utf8 (fitted size (map (changed change) (from_utf8 (part_from part.start part.end predefined_list))))) }
 {
-    put_measured(part_of(&PREDEFINED, start, end), change, size, area, at);
+    put_measured(part_of(&PREDEFINED, part), change, size, area, at);
 }
 
 // The characters of a name's source, changed, where their size is noted. Where there is room for none, nothing is walked.
-fn put_noted(
-    payload: &[u8],
-    d2: &[u16],
-    name: Name,
-    change: Change,
-    area: &mut [u8],
-    at: usize,
-) -> usize
-    requires { (0 < name.source) × (name.source ≤ 3) × (is_measured name.size ≡ true) × (at + name.size < 2 ^ 64) }
-    ensures { PutText (source_bytes name.size change (source_text payload.now d2.now name)) at result area.old area.new }
+fn put_noted(context: &Context<'_>, name: Name, change: Change, area: &mut [u8], at: usize) -> usize
+    requires { (is_measured name.size ≡ true) × (at + name.size < 2 ^ 64) }
+    ensures { PutText (sized_bytes name.size change (source_text context.now.payload.now context.now.d2.now name.source name.part)) at result area.old area.new }
 {
-    let source = name.source;
-    let start = name.start;
-    let end = name.end;
+    let part = name.part;
     let size = name.size;
     let next = at + size;
     if area.len() <= at {
         return next;
     }
-    if source == 3 {
-        put_measured(part_of(d2, start, end), change, size, area, at);
-        return next;
+    match name.source {
+        Source::Payload => put_measured(part_of(context.payload, part), change, size, area, at),
+        Source::Predefined => put_measured_list(part, change, size, area, at),
+        Source::D2 => put_measured(part_of(context.d2, part), change, size, area, at),
     }
-    if source == 2 {
-        put_measured_list(start, end, change, size, area, at);
-        return next;
-    }
-    put_measured(part_of(payload, start, end), change, size, area, at);
     next
 }
 
@@ -205,66 +185,38 @@ fn is_measured(size: usize) -> bool
 
 // The characters of a name's source, changed, walked.
 fn put_walked(
-    payload: &[u8],
-    d2: &[u16],
+    context: &Context<'_>,
     name: Name,
     change: Change,
     area: &mut [u8],
     at: usize,
 ) -> usize
-    requires { (0 < name.source) × (name.source ≤ 3) × (is_measured name.size ≡ false) × (at + length (source_bytes name.size change (source_text payload.now d2.now name)) < 2 ^ 64) }
-    ensures { PutText (source_bytes name.size change (source_text payload.now d2.now name)) at result area.old area.new }
+    requires { (is_measured name.size ≡ false) × (at + length (sized_bytes name.size change (source_text context.now.payload.now context.now.d2.now name.source name.part)) < 2 ^ 64) }
+    ensures { PutText (sized_bytes name.size change (source_text context.now.payload.now context.now.d2.now name.source name.part)) at result area.old area.new }
 {
-    let source = name.source;
-    let start = name.start;
-    let end = name.end;
-    if source == 3 {
-        return put_text(part_of(d2, start, end), change, area, at);
+    let part = name.part;
+    match name.source {
+        Source::Payload => put_text(part_of(context.payload, part), change, area, at),
+        Source::Predefined => put_listed(part, change, area, at),
+        Source::D2 => put_text(part_of(context.d2, part), change, area, at),
     }
-    if source == 2 {
-        return put_listed(start, end, change, area, at);
-    }
-    put_text(part_of(payload, start, end), change, area, at)
 }
 
-// The characters of a name's source, changed.
-fn put_source(
-    payload: &[u8],
-    d2: &[u16],
-    name: Name,
-    change: Change,
-    area: &mut [u8],
-    at: usize,
-) -> usize
-    requires { (0 < name.source) × (name.source ≤ 3) × (at + length (source_bytes name.size change (source_text payload.now d2.now name)) < 2 ^ 64) }
-    ensures { PutText (source_bytes name.size change (source_text payload.now d2.now name)) at result area.old area.new }
-{
-    if is_measured(name.size) {
-        return put_noted(payload, d2, name, change, area, at);
-    }
-    put_walked(payload, d2, name, change, area, at)
-}
-
-// A name's text in UTF-8, as far as the area goes; an absent one has none. Answers the place after it.
+// A name's text in UTF-8, as far as the area goes. Answers the place after it.
 // Callers show that this place fits 64 bits: by the limits of payload and d2, and of the place where they write.
 pub fn put_name(
-    payload: &[u8],
-    d2: &[u16],
+    context: &Context<'_>,
     name: Name,
     slashes: bool,
     area: &mut [u8],
     at: usize,
 ) -> usize
-    requires { at + length (name_bytes payload.now d2.now name slashes) < 2 ^ 64 }
-    ensures { PutText (name_bytes payload.now d2.now name slashes) at result area.old area.new }
+    requires { at + length (name_bytes context.now.payload.now context.now.d2.now name slashes) < 2 ^ 64 }
+    ensures { PutText (name_bytes context.now.payload.now context.now.d2.now name slashes) at result area.old area.new }
 {
-    let source = name.source;
-    if source == 0 {
-        return at;
-    }
-    if 3 < source {
-        return at;
-    }
     let change = change_of(name, slashes);
-    put_source(payload, d2, name, change, area, at)
+    if is_measured(name.size) {
+        return put_noted(context, name, change, area, at);
+    }
+    put_walked(context, name, change, area, at)
 }

@@ -4,8 +4,9 @@
 
 ghost use Rattle.std.specs.Prelude.{◌≤◌, ◌<◌, length, IfOk};
 
+use foundation::{Context, Located, Tables};
 use names::encoded::Encoded;
-use names::name::{Change, Name, PREDEFINED, part_of};
+use names::name::{Change, Name, PREDEFINED, Source, part_of};
 use std::io;
 use std::io::Read;
 
@@ -81,19 +82,18 @@ fn print_text<E: Encoded>(rt: &impl Print, text: E, change: Change) -> io::Resul
     Ok(())
 }
 
-fn print_name(rt: &impl Print, payload: &[u8], units: &[u16], name: Name) -> io::Result<()> {
-    let source = name.source;
-    let start = name.start;
-    let end = name.end;
-    if source == 0 {
+fn print_name(rt: &impl Print, context: &Context<'_>, name: Option<Name>) -> io::Result<()> {
+    let Some(name) = name else {
         return print!(rt; "absent");
-    }
+    };
     let change = names::name::change_of(name, false);
-    if source == 3 {
-        return print_text(rt, part_of(units, start, end), change);
+    match name.source {
+        Source::D2 => print_text(rt, part_of(context.d2, name.part), change),
+        source => {
+            let s = names::name::base_text(context.payload, &PREDEFINED, source, name.part);
+            print_text(rt, s, change)
+        }
     }
-    let s = names::name::base_text(payload, &PREDEFINED, source, start, end);
-    print_text(rt, s, change)
 }
 
 fn look_up(
@@ -104,7 +104,11 @@ fn look_up(
     index: u32,
     kind: u8,
 ) -> io::Result<()> {
-    if messages::check(table, 0).is_err() {
+    let whole = Located {
+        base: 0,
+        bytes: table,
+    };
+    if messages::check(whole).is_err() {
         return print!(rt; "refused");
     }
     let mut notes = [0u64; 48];
@@ -112,12 +116,23 @@ fn look_up(
         return print!(rt; "refused");
     };
     lookup::resolve::resolve(table, &mut notes, count);
-    if kind == b'q' {
-        let name = lookup::qualified::qualified_name(table, &notes, count, units, ends, index);
-        return print_name(rt, table, units, name);
-    }
-    let name = lookup::string(table, &notes, count, ends, index);
-    print_name(rt, table, units, name)
+    let context = Context {
+        payload: table,
+        d2: units,
+        ends,
+        notes: &notes,
+        tables: Tables {
+            records: count,
+            types: 0,
+            first_nullable: None,
+        },
+    };
+    let name = if kind == b'q' {
+        lookup::qualified::qualified_name(&context, index)
+    } else {
+        lookup::string(&context, index)
+    };
+    print_name(rt, &context, name)
 }
 
 fn byte_at(s: &[u8], at: usize) -> u8 {

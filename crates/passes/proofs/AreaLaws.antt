@@ -24,12 +24,11 @@ use Rattle.schema.specs.told.TypeSizes.{declarations_size}
 use Rattle.declaration_rows.specs.Declarations.{Declarations}
 use Rattle.schema.specs.Reading.{Scope, scope, allowance}
 use Rattle.schema.specs.Members.{after_table}
-use Rattle.schema.specs.told.SchemaTold.{lent, Scoped, stop_refused}
+use Rattle.schema.specs.told.SchemaTold.{Lent, Scoped, stop_refused}
 use Rattle.schema.specs.told.MembersTold.{Affords}
-use Rattle.schema.specs.declared.Tables.{Tables}
 use Rattle.schema.specs.declared.Stop.{Stop}
 use Rattle.schema.proofs.TypeCount.{body_enters}
-use Rattle.declarations.specs.Payload.{body_of, payload, declaration_rows}
+use Rattle.declarations.specs.Payload.{body_of, declaration_rows}
 use Rattle.declarations.specs.told.PayloadTold.{OpenedAt, LentAt}
 use Rattle.declarations.specs.told.BodyTold.{body_cost, BodyTold, BodyWalked}
 use Rattle.declarations.specs.declared.body.Sections.{Sections}
@@ -39,51 +38,61 @@ use Rattle.inputs.specs.told.OutcomesTold.{told}
 use Rattle.inputs.specs.declared.outcome.Refusal.TheVariants as refusal
 use Rattle.passes.specs.told.TaskTold.{sizes_at}
 use Rattle.passes.specs.Answered.{text_limit, sheet_written, written, answered}
-use Rattle.passes.specs.told.AreaTold.{strings, InLimits, start, last_of, MeasuredAt, WrittenOut}
-use Rattle.passes.specs.declared.Measured.{Measured}
+use Rattle.passes.specs.told.AreaTold.{strings, Limited, lent_reading, start, last_of, MeasuredAt, WrittenOut}
 
 -- The body, as it is lent.
-pub start_affords : (bytes d2 ends : List ℕ) (at : ℕ) {s : State} → InLimits bytes d2 ends → s ≡ start
-    → Affords bytes d2 (body_cost (length (part_from at (length bytes) bytes))) s
-start_affords bytes d2 ends at k e =
+pub start_affords : (e : Lent) (at : ℕ) {s : State} → Limited e → s ≡ start → Affords e (body_cost (length (part_from at (length e.payload) e.payload))) s
+start_affords e at k q =
     let l = k.bytes-short in
-    let short = part-short bytes at (length bytes) in
-    subst (Affords bytes d2 (body_cost (length (part_from at (length bytes) bytes)))) (sym e)
+    let short = part-short e.payload at (length e.payload) in
+    subst (Affords e (body_cost (length (part_from at (length e.payload) e.payload)))) (sym q)
     (record { payload-short = k.bytes-short; d2-short = k.d2-short; types = omega arith; room = omega arith })
 
 -- What is lent is the scope's, and what a body gives is what the bytes do.
-module _ (kind : ℕ) (bytes d2 ends notes : List ℕ) (at : ℕ) (tables : Tables) (lent_at : LentAt bytes d2 ends notes at tables) where
-  abbrev o : OpenedAt bytes notes at tables
+module _ (kind : ℕ) (e : Lent) (at : ℕ) (lent_at : LentAt e at) where
+  abbrev o : OpenedAt e.payload e.notes at e.tables
   o = lent_at.opened
 
   abbrev named : Names
-  named = record { records = o.records; d2 = strings d2 ends }
+  named = record { records = o.records; d2 = strings e.d2 e.ends }
 
   abbrev scoped-by : Scope
   scoped-by = scope named o.is.table
 
-  scoped : InLimits bytes d2 ends → Scoped (lent bytes d2 ends notes tables) scoped-by
+  scoped : Limited e → Scoped e scoped-by
   scoped k = record {
     names = record { strings = refl; fit = k.fit; sizes = lent_at.sizes k.fit; records = o.names };
     entries = o.is.noted;
     nullable = o.is.nullable;
   }
 
-  by-body : payload kind (strings d2 ends) bytes ≡ body_of kind named o.is.body allowance
-  by-body = o.opens kind (strings d2 ends) ∙ rw o.is.cuts
+  by-body : lent_reading kind e ≡ body_of kind named o.is.body allowance
+  by-body = o.opens kind (strings e.d2 e.ends) ∙ rw o.is.cuts
 
-  by-table : payload kind (strings d2 ends) bytes ≡ after_table (eqb kind 1) scoped-by o.is.body allowance
+  by-table : lent_reading kind e ≡ after_table (eqb kind 1) scoped-by o.is.body allowance
   by-table = by-body ∙ body-after kind named o.is.body allowance (o.is.reads allowance)
 
-  -- the walk of a body from the start
-  pub from_start : InLimits bytes d2 ends → {s : State} → s ≡ start → (r : Result Sections Stop) (S S' T T' : List ℕ)
-      → BodyWalked kind (lent bytes d2 ends notes tables) (part_from at (length bytes) bytes) at s r S S' T T'
-      → BodyTold kind (payload kind (strings d2 ends) bytes) start r S S' T T'
-  from_start k e r S S' T T' t =
-      let cuts = ap (λ (bs : List ℕ). cut (◌from◌ at bs)) (rest-is bytes at) ∙ o.is.cuts in
-      subst (λ (x : Res (Declarations × ℕ)). BodyTold kind x start r S S' T T') (sym by-table)
-      (subst (λ (x : State). BodyTold kind (after_table (eqb kind 1) scoped-by o.is.body x.types) x r S S' T T') e
-      (t scoped-by (scoped k) o.is.body cuts))
+  -- the walk of a body from the start, and both areas as they come back from the Output that they were lent to
+  pub from_start : Limited e → {s : State} → s ≡ start → (r : Result Sections Stop) (S S₁ T T₁ : List ℕ) {S' T' : List ℕ} → S' ≡ S₁ → T' ≡ T₁
+      → BodyWalked kind e (part_from at (length e.payload) e.payload) at s r S S₁ T T₁
+      → BodyTold kind (lent_reading kind e) start r S S' T T'
+  from_start k q r S S₁ T T₁ {S'} {T'} i j t =
+      let cuts = ap (λ (bs : List ℕ). cut (◌from◌ at bs)) (rest-is e.payload at) ∙ o.is.cuts in
+      let walked : BodyTold kind (after_table (eqb kind 1) scoped-by o.is.body allowance) start r S S₁ T T₁ =
+      subst (λ (x : State). BodyTold kind (after_table (eqb kind 1) scoped-by o.is.body x.types) x r S S₁ T T₁) q
+      (t scoped-by (scoped k) o.is.body cuts) in
+      subst (λ (x : Res (Declarations × ℕ)). BodyTold kind x start r S S' T T') (sym by-table) (rw (i, j) walked)
+
+  pub measured-is : {b : Sections} {S S' T T' : List ℕ} → BodyTold kind (lent_reading kind e) start (Ok b) S S' T T' → MeasuredAt kind e at b S' T'
+  measured-is {b} {S} {S'} {T} {T'} t = record {
+    lent = lent_at;
+    declarations = t.0;
+    left = t.1;
+    reads = t.2;
+    S₀ = S;
+    T₀ = T;
+    written = t.3;
+  }
 
 -- Types are never entered twice.
 left-within : (kind : ℕ) (names : Names) (m : Message) {d : Declarations} {left : ℕ} → body_of kind names m allowance ≡ ok (d, left) → left ≤ allowance
@@ -93,15 +102,15 @@ left-within kind names m {d} {left} e =
     omega arith
 
 -- Of what is measured: both lengths, the types, and what the areas are to hold.
-module _ (kind : ℕ) (bytes d2 ends notes : List ℕ) (x : Measured) (SS TT : List ℕ) (m : MeasuredAt kind bytes d2 ends notes x SS TT) where
+module _ (kind : ℕ) (e : Lent) (at : ℕ) (b : Sections) (SS TT : List ℕ) (m : MeasuredAt kind e at b SS TT) where
   abbrev end : State
-  end = last_of x
+  end = last_of b
 
   abbrev rows : List Row
   rows = declaration_rows kind m.declarations
 
   abbrev bytes_read : Res (Declarations × ℕ)
-  bytes_read = payload kind (strings d2 ends) bytes
+  bytes_read = lent_reading kind e
 
   pub size_is : end.sheet ≡ length (sheet_from 0 rows)
   size_is = put-sheet m.written.put ∙ zero-add (length (sheet_from 0 rows))
@@ -114,8 +123,8 @@ module _ (kind : ℕ) (bytes d2 ends notes : List ℕ) (x : Measured) (SS TT : L
 
   pub types-left : end.types ≤ 2048
   types-left =
-      let e = sym (by-body kind bytes d2 ends notes x.at x.tables m.lent) ∙ m.reads in
-      omega (arith, left_is, left-within kind _ m.lent.opened.is.body e)
+      let f = sym (by-body kind e at m.lent) ∙ m.reads in
+      omega (arith, left_is, left-within kind _ m.lent.opened.is.body f)
 
   module _ (S T : List ℕ) where
     by_rows : answered S T kind bytes_read ≡ written S T rows (allowance - m.left)

@@ -1,4 +1,4 @@
--- The two passes over d1: decoded, opened, measured, answered.
+-- The two passes over d1: decoded, opened, answered.
 -- Assumes nothing.
 use mathlib.Core.Path.{◌≡◌, refl, ap, sym, subst, ◌∙◌}
 use mathlib.Core.List.{List}
@@ -20,6 +20,7 @@ use Rattle.encoding.proofs.EncodingLaws.{decoded-length}
 use Rattle.declarations.specs.Payload.{payload}
 use Rattle.declarations.specs.told.PayloadTold.{LentRoom, LentTold}
 use Rattle.std.proofs.Common.{Result, Ok, Err}
+use Rattle.schema.specs.declared.Stop.TheVariants as stop
 use Rattle.names.specs.declared.records.IndexError.{IndexError}
 use Rattle.names.specs.declared.records.IndexError.TheVariants as index
 use Rattle.inputs.specs.told.OutcomesTold.{refusal_cause, refusal_place}
@@ -28,7 +29,7 @@ use Rattle.inputs.specs.declared.outcome.Refusal.{Refusal}
 use Rattle.inputs.specs.declared.outcome.Refusal.TheVariants as why
 use Rattle.passes.specs.told.AreaTold.{strings, InLimits}
 use Rattle.passes.specs.told.TaskTold.{TaskTold}
-use Rattle.passes.specs.told.PassTold.{of_index, of_decode, FirstTold, PassedTold, FrameRoom, reading_of}
+use Rattle.passes.specs.told.PassTold.{of_index, of_decode, PassedTold, FrameRoom, reading_of}
 use Rattle.passes.specs.declared.Asked.{Asked}
 use Rattle.passes.specs.declared.Reply.{Reply}
 use Rattle.passes.specs.declared.PassError.{PassError}
@@ -87,13 +88,8 @@ module _ (asked : Asked) (d1 d2 ends before after : List ℕ) (answer : Decoded)
       rw f ((λ room. told-room d1 before after answer t (omega (arith, room.bytes-long)) g), refl, refl)
 
 -- Where the bytes are not opened.
-pub opened-stops : (bytes d2 ends notes : List ℕ) (error : IndexError) → LentTold bytes d2 ends notes (Err error) → (e : PassError) → e ≡ of_index error
-    → (kind : ℕ) (S T : List ℕ) → FirstTold kind bytes d2 ends notes (Err e) S T
-opened-stops bytes d2 ends notes index.NoRoom t e f kind S T = rw f t
-opened-stops bytes d2 ends notes (index.Wire error) t e f kind S T = rw f (t kind (strings d2 ends))
-
--- Where the first pass stops.
-pub first-stops : (asked : Asked) (bytes d2 ends notes : List ℕ) (e : PassError) (SS TT : List ℕ) → FirstTold (kind_number asked.kind) bytes d2 ends notes (Err e) SS TT
+pub opened-stops : (asked : Asked) (bytes d2 ends notes : List ℕ) (error : IndexError) → LentTold bytes d2 ends notes (Err error) → (e : PassError) → e ≡ of_index error
     → (S T : List ℕ) → PassedTold asked (payload (kind_number asked.kind) (strings d2 ends) bytes) (LentRoom bytes notes) (Err e) S S T T
-first-stops asked bytes d2 ends notes (first.Refused refusal) SS TT t S T = reply_refused asked.task (kind_number asked.kind) _ refusal S T t
-first-stops asked bytes d2 ends notes first.NoRoom SS TT t S T = (t, refl, refl)
+opened-stops asked bytes d2 ends notes index.NoRoom t e f S T = rw f (t, refl, refl)
+opened-stops asked bytes d2 ends notes (index.Wire error) t e f S T =
+    rw f (reply_refused asked.task (kind_number asked.kind) _ (why.Stop (stop.Wire error)) S T (t (kind_number asked.kind) (strings d2 ends)))

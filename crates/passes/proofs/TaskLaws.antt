@@ -8,16 +8,15 @@ use Rattle.inputs.specs.told.KindTold.{kind_number}
 use Rattle.foundation.specs.Results.{Res, refused}
 use Rattle.sheet.specs.declared.State.{State}
 use Rattle.declaration_rows.specs.Declarations.{Declarations}
+use Rattle.schema.specs.told.SchemaTold.{Lent}
 use Rattle.std.specs.Prelude.{Result, Ok, Err}
 use Rattle.inputs.specs.told.OutcomesTold.{refusal_cause, refusal_place, told}
 use Rattle.inputs.specs.declared.outcome.Sizes.{Sizes}
 use Rattle.inputs.specs.declared.outcome.Refusal.{Refusal}
-use Rattle.declarations.specs.Payload.{payload}
 use Rattle.declarations.specs.declared.body.Sections.{Sections}
 use Rattle.passes.specs.Answered.{answered}
-use Rattle.passes.specs.told.AreaTold.{strings, start, last_of, MeasuredAt}
+use Rattle.passes.specs.told.AreaTold.{lent_reading, start, last_of, MeasuredAt}
 use Rattle.passes.specs.told.TaskTold.{no_lists, sizes_at, sizes_of, RoomTold, TaskToldBy, TaskTold}
-use Rattle.passes.specs.declared.Measured.{Measured}
 use Rattle.passes.specs.declared.Task.{Task}
 use Rattle.passes.specs.declared.Task.TheVariants as task
 use Rattle.passes.specs.declared.Asked.{Asked}
@@ -57,15 +56,15 @@ pub reply_room : (asked : Asked) (x : Res (Declarations × ℕ)) (S T : List ℕ
 reply_room asked x S T r e h = subst (λ (t : Task). TaskToldBy t (kind_number asked.kind) x r S S T T) (sym e) (h, refl, refl)
 
 -- What was measured, told.
-pub measured_room : (kind : ℕ) (bytes d2 ends notes : List ℕ) (x : Measured) (SS TT : List ℕ) → MeasuredAt kind bytes d2 ends notes x SS TT → (r : Reply)
-    → r.sizes ≡ sizes_at (last_of x)
-    → r.sections ≡ x.sections → RoomTold kind (payload kind (strings d2 ends) bytes) (Ok r)
-measured_room kind bytes d2 ends notes x SS TT m r e f =
+pub measured_room : (kind : ℕ) (e : Lent) (at : ℕ) (b : Sections) (SS TT : List ℕ) → MeasuredAt kind e at b SS TT → (r : Reply)
+    → r.sizes ≡ sizes_at (last_of b)
+    → r.sections ≡ b → RoomTold kind (lent_reading kind e) (Ok r)
+measured_room kind e at b SS TT m r p f =
     subst (λ (y : Res (Declarations × ℕ)). RoomTold kind y (Ok r)) (sym m.reads) (
       r,
       refl,
       record {
-        sizes = e ∙ rw (size_is kind bytes d2 ends notes x SS TT m, length-is kind bytes d2 ends notes x SS TT m, left_is kind bytes d2 ends notes x SS TT m);
+        sizes = p ∙ rw (size_is kind e at b SS TT m, length-is kind e at b SS TT m, left_is kind e at b SS TT m);
         head_text = rw f (omega (arith, m.written.head_end.text));
         constructors_text = rw f (omega (arith, m.written.constructors_end.text));
         functions_text = rw f (omega (arith, m.written.functions_end.text));

@@ -3,11 +3,12 @@
 ghost use Rattle.std.specs.Prelude.{◌≡◌, ◌≤◌, length};
 ghost use Rattle.inputs.specs.told.OutcomesTold.{told};
 ghost use Rattle.inputs.specs.told.KindTold.{kind_number};
-ghost use Rattle.declarations.specs.Payload.{payload};
+ghost use Rattle.schema.specs.told.SchemaTold.{lent};
 ghost use Rattle.passes.specs.Answered.{answered};
-ghost use Rattle.passes.specs.told.AreaTold.{strings, InLimits, last_of, MeasuredAt, WrittenOut};
+ghost use Rattle.passes.specs.told.AreaTold.{Limited, lent_reading, last_of, MeasuredAt, WrittenOut};
 
 use crate::{Measured, sizes_at, walk};
+use foundation::Context;
 use inputs::Kind;
 use inputs::outcome::{Refusal, Sizes};
 use sheet::put_all;
@@ -18,55 +19,35 @@ const TEXT_LIMIT: usize = 65534;
 // What was measured fits both areas: copied from the scratch areas if these hold the whole, else walked again.
 fn write_out(
     kind: Kind,
-    measured: Measured,
-    bytes: &[u8],
-    d2: &[u16],
-    ends: &[u32],
-    notes: &[u64],
-    scratch_sheet: &[u8],
-    scratch_text: &[u8],
+    measured: Measured<'_>,
+    context: &Context<'_>,
     sheet: &mut [u8],
     text: &mut [u8],
 )
-    requires { InLimits bytes.now d2.now ends.now × ((last_of measured).sheet ≤ length sheet.old) × ((last_of measured).text ≤ length text.old) × MeasuredAt (kind_number kind) bytes.now d2.now ends.now notes.now measured scratch_sheet.now scratch_text.now }
-    ensures { WrittenOut (kind_number kind) (payload (kind_number kind) (strings d2.now ends.now) bytes.now) sheet.old sheet.new text.old text.new }
+    requires { Limited (lent context.now) × ((last_of measured.sections).sheet ≤ length sheet.old) × ((last_of measured.sections).text ≤ length text.old) × MeasuredAt (kind_number kind) (lent context.now) measured.at measured.sections measured.sheet.now measured.text.now }
+    ensures { WrittenOut (kind_number kind) (lent_reading (kind_number kind) (lent context.now)) sheet.old sheet.new text.old text.new }
 {
     let end = measured.sections.aliases.state;
     let size = end.sheet;
     let length = end.text;
-    if size <= scratch_sheet.len() && length <= scratch_text.len() {
-        put_all(sheet, 0, &scratch_sheet[..size]);
-        put_all(text, 0, &scratch_text[..length]);
+    if size <= measured.sheet.len() && length <= measured.text.len() {
+        put_all(sheet, 0, &measured.sheet[..size]);
+        put_all(text, 0, &measured.text[..length]);
         return;
     }
-    let _ = walk(
-        kind,
-        measured.at,
-        measured.tables,
-        bytes,
-        d2,
-        ends,
-        notes,
-        sheet,
-        text,
-    );
+    let _ = walk(kind, measured.at, context, sheet, text);
 }
 
 // 11, 12, or both areas written.
 pub(crate) fn write_in(
     kind: Kind,
-    measured: Measured,
-    bytes: &[u8],
-    d2: &[u16],
-    ends: &[u32],
-    notes: &[u64],
-    scratch_sheet: &[u8],
-    scratch_text: &[u8],
+    measured: Measured<'_>,
+    context: &Context<'_>,
     sheet: &mut [u8],
     text: &mut [u8],
 ) -> Result<Sizes, Refusal>
-    requires { InLimits bytes.now d2.now ends.now × MeasuredAt (kind_number kind) bytes.now d2.now ends.now notes.now measured scratch_sheet.now scratch_text.now }
-    ensures { answered sheet.old text.old (kind_number kind) (payload (kind_number kind) (strings d2.now ends.now) bytes.now) ≡ told result sheet.new text.new }
+    requires { Limited (lent context.now) × MeasuredAt (kind_number kind) (lent context.now) measured.at measured.sections measured.sheet.now measured.text.now }
+    ensures { answered sheet.old text.old (kind_number kind) (lent_reading (kind_number kind) (lent context.now)) ≡ told result sheet.new text.new }
 {
     let end = measured.sections.aliases.state;
     let size = end.sheet;
@@ -77,17 +58,6 @@ pub(crate) fn write_in(
     if sheet.len() < size {
         return Err(Refusal::SheetTooLong);
     }
-    write_out(
-        kind,
-        measured,
-        bytes,
-        d2,
-        ends,
-        notes,
-        scratch_sheet,
-        scratch_text,
-        sheet,
-        text,
-    );
+    write_out(kind, measured, context, sheet, text);
     Ok(sizes_at(end))
 }

@@ -4,36 +4,39 @@
 #![tactic(auto)]
 
 ghost use Rattle.std.specs.Prelude.{◌≡◌, ◌-◌, ◌≤◌};
+ghost use Rattle.schema.specs.told.SchemaTold.{lent};
 ghost use Rattle.schema.specs.Reading.{allowance};
 ghost use Rattle.inputs.specs.told.KindTold.{kind_number};
 ghost use Rattle.declarations.specs.Payload.{payload};
 ghost use Rattle.declarations.specs.told.PayloadTold.{LentAt, LentRoom};
 ghost use Rattle.declarations.specs.told.BodyTold.{BodyTold};
 ghost use Rattle.passes.specs.told.AreaTold as definition;
-ghost use Rattle.passes.specs.told.AreaTold.{strings, InLimits, last_of};
-ghost use Rattle.passes.specs.told.TaskTold.{no_lists, sizes_at};
+ghost use Rattle.passes.specs.told.AreaTold.{strings, InLimits, Limited, lent_reading, last_of};
+ghost use Rattle.passes.specs.told.TaskTold.{no_lists, sizes_at, TaskTold};
 ghost use Rattle.inputs.specs.declared.outcome.Refusal.TheVariants as refusal;
 ghost use Rattle.passes.specs.declared.PassError.TheVariants.{Refused};
-ghost use Rattle.passes.specs.told.PassTold.{of_index, of_decode, FirstTold, PassedTold, FrameRoom, reading_of};
+ghost use Rattle.passes.specs.told.PassTold.{of_index, of_decode, PassedTold, FrameRoom, reading_of};
 
 use areas::write_in;
 use declarations::body::{Sections, body_in};
 use declarations::payload::open_lent;
 use encoding::{DecodeError, decode};
+use foundation::{Context, Located};
 use inputs::outcome::{Refusal, Sizes};
-use inputs::{Fault, Kind};
+use inputs::{Fault, Kind, Units};
 use names::records::IndexError;
-use schema::{ALLOWANCE, Section, Stop, Tables};
-use sheet::State;
+use schema::{ALLOWANCE, Section, Stop};
+use sheet::{Output, State};
 
 mod areas; // areas.rt: what was measured, written into both areas
 
-// What the first pass has found: where the body begins, its tables, and how far it is written after each list.
+// What the first pass has found: where the body begins, how far it is written after each list, and what the scratch areas then hold.
 #[derive(Clone, Copy)]
-pub(crate) struct Measured {
+pub(crate) struct Measured<'a> {
     pub at: usize,
-    pub tables: Tables,
     pub sections: Sections,
+    pub sheet: &'a [u8],
+    pub text: &'a [u8],
 }
 
 // Why there is no reply: d1 is refused, or the decoded bytes or their notes have no room in the frame.
@@ -149,11 +152,10 @@ pub(crate) fn sizes_at(end: State) -> Sizes
 }
 
 // What was measured, told: both lengths at their true size, also where no area would hold them.
-fn told_room(measured: Measured) -> Reply
-    requires { (last_of measured).types ≤ allowance }
-    ensures { (result.sizes ≡ sizes_at (last_of measured)) × (result.sections ≡ measured.sections) }
+fn told_room(sections: Sections) -> Reply
+    requires { (last_of sections).types ≤ allowance }
+    ensures { (result.sizes ≡ sizes_at (last_of sections)) × (result.sections ≡ sections) }
 {
-    let sections = measured.sections;
     Reply {
         sizes: sizes_at(sections.aliases.state),
         sections,
@@ -164,66 +166,57 @@ fn told_room(measured: Measured) -> Reply
 fn walk(
     kind: Kind,
     at: usize,
-    tables: Tables,
-    bytes: &[u8],
-    d2: &[u16],
-    ends: &[u32],
-    notes: &[u64],
+    context: &Context<'_>,
     sheet: &mut [u8],
     text: &mut [u8],
 ) -> Result<Sections, Stop>
-    requires { InLimits bytes.now d2.now ends.now × LentAt bytes.now d2.now ends.now notes.now at tables }
-    ensures { BodyTold (kind_number kind) (payload (kind_number kind) (strings d2.now ends.now) bytes.now) definition.start result sheet.old sheet.new text.old text.new }
+    requires { Limited (lent context.now) × LentAt (lent context.now) at }
+    ensures { BodyTold (kind_number kind) (lent_reading (kind_number kind) (lent context.now)) definition.start result sheet.old sheet.new text.old text.new }
 {
-    body_in(
-        kind,
-        &bytes[at..],
-        at as u32,
-        bytes,
-        d2,
-        ends,
-        notes,
-        tables,
-        start(),
+    let body = Located {
+        base: at,
+        bytes: &context.payload[at..],
+    };
+    let mut out = Output {
         sheet,
         text,
-    )
+        state: start(),
+    };
+    body_in(kind, body, context, &mut out)
 }
 
-// Refusals 7 to 10, both lengths and the types, with no area touched but the scratch.
-fn measure(
-    kind: Kind,
-    bytes: &[u8],
-    d2: &[u16],
-    ends: &[u32],
-    notes: &mut [u64],
+// The body of opened bytes: the first pass, which finds refusals 7 to 10, both lengths and the types with no area touched but the scratch; then
+// what the task asks for.
+fn read_in(
+    asked: Asked,
+    at: usize,
+    context: &Context<'_>,
     scratch_sheet: &mut [u8],
     scratch_text: &mut [u8],
-) -> Result<Measured, PassError>
-    requires { InLimits bytes.now d2.now ends.now }
-    ensures { FirstTold (kind_number kind) bytes.now d2.now ends.now notes.new result scratch_sheet.new scratch_text.new }
+    sheet: &mut [u8],
+    text: &mut [u8],
+) -> Result<Reply, Refusal>
+    requires { Limited (lent context.now) × LentAt (lent context.now) at }
+    ensures { TaskTold asked (lent_reading (kind_number asked.kind) (lent context.now)) result sheet.old sheet.new text.old text.new }
 {
-    let opened = open_lent(bytes, d2, ends, notes)?;
-    let sections = walk(
-        kind,
-        opened.at,
-        opened.tables,
-        bytes,
-        d2,
-        ends,
-        notes,
-        scratch_sheet,
-        scratch_text,
-    )?;
-    Ok(Measured {
-        at: opened.at,
-        tables: opened.tables,
-        sections,
-    })
+    let sections = walk(asked.kind, at, context, scratch_sheet, scratch_text)?;
+    match asked.task {
+        Task::Read => {
+            let measured = Measured {
+                at,
+                sections,
+                sheet: scratch_sheet,
+                text: scratch_text,
+            };
+            let sizes = write_in(asked.kind, measured, context, sheet, text)?;
+            Ok(without_lists(sizes))
+        }
+        Task::Room => Ok(told_room(sections)),
+    }
 }
 
-// The decoded bytes of a kind that carries declarations: the first pass, then what the task asks for.
-fn read_in(
+// The decoded bytes of a kind that carries declarations: opened, and read with all that is then lent.
+fn open_in(
     asked: Asked,
     bytes: &[u8],
     d2: &[u16],
@@ -237,42 +230,31 @@ fn read_in(
     requires { InLimits bytes.now d2.now ends.now }
     ensures { PassedTold asked (payload (kind_number asked.kind) (strings d2.now ends.now) bytes.now) (LentRoom bytes.now notes.new) result sheet.old sheet.new text.old text.new }
 {
-    let measured = measure(
-        asked.kind,
-        bytes,
+    let opened = open_lent(bytes, d2, ends, notes)?;
+    let context = Context {
+        payload: bytes,
         d2,
         ends,
         notes,
+        tables: opened.tables,
+    };
+    let reply = read_in(
+        asked,
+        opened.at,
+        &context,
         scratch_sheet,
         scratch_text,
+        sheet,
+        text,
     )?;
-    match asked.task {
-        Task::Read => {
-            let sizes = write_in(
-                asked.kind,
-                measured,
-                bytes,
-                d2,
-                ends,
-                notes,
-                scratch_sheet,
-                scratch_text,
-                sheet,
-                text,
-            )?;
-            Ok(without_lists(sizes))
-        }
-        Task::Room => Ok(told_room(measured)),
-    }
+    Ok(reply)
 }
 
 // d1 of a kind that carries declarations, within its limit.
 // Callers show `InLimits`: metadata from the answer of `fault_of`, which has found no fault.
 pub fn decode_in(
     asked: Asked,
-    d1: &[u16],
-    d2: &[u16],
-    ends: &[u32],
+    units: &Units<'_>,
     bytes: &mut [u8],
     notes: &mut [u64],
     scratch_sheet: &mut [u8],
@@ -280,15 +262,15 @@ pub fn decode_in(
     sheet: &mut [u8],
     text: &mut [u8],
 ) -> Result<Reply, PassError>
-    requires { InLimits d1.now d2.now ends.now }
-    ensures { PassedTold asked (reading_of (kind_number asked.kind) d1.now d2.now ends.now) (FrameRoom d1.now bytes.new notes.new) result sheet.old sheet.new text.old text.new }
+    requires { InLimits units.now.d1.now units.now.d2.now units.now.ends.now }
+    ensures { PassedTold asked (reading_of (kind_number asked.kind) units.now.d1.now units.now.d2.now units.now.ends.now) (FrameRoom units.now.d1.now bytes.new notes.new) result sheet.old sheet.new text.old text.new }
 {
-    let length = decode(d1, bytes)?;
-    read_in(
+    let length = decode(units.d1, bytes)?;
+    open_in(
         asked,
         &bytes[..length],
-        d2,
-        ends,
+        units.d2,
+        units.ends,
         notes,
         scratch_sheet,
         scratch_text,

@@ -18,7 +18,7 @@ use Rattle.characters.proofs.CharacterLaws.{utf8-none, utf8-end, utf8-inside, ut
 use Rattle.characters.proofs.SplitLaws.{Boundary, boundary_start, boundary-next, boundary-text}
 use Rattle.characters.proofs.PartLaws.{rest-is}
 use Rattle.names.specs.Records.{all_but_last, without_ends, substituted, replace_of, operated}
-use Rattle.names.specs.told.Name.{turned, dropped}
+use Rattle.names.specs.told.Name.{operation_of, turned, dropped}
 use Rattle.names.proofs.StepLaws.{operated-is}
 use Rattle.record_names.specs.told.Ends.{LastTold, EndsTold}
 use Rattle.record_names.specs.told.Steps.{with_steps, turned_steps}
@@ -59,18 +59,17 @@ module _ (f : ℕ → ℕ) where
       go false = refl
 
 -- So what an operation drops can be dropped before the replacement.
-pub steps_dropped : (replaced : Option (ℕ × ℕ)) (op : ℕ) (text : Option Text) → with_steps replaced op text ≡ turned_steps replaced op (map_option (dropped op) text)
+pub steps_dropped : (replaced : Option (ℕ × ℕ)) (op : ℕ) (t : Text) → with_steps replaced op t ≡ turned_steps replaced op (dropped op t)
 unfolding replace_of
-steps_dropped replaced op none = refl
-steps_dropped none op (some t) = ap some (operated-is op t)
-steps_dropped (some n) op (some t) = go (is_scalar n.0) (is_scalar n.1)
+steps_dropped none op t = ap some (operated-is op t)
+steps_dropped (some n) op t = go (is_scalar n.0) (is_scalar n.1)
   where
     go : (a b : Bool)
         → map_option (operated op) (if a && b then some (substituted n.0 n.1 t) else none)
-        ≡ map_option (turned op) (if a && b then some (substituted n.0 n.1 (dropped op t)) else none)
+        ≡ map_option (turned (operation_of op)) (if a && b then some (substituted n.0 n.1 (dropped op t)) else none)
     go true true =
         ap some
-        (operated-is op (substituted n.0 n.1 t) ∙ ap (turned op) (dropped-map (λ c. if eqb c n.0 then n.1 else c) op t))
+        (operated-is op (substituted n.0 n.1 t) ∙ ap (turned (operation_of op)) (dropped-map (λ c. if eqb c n.0 then n.1 else c) op t))
     go true false = refl
     go false b = refl
 

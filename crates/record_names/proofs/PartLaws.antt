@@ -26,12 +26,14 @@ use Rattle.characters.proofs.TestLaws.{under, above}
 use Rattle.characters.proofs.TestLaws.{within as between-is}
 use Rattle.characters.proofs.SplitLaws.{place-within, substring-source}
 use Rattle.names.specs.Records as definition
-use Rattle.names.specs.Records.{base_text, text_of, predefined_text, substituted, replace_of, dotted, dollars_dotted, without_ends, operated, stepped}
-use Rattle.names.specs.told.Name.{predefined_list, turned, dropped, source_text, name_text, plain, absent_name}
+use Rattle.names.specs.Records.{base_text, text_of, predefined_text, substituted, replace_of, without_ends, operated, stepped}
+use Rattle.names.specs.told.Name.{predefined_list, operation_of, turned, dropped, OfBytes, source_text, named_text, name_text}
 use Rattle.names.specs.told.RecordTold.{both_numbers, record_told}
 use Rattle.names.specs.told.Stream.{listed_text, base_of}
-use Rattle.record_names.specs.told.Steps.{within, BytesName, SubstringTold, base_in, text_in, OfBytes, BaseTold, StepTold, LeftTold, known, with_steps, turned_steps}
+use Rattle.record_names.specs.told.Steps.{within, SubstringTold, base_in, text_in, BaseTold, StepTold, LeftTold, with_steps, turned_steps}
 use Rattle.names.specs.declared.name.Name.{Name}
+use Rattle.names.specs.declared.name.Source.TheVariants.{Payload, Predefined}
+use Rattle.names.specs.declared.name.Operation.{Operation}
 use Rattle.names.specs.declared.records.Record.{Record}
 use Rattle.record_names.specs.told.Ends.{EndsTold}
 use Rattle.record_names.proofs.EndsLaws.{steps_dropped}
@@ -49,14 +51,6 @@ scalar-is None c (inl h) = rw (le-ltb c 0xd800 h.0, under 0xe000 0x10ffff c (ome
 scalar-is None c (inr h) = rw (le-ltb c 0xd800 (omega arith), above 0xe000 0x10ffff c (omega arith))
 scalar-is (Some x) c (inl h) = rw (lt-ltb c 0xd800 h)
 scalar-is (Some x) c (inr h) = rw (le-ltb c 0xd800 (omega (arith, h.0)), between-is 0xe000 0x10ffff c h.0 h.1)
-
-pub known-low : (n : ℕ) {k : ℕ} → k ≡ known n → k < 4
-known-low n {k} e = rw e (go (eqb n 1) (eqb n 2))
-  where
-    go : (a b : Bool) → (if a then 1 else if b then 2 else 0) < 4
-    go true b = omega arith
-    go false true = omega arith
-    go false false = omega arith
 
 pub scalar_least : (c : ℕ) → is_scalar c ≡ true → c < 2097152
 unfolding is_scalar
@@ -107,10 +101,10 @@ module _ (s : List ℕ) (first last : ℕ) where
 
 -- What a record's text is made of.
 module _ (from : ℕ) (index : rust.Option ℕ) {string : rust.Option Span} where
-  pub base-string : {p : Span} → string ≡ Some p → BaseTold from string index (Some record { source = 1; part = within from p })
+  pub base-string : {p : Span} → string ≡ Some p → BaseTold from string index (Some record { source = Payload; part = within from p })
   unfolding source_text
   base-string {p} g = record {
-    bytes = (omega arith, omega arith);
+    bytes = tt;
     is = λ payload d2 end h.
         let i = subst (PieceInside (part_from from end payload)) g h in
         rw g (ap (λ (l : List ℕ). some (from_utf8 l)) (part-part payload from end p.start p.end i.0 i.1));
@@ -118,57 +112,45 @@ module _ (from : ℕ) (index : rust.Option ℕ) {string : rust.Option Span} wher
 
   module _ (g : string ≡ None) where
     module _ {n : ℕ} (i : index ≡ Some n) (r : rust.Option Span) (e : listed_text r ≡ predefined_text n) where
-      pub base-listed : {p : Span} → r ≡ Some p → BaseTold from string index (Some record { source = 2; part = p })
+      pub base-listed : {p : Span} → r ≡ Some p → BaseTold from string index (Some record { source = Predefined; part = p })
       unfolding source_text
-      base-listed q = record { bytes = (omega arith, omega arith); is = λ payload d2 end h. rw (g, i, ← e, q) }
+      base-listed q = record { bytes = tt; is = λ payload d2 end h. rw (g, i, ← e, q) }
 
 -- A substring of what it is made of, and what is between its first and its last character.
-module _ (payload s : List ℕ) (base : Base) (o : OfBytes base) (e : s ≡ part_from base.part.start base.part.end (base_of base.source payload predefined_list)) where
+module _ (payload s : List ℕ) (base : Base) (o : OfBytes base.source) (e : s ≡ part_from base.part.start base.part.end (base_of base.source payload predefined_list)) where
   -- the base itself, and a part of it
   abbrev whole : List ℕ
   whole = base_of base.source payload predefined_list
 
-  text-at : (d2 : List ℕ) (a b : ℕ) → source_text payload d2 (plain base.source a b) ≡ some (from_utf8 (part_from a b whole))
-  text-at d2 a b = source-bytes payload d2 (plain base.source a b) o.0 (omega (arith, o.1)) λ z. omega (arith, o.1)
+  text-at : (d2 : List ℕ) (p : Span) → source_text payload d2 base.source p ≡ from_utf8 (part_from p.start p.end whole)
+  text-at d2 p = source-bytes payload d2 base.source p o
 
-  all-of : (d2 : List ℕ) → base_in payload d2 base ≡ some (from_utf8 s)
-  all-of d2 = text-at d2 base.part.start base.part.end ∙ ap (λ (l : List ℕ). some (from_utf8 l)) (sym e)
+  all-of : (d2 : List ℕ) → base_in payload d2 base ≡ from_utf8 s
+  all-of d2 = text-at d2 base.part ∙ ap from_utf8 (sym e)
 
   abbrev pub inner : Span → Base
   inner p = record { source = base.source; part = within base.part.start p }
 
-  inner-is : (p : Span) → p.start ≤ p.end → p.end ≤ length s → (d2 : List ℕ) → base_in payload d2 (inner p) ≡ some (from_utf8 (part_from p.start p.end s))
+  inner-is : (p : Span) → p.start ≤ p.end → p.end ≤ length s → (d2 : List ℕ) → base_in payload d2 (inner p) ≡ from_utf8 (part_from p.start p.end s)
   inner-is p h i d2 =
       let f : part_from p.start p.end s ≡ part_from (base.part.start + p.start) (base.part.start + p.end) whole =
       ap (part_from p.start p.end) e ∙ part-part whole base.part.start base.part.end p.start p.end h (subst (λ (x : List ℕ). p.end ≤ length x) e i) in
-      text-at d2 (base.part.start + p.start) (base.part.start + p.end) ∙ ap (λ (l : List ℕ). some (from_utf8 l)) (sym f)
+      text-at d2 (within base.part.start p) ∙ ap from_utf8 (sym f)
 
   module _ (first last : ℕ) where
     pub part_none : SubstringTold s first last None → StepTold payload (substring_of first last) base None
     part_none t = record { bytes = tt; is = λ d2. rw (all-of d2) t.is }
 
     pub part-some : {p : Span} → SubstringTold s first last (Some p) → StepTold payload (substring_of first last) base (Some (inner p))
-    part-some {p} t = record { bytes = o; is = λ d2. rw (all-of d2) (t.is ∙ sym (inner-is p t.inside.0 t.inside.1 d2)) }
+    part-some {p} t = record { bytes = o; is = λ d2. rw (all-of d2) (t.is ∙ ap some (sym (inner-is p t.inside.0 t.inside.1 d2))) }
 
   pub inner-same : EndsTold s None → LeftTold payload base without_ends base
-  inner-same t = record { bytes = o; is = λ d2. rw (all-of d2) (ap some t) }
+  inner-same t = record { bytes = o; is = λ d2. rw (all-of d2) t }
 
   pub inner_cut : {p : Span} → EndsTold s (Some p) → LeftTold payload base without_ends (inner p)
-  inner_cut {p} t = record { bytes = o; is = λ d2. rw (all-of d2) (ap some t.0 ∙ sym (inner-is p t.1 t.2 d2)) }
+  inner_cut {p} t = record { bytes = o; is = λ d2. rw (all-of d2) (t.0 ∙ sym (inner-is p t.1 t.2 d2)) }
 
 -- Replacement, and what an operation turns into dots.
-turned-known : (op : ℕ) (t : Text) → turned (known op) t ≡ turned op t
-unfolding turned
-turned-known op t = go (eqb op 1) (eqb op 2)
-  where
-    go : (a b : Bool)
-        → (let k = if a then 1 else if b then 2 else 0 in
-        if eqb k 1 then dotted t else if eqb k 2 then dollars_dotted t else t)
-        ≡ (if a then dotted t else if b then dollars_dotted t else t)
-    go true b = refl
-    go false true = refl
-    go false false = refl
-
 pub same-substituted : (t : Text) → substituted 0 0 t ≡ t
 same-substituted [] = refl
 same-substituted (c ∷ t) = ap (λ (x : ℕ). x ∷ substituted 0 0 t) (go (eqb c 0) refl) ∙ ap (λ (x : Text). c ∷ x) (same-substituted t)
@@ -182,88 +164,64 @@ not-both Neither h = refl
 not-both (One a) h = refl
 not-both (Both a b) h = absurd (h a b refl)
 
-pub absent-made : {n : Name} → n ≡ absent_name → BytesName n
-absent-made e = rw e (omega arith, refl, omega arith, omega arith, omega arith, refl)
+module _ (payload d2 : List ℕ) (base : Base) (op : ℕ) {k : Operation} (e : k ≡ operation_of op) where
+  abbrev steps_of : ℕ → ℕ → Name
+  steps_of from to = record { source = base.source; part = base.part; from = from; to = to; operation = k; qualified = false; size = 0 }
 
-module _ (payload d2 : List ℕ) (base : Base) (op : ℕ) where
-  abbrev steps_of : ℕ → ℕ → ℕ → Name
-  steps_of from to k = record { source = base.source; start = base.part.start; end = base.part.end; from = from; to = to; operation = k; qualified = false; size = 0 }
+  named-is : (from to : ℕ) → named_text payload d2 (steps_of from to) ≡ turned (operation_of op) (substituted from to (base_in payload d2 base))
+  unfolding named_text
+  named-is from to = ap (λ (o : Operation). turned o (substituted from to (base_in payload d2 base))) e
 
-  named-is : (from to : ℕ) {k : ℕ} → k ≡ known op
-      → name_text payload d2 (steps_of from to k) ≡ map_option (λ t. turned op (substituted from to t)) (base_in payload d2 base)
-  unfolding name_text source_text
-  named-is from to e = rw e (go (base_in payload d2 base))
-    where
-      go : (o : Option Text) → map_option (λ t. turned (known op) (substituted from to t)) o ≡ map_option (λ t. turned op (substituted from to t)) o
-      go none = refl
-      go (some t) = ap some (turned-known op (substituted from to t))
+  pub steps-none : (two : Two) → both_numbers two ≡ none → name_text payload d2 (Some (steps_of 0 0)) ≡ turned_steps (both_numbers two) op (base_in payload d2 base)
+  steps-none two q = rw q (ap some (named-is 0 0 ∙ ap (turned (operation_of op)) (same-substituted (base_in payload d2 base))))
 
-  pub steps-none : (two : Two) → both_numbers two ≡ none → {k : ℕ} → k ≡ known op
-      → name_text payload d2 (steps_of 0 0 k) ≡ turned_steps (both_numbers two) op (base_in payload d2 base)
-  steps-none two q e = named-is 0 0 e ∙ rw q (go (base_in payload d2 base))
-    where
-      go : (o : Option Text) → map_option (λ t. turned op (substituted 0 0 t)) o ≡ turned_steps none op o
-      go none = refl
-      go (some t) = ap (λ (x : Text). some (turned op x)) (same-substituted t)
+  pub steps-both : {two : Two} {a b : ℕ} → two ≡ Both a b → is_scalar a ≡ true → is_scalar b ≡ true
+      → name_text payload d2 (Some (steps_of a b)) ≡ turned_steps (both_numbers two) op (base_in payload d2 base)
+  unfolding replace_of
+  steps-both {two} {a} {b} q s t = rw (q, s, t) (ap some (named-is a b))
 
-  module _ {two : Two} {a b : ℕ} (q : two ≡ Both a b) where
-    pub steps-both : is_scalar a ≡ true → is_scalar b ≡ true → {k : ℕ} → k ≡ known op
-        → name_text payload d2 (steps_of a b k) ≡ turned_steps (both_numbers two) op (base_in payload d2 base)
-    unfolding replace_of
-    steps-both s t e = named-is a b e ∙ rw (q, s, t) (go (base_in payload d2 base))
-      where
-        go : (o : Option Text) → map_option (λ t. turned op (substituted a b t)) o ≡ if_some o none λ t. some (turned op (substituted a b t))
-        go none = refl
-        go (some t) = refl
-
-    pub steps-absent : is_scalar a && is_scalar b ≡ false → {n : Name} → n ≡ absent_name
-        → name_text payload d2 n ≡ turned_steps (both_numbers two) op (base_in payload d2 base)
-    unfolding replace_of name_text source_text
-    steps-absent t e = rw (e, q, t) (go (base_in payload d2 base))
-      where
-        go : (o : Option Text) → ◌≡◌ {A = Option Text} none (if_some o none λ t. none)
-        go none = refl
-        go (some t) = refl
+pub steps-absent : (op : ℕ) {two : Two} {a b : ℕ} → two ≡ Both a b → is_scalar a && is_scalar b ≡ false → (t : Text) → none ≡ turned_steps (both_numbers two) op t
+unfolding replace_of
+steps-absent op q f t = rw (q, f)
 
 -- A record's text, from what it is made of.
-text-is : (r : definition.Record) → text_of r ≡ with_steps r.replaced r.operation (if_some (base_text r) none (stepped substring_of r.substring))
+text-is : (r : definition.Record)
+    → text_of r ≡ if_some (if_some (base_text r) none (stepped substring_of r.substring)) none (with_steps r.replaced r.operation)
 unfolding text_of
 text-is r = go (base_text r)
   where
     go : (o : Option Text)
         → if_some o none (λ base. if_some (stepped substring_of r.substring base) none λ part. map_option (operated r.operation) (stepped replace_of r.replaced part))
-        ≡ with_steps r.replaced r.operation (if_some o none (stepped substring_of r.substring))
+        ≡ if_some (if_some o none (stepped substring_of r.substring)) none (with_steps r.replaced r.operation)
     go none = refl
     go (some t) = refl
 
-module _ (payload : List ℕ) (from : ℕ) (read : Record) {x : rust.Option Base} (t : BaseTold from read.string read.predefined x) where
-  module _ (n : Name) (d2 : List ℕ) (end : ℕ) (h : PieceInside (part_from from end payload) read.string) where
-    abbrev told : definition.Record
-    told = record_told from (part_from from end payload) read
+module _ (payload : List ℕ) (from : ℕ) (read : Record) {x : rust.Option Base} (t : BaseTold from read.string read.predefined x)
+    (d2 : List ℕ) (end : ℕ) (h : PieceInside (part_from from end payload) read.string) where
+  abbrev told : definition.Record
+  told = record_told from (part_from from end payload) read
 
-    base-is : base_text told ≡ text_in payload d2 x
-    unfolding base_text
-    base-is = t.is payload d2 end h
+  base-is : base_text told ≡ text_in payload d2 x
+  unfolding base_text
+  base-is = t.is payload d2 end h
 
-    pub record-nothing : x ≡ None → n ≡ absent_name → name_text payload d2 n ≡ text_of told
-    unfolding name_text source_text
-    record-nothing g e = rw (e, text-is told, base-is, g)
+  pub record-nothing : x ≡ None → none ≡ text_of told
+  record-nothing g = rw (text-is told, base-is, g)
 
-    module _ {base : Base} (g : x ≡ Some base) {y : rust.Option Base}
-        (u : StepTold payload (stepped substring_of (both_numbers read.substring)) base y) where
-      part-is : if_some (base_text told) none (stepped substring_of told.substring) ≡ text_in payload d2 y
-      part-is = ap (λ (o : Option Text). if_some o none (stepped substring_of told.substring)) (base-is ∙ ap (text_in payload d2) g) ∙ u.is d2
+  module _ {base : Base} (g : x ≡ Some base) {y : rust.Option Base}
+      (u : StepTold payload (stepped substring_of (both_numbers read.substring)) base y) where
+    part-is : if_some (base_text told) none (stepped substring_of told.substring) ≡ text_in payload d2 y
+    part-is = ap (λ (o : Option Text). if_some o none (stepped substring_of told.substring)) (base-is ∙ ap (text_in payload d2) g) ∙ u.is d2
 
-      pub record-cut : y ≡ None → n ≡ absent_name → name_text payload d2 n ≡ text_of told
-      unfolding name_text source_text
-      record-cut q e = rw (e, text-is told, part-is, q)
+    pub record-cut : y ≡ None → none ≡ text_of told
+    record-cut q = rw (text-is told, part-is, q)
 
-      pub record-built : {part left : Base} → y ≡ Some part → LeftTold payload part (dropped read.operation) left
-          → name_text payload d2 n ≡ turned_steps (both_numbers read.replaced) read.operation (base_in payload d2 left)
-          → name_text payload d2 n ≡ text_of told
-      record-built {part} {left} q l e =
-          let steps : Option Text → Option Text = turned_steps told.replaced told.operation in
-          e
-          ∙ ap steps (sym (l.is d2))
-          ∙ sym (steps_dropped told.replaced told.operation (base_in payload d2 part))
-          ∙ sym (text-is told ∙ ap (with_steps told.replaced told.operation) (part-is ∙ ap (text_in payload d2) q))
+    pub record-built : {part left : Base} → y ≡ Some part → LeftTold payload part (dropped read.operation) left → (n : rust.Option Name)
+        → name_text payload d2 n ≡ turned_steps (both_numbers read.replaced) read.operation (base_in payload d2 left)
+        → name_text payload d2 n ≡ text_of told
+    record-built {part} {left} q l n e =
+        let steps : Text → Option Text = turned_steps told.replaced told.operation in
+        e
+        ∙ ap steps (sym (l.is d2))
+        ∙ sym (steps_dropped told.replaced told.operation (base_in payload d2 part))
+        ∙ sym (text-is told ∙ ap (λ (o : Option Text). if_some o none (with_steps told.replaced told.operation)) (part-is ∙ ap (text_in payload d2) q))

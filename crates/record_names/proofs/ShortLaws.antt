@@ -1,6 +1,6 @@
 -- A record from its message, and the short messages that most records have: no field, or one of two bytes.
 -- Assumes nothing.
-use mathlib.Core.Path.{◌≡◌, refl, ap, sym, ◌∙◌, subst}
+use mathlib.Core.Path.{◌≡◌, refl, ap, sym, ◌∙◌}
 use mathlib.Core.Bool.{Bool, true, false, ◌||◌}
 use mathlib.Core.List.{List, [], ◌∷◌}
 use mathlib.Core.Option.{Option, none, some}
@@ -20,24 +20,24 @@ use Rattle.wire.proofs.WalkLaws.{ok_same}
 use Rattle.characters.specs.told.Places.{part_from}
 use Rattle.characters.proofs.UnitLaws.{units-ended, units-cons}
 use Rattle.names.specs.Records.{record_of, decides, predefined_text, base_text, operated, text_of}
-use Rattle.names.specs.told.Name.{turned, source_text, name_text, plain, absent_name}
+use Rattle.names.specs.told.Name.{turned, source_text, named_text, plain}
 use Rattle.names.specs.told.Stream.{listed_text}
 use Rattle.record_names.specs.told.Named.{PredefinedTold, NamedTold}
 use Rattle.names.specs.declared.name.Name.{Name}
+use Rattle.names.specs.declared.name.Source.TheVariants.{Predefined}
 use Rattle.foundation.specs.declared.Span.{Span}
 use Rattle.std.specs.declared.option.Option as rust
-use Rattle.record_names.proofs.PartLaws.{absent-made, same-substituted}
+use Rattle.record_names.proofs.PartLaws.{same-substituted}
 
 -- A predefined string as a name.
 module _ {index : ℕ} {l : rust.Option Span} (e : listed_text l ≡ predefined_text index) where
-  pub listed-absent : l ≡ None → {n : Name} → n ≡ absent_name → PredefinedTold index n
-  unfolding name_text source_text
-  listed-absent g q = subst (PredefinedTold index) (sym q) record { bytes = absent-made refl; is = λ payload units. ap listed_text (sym g) ∙ e }
+  pub listed-absent : l ≡ None → PredefinedTold index None
+  listed-absent g = record { bytes = tt; is = λ payload units. ap listed_text (sym g) ∙ e }
 
-  pub listed-named : {p : Span} → l ≡ Some p → {n : Name} → n ≡ plain 2 p.start p.end → PredefinedTold index n
-  unfolding name_text source_text turned
-  listed-named g q = subst (PredefinedTold index) (sym q) record {
-    bytes = (omega arith, refl, omega arith, omega arith, omega arith, refl);
+  pub listed-named : {p : Span} → l ≡ Some p → PredefinedTold index (Some (plain Predefined p))
+  unfolding named_text source_text turned
+  listed-named g = record {
+    bytes = (tt, refl, omega arith, omega arith, refl);
     is = λ payload units. ap some (same-substituted _) ∙ ap listed_text (sym g) ∙ e;
   }
 
@@ -121,7 +121,7 @@ module _ (bytes : List ℕ) (start end : ℕ) where
       is = λ m w units. ap (λ (x : Message). decides (record_of x)) (message-is n f o h m w) ∙ without_one n v g;
     }
 
-    pub short-predefined : t ≡ 16 → {name : Name} → PredefinedTold v name → NamedTold bytes start end (Some name)
+    pub short-predefined : t ≡ 16 → {name : rust.Option Name} → PredefinedTold v name → NamedTold bytes start end (Some name)
     short-predefined f l = record {
       made = l.bytes;
       is = λ m w units.

@@ -4,7 +4,7 @@ use mathlib.Core.Path.{◌≡◌, refl, ap, sym, ◌∙◌, subst}
 use mathlib.Core.Bool.{Bool, true, false}
 use mathlib.Core.List.{List, [], ◌∷◌, ◌++◌, map}
 use mathlib.Core.Option.{Option, none, some}
-use Prim.Native.Nat.{ℕ, ◌+◌, ◌-◌, ◌≤◌, ◌<◌}
+use Prim.Native.Nat.{ℕ, ◌+◌, ◌-◌, ◌≤◌}
 use native.Mathlib.Nat.{le_refl}
 use native.Mathlib.Omega.{arith}
 use borrow.Author.Tests.{eq-eqb, ne_eqb, eqb-true, eqb-false}
@@ -17,19 +17,19 @@ use Rattle.characters.specs.Characters.{width, utf8_of, utf8, from_utf8}
 use Rattle.characters.specs.told.Places.{part_from}
 use Rattle.characters.specs.told.CharactersTold.{character_read, utf8_at}
 use Rattle.characters.specs.told.Plain.{instead}
-use Rattle.characters.proofs.TestLaws.{below}
-use Rattle.foundation.proofs.EveryLaws.{map_twice}
 use Rattle.characters.proofs.CharacterLaws.{utf8-end, utf8-inside}
 use Rattle.characters.proofs.LengthLaws.{bytes_cons, bytes-append}
 use Rattle.characters.proofs.PartLaws.{part-part, part-short}
 use Rattle.names.specs.Records.{substituted, dotted, dollars_dotted}
 use Rattle.names.specs.Names.{without_last, unwrapped}
-use Rattle.names.specs.told.Name.{predefined_list, turned, source_text, name_text, plain}
+use Rattle.names.specs.told.Name.{predefined_list, turned, source_text, named_text}
 use Rattle.names.specs.told.Stream.{base_of}
-use Rattle.record_names.specs.told.Steps.{BytesName}
+use Rattle.record_names.specs.told.Steps.{within, BytesName}
 use Rattle.record_names.specs.told.Ends.{LastTold}
-use Rattle.record_names.specs.told.ClassNames.{size_with, UnwrapTold, qualified_part, class_text, ClassTold}
+use Rattle.record_names.specs.told.ClassNames.{size_with, UnwrapTold, qualified_part, ClassTold}
 use Rattle.names.specs.declared.name.Name.{Name}
+use Rattle.names.specs.declared.name.Operation.{Operation}
+use Rattle.names.specs.declared.name.Operation.TheVariants.{Nothing, InternalToClassId, DescToClassId}
 use Rattle.record_names.specs.declared.ends.Last.{Last}
 use Rattle.std.specs.declared.option.Option as rust
 use Rattle.foundation.specs.declared.Span.{Span}
@@ -142,17 +142,11 @@ unwrap_dollars : (t : Text) → unwrapped (dollars_dotted t) ≡ dollars_dotted 
 unwrap_dollars =
     unwrap-map (instead 0x24 0x2e) (λ c. dollar_keeps 0x4c c (λ z. omega arith) λ z. omega arith) λ c. dollar_keeps 0x3b c (λ z. omega arith) λ z. omega arith
 
-unwrap_turned : (op : ℕ) (t : Text) → unwrapped (turned op t) ≡ turned op (unwrapped t)
+unwrap_turned : (op : Operation) (t : Text) → unwrapped (turned op t) ≡ turned op (unwrapped t)
 unfolding turned
-unwrap_turned op t = go (eqb op 1) (eqb op 2)
-  where
-    go : (a b : Bool)
-        → unwrapped (if a then dotted t else if b then dollars_dotted t else t)
-        ≡ (let u = unwrapped t in
-        if a then dotted u else if b then dollars_dotted u else u)
-    go true b = unwrap_dotted t
-    go false true = unwrap_dollars t
-    go false false = refl
+unwrap_turned Nothing t = refl
+unwrap_turned InternalToClassId t = unwrap_dotted t
+unwrap_turned DescToClassId t = unwrap_dollars t
 
 -- Bytes without L and ;.
 substituted-append : (from to : ℕ) (t u : Text) → substituted from to (t ++ u) ≡ substituted from to t ++ substituted from to u
@@ -221,86 +215,58 @@ module _ (s : List ℕ) (from to : ℕ) where
 
 -- The class name of a name made of bytes.
 module _ (payload : List ℕ) (n : Name) (b : BytesName n) where
-  -- the same part: the text stays under L and ;
-  text-of : (d2 : List ℕ) → name_text payload d2 n ≡ map_option (λ t. turned n.operation (substituted n.from n.to t)) (source_text payload d2 n)
-  unfolding name_text
-  text-of d2 = rw (b.1, b.5)
+  -- what its steps but dots make of a text
+  abbrev steps : Text → Text
+  steps t = turned n.operation (substituted n.from n.to t)
 
-  class_of : (d2 : List ℕ) (a e : ℕ)
-      → name_text payload d2 (qualified_part n a e)
-      ≡ map_option (λ t. dotted (turned n.operation (substituted n.from n.to t))) (source_text payload d2 (plain n.source a e))
-  unfolding name_text source_text
-  class_of d2 a e = refl
+  text-of : (d2 : List ℕ) → named_text payload d2 n ≡ steps (source_text payload d2 n.source n.part)
+  unfolding named_text
+  text-of d2 = rw (b.1, b.4)
 
-  abbrev here : Name
-  here = plain n.source n.start n.end
+  class_of : (d2 : List ℕ) (p : Span) → named_text payload d2 (qualified_part n p) ≡ dotted (steps (source_text payload d2 n.source p))
+  unfolding named_text
+  class_of d2 p = refl
 
-  same_source : (d2 : List ℕ) → source_text payload d2 n ≡ source_text payload d2 here
-  unfolding source_text
-  same_source d2 = refl
+  -- the text of a part of its source
+  abbrev text_at : Span → Text
+  text_at p = from_utf8 (part_from p.start p.end (base_of n.source payload predefined_list))
 
-  -- from a law of the text to one of the name
-  class-law : (d2 : List ℕ) (a e : ℕ) (o p : Option Text) → source_text payload d2 n ≡ o → source_text payload d2 (plain n.source a e) ≡ p
-      → map_option (λ t. dotted (turned n.operation (substituted n.from n.to t))) p
-      ≡ map_option (λ t. dotted (unwrapped (turned n.operation (substituted n.from n.to t)))) o
-      → name_text payload d2 (qualified_part n a e) ≡ class_text (name_text payload d2 n)
-  class-law d2 a e o p q r f =
-      class_of d2 a e ∙ ap (map_option λ t. dotted (turned n.operation (substituted n.from n.to t))) r
-      ∙ f
-      ∙ sym (map_twice (λ t. turned n.operation (substituted n.from n.to t)) (λ u. dotted (unwrapped u)) o)
-      ∙ ap (λ (x : Option Text). class_text (map_option (λ t. turned n.operation (substituted n.from n.to t)) x)) (sym q)
-      ∙ ap class_text (sym (text-of d2))
+  source : (d2 : List ℕ) (p : Span) → source_text payload d2 n.source p ≡ text_at p
+  source d2 p = source-bytes payload d2 n.source p b.0
 
-  -- made of the same part
-  told_same : {r : Name} → r ≡ qualified_part n n.start n.end → ((d2 : List ℕ) → name_text payload d2 r ≡ class_text (name_text payload d2 n)) → ClassTold payload n r
-  told_same e f = record {
-    part = rw e;
-    is = f;
-    inside = λ h. rw e (h, le_refl n.end);
-    size = rw (e, eq-eqb n.start n.start refl) (omega arith);
-  }
+  class-made : (p : Span) → unwrapped (substituted n.from n.to (text_at n.part)) ≡ substituted n.from n.to (text_at p)
+      → {r : Name} → r ≡ qualified_part n p → (d2 : List ℕ) → named_text payload d2 r ≡ dotted (unwrapped (named_text payload d2 n))
+  class-made p f q d2 =
+      ap (named_text payload d2) q
+      ∙ class_of d2 p
+      ∙ ap (λ (t : Text). dotted (steps t)) (source d2 p)
+      ∙ ap dotted (sym (unwrap_turned n.operation (substituted n.from n.to (text_at n.part)) ∙ ap (turned n.operation) f))
+      ∙ ap (λ (t : Text). dotted (unwrapped t)) (sym (text-of d2 ∙ ap steps (source d2 n.part)))
 
-  -- nothing for a name that is absent, else by the text of its bytes
-  abbrev text_at : ℕ → ℕ → Text
-  text_at a e = from_utf8 (part_from a e (base_of n.source payload predefined_list))
-
-  module _ (a e : ℕ)
-      (f : unwrapped (substituted n.from n.to (text_at n.start n.end)) ≡ substituted n.from n.to (text_at a e)) where
-    class-there : (d2 : List ℕ) → 0 < n.source → name_text payload d2 (qualified_part n a e) ≡ class_text (name_text payload d2 n)
-    class-there d2 g =
-        let source : (x y : ℕ) → source_text payload d2 (plain n.source x y) ≡ some (text_at x y) = λ x y.
-        source-bytes payload d2 (plain n.source x y) g (omega (arith, b.0)) (λ z. omega (arith, b.0)) in
-        class-law d2 a e (some (text_at n.start n.end)) (some (text_at a e)) (same_source d2 ∙ source n.start n.end) (source a e)
-        (ap (λ (u : Text). some (dotted u))
-        (sym (unwrap_turned n.operation (substituted n.from n.to (text_at n.start n.end)) ∙ ap (turned n.operation) f)))
-
-    class-absent : (d2 : List ℕ) → n.source ≡ 0 → name_text payload d2 (qualified_part n a e) ≡ class_text (name_text payload d2 n)
-    unfolding source_text
-    class-absent d2 z = class-law d2 a e none none (rw z) (rw z) refl
-
-    class-made : {r : Name} → r ≡ qualified_part n a e → (d2 : List ℕ) → name_text payload d2 r ≡ class_text (name_text payload d2 n)
-    class-made q d2 = rw q (below 1 n.source (λ l. class-absent d2 (omega arith)) λ l. class-there d2 (omega arith))
-
-  module _ (s : List ℕ) (e : s ≡ part_from n.start n.end (base_of n.source payload predefined_list)) where
-    pub class-stays : UnwrapTold s n.from n.to None → {r : Name} → r ≡ qualified_part n n.start n.end → ClassTold payload n r
-    class-stays t q =
-        told_same q (class-made n.start n.end (subst (λ (bs : List ℕ). UnwrapTold bs n.from n.to None) e t) q)
+  module _ (s : List ℕ) (e : s ≡ part_from n.part.start n.part.end (base_of n.source payload predefined_list)) where
+    pub class-stays : UnwrapTold s n.from n.to None → {r : Name} → r ≡ qualified_part n n.part → ClassTold payload n r
+    class-stays t q = record {
+      part = rw q;
+      is = class-made n.part (subst (λ (bs : List ℕ). UnwrapTold bs n.from n.to None) e t) q;
+      inside = λ h. rw q (h, le_refl n.part.end);
+      size = rw (q, eq-eqb n.part.start n.part.start refl) (omega arith);
+    }
 
     module _ {p : Span} (t : UnwrapTold s n.from n.to (Some p)) where
-      pub class-ends : (p.start ≤ p.end) × (p.end ≤ n.end - n.start)
-      class-ends = (t.1, omega (arith, t.2, ap length e, part-short (base_of n.source payload predefined_list) n.start n.end))
+      pub class-ends : (p.start ≤ p.end) × (p.end ≤ n.part.end - n.part.start)
+      class-ends = (t.1, omega (arith, t.2, ap length e, part-short (base_of n.source payload predefined_list) n.part.start n.part.end))
 
-      pub class-cut : {r : Name} → r ≡ qualified_part n (n.start + p.start) (n.start + p.end) → ClassTold payload n r
+      pub class-cut : {r : Name} → r ≡ qualified_part n (within n.part.start p) → ClassTold payload n r
       class-cut q =
           let l = base_of n.source payload predefined_list in
           let u = subst (λ (bs : List ℕ). UnwrapTold bs n.from n.to (Some p)) e t in
-          let f = part-part l n.start n.end p.start p.end u.1 u.2 in
+          let f = part-part l n.part.start n.part.end p.start p.end u.1 u.2 in
           let c = class-ends in
           record {
             part = rw q;
-            is = class-made (n.start + p.start) (n.start + p.end) (u.0 ∙ ap (λ (bs : List ℕ). substituted n.from n.to (from_utf8 bs)) f) q;
+            is = class-made (within n.part.start p) (u.0 ∙ ap (λ (bs : List ℕ). substituted n.from n.to (from_utf8 bs)) f) q;
             inside = λ o. rw q (omega (arith, c.0, c.1), omega (arith, c.1));
             size =
-                rw (q, ne_eqb (n.start + p.start) n.start (λ z. omega (arith, u.3)))
+                rw (q, ne_eqb (n.part.start + p.start) n.part.start (λ z. omega (arith, u.3)))
                 (u.4 ∙ ap (λ (bs : List ℕ). size_with n.from n.to bs + 2) f);
           }

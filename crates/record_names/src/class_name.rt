@@ -30,11 +30,10 @@ fn unwrapped_part(s: &[u8], from: u32, to: u32) -> Option<Span>
 
 // A name as a class name, made of another part of its source.
 fn qualified_part(name: Name, part: Span) -> Name
-    ensures { result ≡ qualified_part name part.start part.end }
+    ensures { result ≡ qualified_part name part }
 {
     Name {
-        start: part.start,
-        end: part.end,
+        part,
         qualified: true,
         size: 0,
         ..name
@@ -46,13 +45,9 @@ pub(crate) fn qualified_bytes(payload: &[u8], name: Name) -> Name
     requires { BytesName name }
     ensures { ClassTold payload.now name result }
 {
-    let s = base_text(payload, &PREDEFINED, name.source, name.start, name.end);
+    let s = base_text(payload, &PREDEFINED, name.source, name.part);
     let Some(part) = unwrapped_part(s, name.from, name.to) else {
-        return Name {
-            qualified: true,
-            size: 0,
-            ..name
-        };
+        return qualified_part(name, name.part);
     };
-    qualified_part(name, within(name.start, part))
+    qualified_part(name, within(name.part.start, part))
 }

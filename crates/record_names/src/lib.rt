@@ -17,8 +17,8 @@ use crate::note::Words;
 use crate::sized::words_for;
 use crate::steps::{decides, record_name};
 use fields::{RECORD_OPERATION, RECORD_PREDEFINED_INDEX, RECORD_RANGE};
-use foundation::Span;
-use names::name::{Name, absent, predefined};
+use foundation::{Located, Span};
+use names::name::{Name, Operation, Source, predefined};
 use names::records::record_in;
 
 // A part of what begins at `from`, as a part of the whole.
@@ -32,28 +32,30 @@ fn within(from: usize, part: Span) -> Span
     }
 }
 
-// A part of a source as a name, with no step. The sources: see `Name`.
-pub fn plain(source: u8, part: Span) -> Name
-    ensures { result ≡ plain source part.start part.end }
+// A part of a source as a name, with no step.
+pub fn plain(source: Source, part: Span) -> Name
+    ensures { result ≡ plain source part }
 {
     Name {
         source,
-        start: part.start,
-        end: part.end,
+        part,
         from: 0,
         to: 0,
-        operation: 0,
+        operation: Operation::Nothing,
         qualified: false,
         size: 0,
     }
 }
 
-// The name that the record whose message is a part of the bytes builds, if it decides.
-fn read_record(bytes: &[u8], part: Span) -> Option<Name>
-    requires { (part.start ≤ part.end) × (part.end ≤ length bytes.now) × (part.start < 2 ^ 32) }
+// What the record builds whose message is a part of the bytes, if it decides: a name, or none if its text can't be built.
+fn read_record(bytes: &[u8], part: Span) -> Option<Option<Name>>
+    requires { (part.start ≤ part.end) × (part.end ≤ length bytes.now) }
     ensures { NamedTold bytes.now part.start part.end result }
 {
-    let read = record_in(&bytes[part.start..part.end], part.start as u32);
+    let read = record_in(Located {
+        base: part.start,
+        bytes: &bytes[part.start..part.end],
+    });
     if decides(read.string, read.predefined) {
         return Some(record_name(bytes, part.start, read));
     }
@@ -61,13 +63,10 @@ fn read_record(bytes: &[u8], part: Span) -> Option<Name>
 }
 
 // A predefined string as a name.
-fn listed_name(index: u32) -> Name
+fn listed_name(index: u32) -> Option<Name>
     ensures { PredefinedTold index result }
 {
-    let Some(part) = predefined(index) else {
-        return absent();
-    };
-    plain(2, part)
+    Some(plain(Source::Predefined, predefined(index)?))
 }
 
 // The tags of a record's fields 1 to 3, which are varints.
@@ -78,8 +77,8 @@ const PREDEFINED_INDEX_TAG: u32 = RECORD_PREDEFINED_INDEX * 8;
 const OPERATION_TAG: u32 = RECORD_OPERATION * 8;
 
 // The same as `read_record`. Most records have no field, or one of two bytes: its tag and its number.
-fn record_at(bytes: &[u8], part: Span) -> Option<Name>
-    requires { (part.start ≤ part.end) × (part.end ≤ length bytes.now) × (part.start < 2 ^ 32) }
+fn record_at(bytes: &[u8], part: Span) -> Option<Option<Name>>
+    requires { (part.start ≤ part.end) × (part.end ≤ length bytes.now) }
     ensures { NamedTold bytes.now part.start part.end result }
 {
     let start = part.start;

@@ -1,9 +1,9 @@
 // What a record builds, in two words: worked out once, when the table is indexed. The definition: specs/told/Note.antt.
-ghost use Rattle.std.specs.Prelude.{◌≡◌, ◌<◌};
-ghost use Rattle.record_names.specs.told.Note.{noted, noted_class, class_size, NameFits, WordsTold};
+ghost use Rattle.std.specs.Prelude.{◌≡◌, ◌+◌, ◌*◌, ◌<◌};
+ghost use Rattle.record_names.specs.told.Note.{source_kind, source_of, noted_part, noted_name, noted, noted_class, class_size, class_of, NameFits, WordsTold};
 
 use foundation::Span;
-use names::name::Name;
+use names::name::{Name, Operation, Source};
 
 // A place has 16 bits, a character 21.
 const PLACE: u64 = 65536;
@@ -17,42 +17,89 @@ pub struct Words {
     pub steps: u64,
 }
 
+// Of a record that doesn't decide, and of one that decides and has no text.
+pub(crate) const UNDECIDED: Words = Words { place: 0, steps: 0 };
+
+pub(crate) const NO_TEXT: Words = Words { place: 0, steps: 1 };
+
+// The two low bits of a record's name.
+fn source_kind(source: Source) -> u64
+    ensures { result ≡ source_kind source }
+{
+    match source {
+        Source::Predefined => 3,
+        _ => 2,
+    }
+}
+
+// The place of a part, and the part of a place.
+fn place_of(part: Span) -> u64
+    requires { (part.start < 65536) × (part.end < 65536) }
+    ensures { result ≡ part.start + 65536 * part.end }
+{
+    part.start as u64 + PLACE * (part.end as u64)
+}
+
+fn part_of(place: u64) -> Span
+    ensures { result ≡ noted_part place }
+{
+    Span {
+        start: (place % PLACE) as usize,
+        end: (place / PLACE % PLACE) as usize,
+    }
+}
+
 // A record's name with its size, and the part of its source that is left of it as a class name.
 pub(crate) fn words_of(name: Name, class: Span) -> Words
     requires { NameFits name × (class.start < 65536) × (class.end < 65536) }
-    ensures { WordsTold name class.start class.end result }
+    ensures { WordsTold name class result }
 {
-    let parts = name.start as u64 + PLACE * (name.end as u64);
-    let class = class.start as u64 + PLACE * (class.end as u64);
+    let place = place_of(name.part) + PLACE * PLACE * place_of(class);
     let characters = u64::from(name.from)
         + CHARACTER * (u64::from(name.to) + CHARACTER * (name.size as u64));
-    let low = 1 + u64::from(name.source) + 4 * u64::from(name.operation);
+    let low = source_kind(name.source) + 4 * u64::from(name.operation.number());
     Words {
-        place: parts + PLACE * PLACE * class,
+        place,
         steps: low + 16 * characters,
     }
 }
 
-// The name of a record whose words these are.
-#[tactic(auto, unfolding(crate::specs::told::Note::noted))]
-pub fn noted(words: Words) -> Option<Name>
-    ensures { result ≡ noted words.place words.steps }
+fn source_of(kind: u64) -> Source
+    ensures { result ≡ source_of kind }
+{
+    if kind == 2 {
+        Source::Payload
+    } else {
+        Source::Predefined
+    }
+}
+
+// The name that words of kind 2 or 3 say.
+fn noted_name(words: Words) -> Name
+    ensures { result ≡ noted_name words.place words.steps }
 {
     let Words { place, steps } = words;
-    let kind = steps % 4;
-    if kind == 0 {
-        return None;
-    }
-    Some(Name {
-        source: (kind - 1) as u8,
-        start: (place % PLACE) as usize,
-        end: (place / PLACE % PLACE) as usize,
+    Name {
+        source: source_of(steps % 4),
+        part: part_of(place),
         from: (steps / 4 / 4 % CHARACTER) as u32,
         to: (steps / 4 / 4 / CHARACTER % CHARACTER) as u32,
-        operation: (steps / 4 % 4) as u8,
+        operation: Operation::of(steps / 4 % 4),
         qualified: false,
         size: (steps / 4 / 4 / CHARACTER / CHARACTER) as usize,
-    })
+    }
+}
+
+// What the record builds whose words these are, if it decides: a name, or none if its text can't be built.
+#[tactic(auto, unfolding(crate::specs::told::Note::noted))]
+pub fn noted(words: Words) -> Option<Option<Name>>
+    ensures { result ≡ noted words.place words.steps }
+{
+    match words.steps % 4 {
+        0 => None,
+        1 => Some(None),
+        _ => Some(Some(noted_name(words))),
+    }
 }
 
 // The size of a class name's text: without L and ; it has two bytes less. It begins later than the name then.
@@ -65,18 +112,25 @@ pub fn class_size(size: usize, start: usize, first: usize) -> usize
     size.saturating_sub(2)
 }
 
+// A record's name as a class name, made of another part of its source.
+fn class_of(name: Name, part: Span) -> Name
+    ensures { result ≡ class_of name part }
+{
+    Name {
+        part,
+        qualified: true,
+        size: class_size(name.size, name.part.start, part.start),
+        ..name
+    }
+}
+
 // Its class name.
-#[tactic(auto, unfolding(crate::specs::told::Note::noted, crate::specs::told::Note::noted_class))]
-pub fn noted_class(words: Words) -> Option<Name>
+pub fn noted_class(words: Words) -> Option<Option<Name>>
     ensures { result ≡ noted_class words.place words.steps }
 {
-    let name = noted(words)?;
-    let start = (words.place / PLACE / PLACE % PLACE) as usize;
-    Some(Name {
-        start,
-        end: (words.place / PLACE / PLACE / PLACE % PLACE) as usize,
-        qualified: true,
-        size: class_size(name.size, name.start, start),
-        ..name
-    })
+    let Some(name) = noted(words)? else {
+        return Some(None);
+    };
+    let part = part_of(words.place / PLACE / PLACE);
+    Some(Some(class_of(name, part)))
 }

@@ -5,26 +5,31 @@ ghost use Rattle.record_names.specs.told.Named.{DecidedBytes, WordsFor};
 ghost use Rattle.record_names.specs.told.Sized.{limit_of, ClipTold, SizeTold};
 
 use crate::class_name::qualified_bytes;
-use crate::note::{Words, words_of};
-use foundation::Span;
-use names::name::{Name, PREDEFINED};
+use crate::note::{NO_TEXT, UNDECIDED, Words, words_of};
+use foundation::{Context, Span, Tables};
+use names::name::{Name, Operation, PREDEFINED, Source};
 use names::stream::put_name;
 
 // How far the source of a name goes.
-fn limit_of(source: u8, size: usize) -> usize
+fn limit_of(source: Source, size: usize) -> usize
     ensures { result ≡ limit_of source size }
 {
-    if source == 2 { PREDEFINED.len() } else { size }
+    match source {
+        Source::Predefined => PREDEFINED.len(),
+        _ => size,
+    }
 }
 
 // A name whose places are inside what it is made of.
 fn clipped_name(size: usize, name: Name) -> Name
     ensures { ClipTold size name result }
 {
-    let end = name.end.min(limit_of(name.source, size));
+    let end = name.part.end.min(limit_of(name.source, size));
     Name {
-        start: name.start.min(end),
-        end,
+        part: Span {
+            start: name.part.start.min(end),
+            end,
+        },
         size: 0,
         ..name
     }
@@ -36,34 +41,43 @@ fn size_of(bytes: &[u8], name: Name) -> usize
     ensures { SizeTold bytes.now name result }
 {
     let unstepped = Name {
-        operation: 0,
+        operation: Operation::Nothing,
         qualified: false,
         size: 0,
         ..name
     };
-    let size = put_name(bytes, &[], unstepped, false, &mut [], 0);
+    // A record's name is made of bytes, so that nothing else is looked into.
+    let context = Context {
+        payload: bytes,
+        d2: &[],
+        ends: &[],
+        notes: &[],
+        tables: Tables {
+            records: 0,
+            types: 0,
+            first_nullable: None,
+        },
+    };
+    let size = put_name(&context, unstepped, false, &mut [], 0);
     if 131072 < size {
         return 0;
     }
     size
 }
 
-// What is noted of a record: nothing of one that doesn't decide.
-pub(crate) fn words_for(bytes: &[u8], answer: Option<Name>) -> Words
+// What is noted of a record, by what it builds.
+pub(crate) fn words_for(bytes: &[u8], answer: Option<Option<Name>>) -> Words
     requires { DecidedBytes answer × (length bytes.now < 65536) }
     ensures { WordsFor bytes.now answer result }
 {
-    let Some(name) = answer else {
-        return Words { place: 0, steps: 0 };
+    let Some(built) = answer else {
+        return UNDECIDED;
+    };
+    let Some(name) = built else {
+        return NO_TEXT;
     };
     let part = clipped_name(bytes.len(), name);
     let class = qualified_bytes(bytes, part);
     let size = size_of(bytes, part);
-    words_of(
-        Name { size, ..part },
-        Span {
-            start: class.start,
-            end: class.end,
-        },
-    )
+    words_of(Name { size, ..part }, class.part)
 }

@@ -8,16 +8,16 @@ ghost use Rattle.characters.specs.Splits.{substring_of};
 ghost use Rattle.names.specs.Records.{stepped, without_ends};
 ghost use Rattle.names.specs.told.RecordTold.{both_numbers};
 ghost use Rattle.characters.specs.told.Places.{part_from};
-ghost use Rattle.names.specs.told.Name.{dropped, predefined_list};
+ghost use Rattle.names.specs.told.Name.{dropped, OfBytes, predefined_list};
 ghost use Rattle.names.specs.told.Stream.{base_of};
-ghost use Rattle.record_names.specs.told.Steps.{known, OfBytes, SubstringTold, PieceFits, BaseTold, StepTold, LeftTold, StepsTold, BuiltTold};
+ghost use Rattle.record_names.specs.told.Steps.{SubstringTold, PieceFits, BaseTold, StepTold, LeftTold, StepsTold, BuiltTold};
 
 use crate::ends::without_ends;
 use crate::{plain, within};
 use characters::find_place;
 use foundation::{Span, wide};
 use messages::repeated::Two;
-use names::name::{Name, PREDEFINED, absent, base_text, predefined};
+use names::name::{Name, Operation, PREDEFINED, Source, base_text, predefined};
 use names::records::Record;
 
 // The part of some bytes that gives the substring of their text by byte places.
@@ -35,10 +35,10 @@ fn substring(s: &[u8], first: usize, last: usize) -> Option<Span>
     })
 }
 
-// A part of the payload, source 1, or of the predefined list, 2.
+// A part of the payload, or of the predefined list.
 #[derive(Clone, Copy)]
 struct Base {
-    source: u8,
+    source: Source,
     part: Span,
 }
 
@@ -49,12 +49,12 @@ fn base_of(string: Option<Span>, index: Option<u32>, from: usize) -> Option<Base
 {
     if let Some(part) = string {
         return Some(Base {
-            source: 1,
+            source: Source::Payload,
             part: within(from, part),
         });
     }
     Some(Base {
-        source: 2,
+        source: Source::Predefined,
         part: predefined(index?)?,
     })
 }
@@ -64,18 +64,12 @@ fn base_of(string: Option<Span>, index: Option<u32>, from: usize) -> Option<Base
 fn bytes_of(payload: &[u8], base: Base) -> &[u8]
     ensures { result.now ≡ part_from base.part.start base.part.end (base_of base.source payload.now predefined_list) }
 {
-    base_text(
-        payload,
-        &PREDEFINED,
-        base.source,
-        base.part.start,
-        base.part.end,
-    )
+    base_text(payload, &PREDEFINED, base.source, base.part)
 }
 
 // The substring from byte place `first` to `last` of a part's text.
 fn part_of(payload: &[u8], base: Base, first: u32, last: u32) -> Option<Base>
-    requires { OfBytes base }
+    requires { OfBytes base.source }
     ensures { StepTold payload.now (substring_of first last) base result }
 {
     let part = substring(bytes_of(payload, base), wide(first), wide(last))?;
@@ -92,41 +86,30 @@ fn is_scalar(code: u32) -> bool
     char::from_u32(code).is_some()
 }
 
-// An operation that is neither 1 nor 2 does nothing.
-fn known(operation: u64) -> u8
-    ensures { result ≡ known operation }
-{
-    match operation {
-        1 => 1,
-        2 => 2,
-        _ => 0,
-    }
-}
-
-// A part with the replacement of a record, and with what its operation turns into dots. It is absent if either number is no character.
-fn with_steps(base: Base, replaced: Two, operation: u64) -> Name
+// A part with the replacement of a record, and with what its operation turns into dots; nothing if either number is no character.
+fn with_steps(base: Base, replaced: Two, operation: u64) -> Option<Name>
     ensures { StepsTold base (both_numbers replaced) operation result }
 {
     let name = Name {
-        operation: known(operation),
+        operation: Operation::of(operation),
         ..plain(base.source, base.part)
     };
     let Two::Both { first, second } = replaced else {
-        return name;
+        return Some(name);
     };
     if is_scalar(first) && is_scalar(second) {
-        return Name {
+        return Some(Name {
             from: first,
             to: second,
             ..name
-        };
+        });
     }
-    absent()
+    None
 }
 
 // The part that a record's substring leaves of what its text is made of.
 fn substring_of(payload: &[u8], base: Base, numbers: Two) -> Option<Base>
-    requires { OfBytes base }
+    requires { OfBytes base.source }
     ensures { StepTold payload.now (stepped substring_of (both_numbers numbers)) base result }
 {
     match numbers {
@@ -137,7 +120,7 @@ fn substring_of(payload: &[u8], base: Base, numbers: Two) -> Option<Base>
 
 // The part of a part that is left of its text without the first and the last character, if it has two or more.
 fn inner_part(payload: &[u8], base: Base) -> Base
-    requires { OfBytes base }
+    requires { OfBytes base.source }
     ensures { LeftTold payload.now base without_ends result }
 {
     let Some(part) = without_ends(bytes_of(payload, base)) else {
@@ -152,7 +135,7 @@ fn inner_part(payload: &[u8], base: Base) -> Base
 // The part that a record's operation leaves: operation 2 drops the first and the last character, here and once, so that no look-up walks to
 // the last. A replacement neither adds nor drops a character, so this can be done before it.
 fn left_part(payload: &[u8], base: Base, operation: u64) -> Base
-    requires { OfBytes base }
+    requires { OfBytes base.source }
     ensures { LeftTold payload.now base (dropped operation) result }
 {
     if operation == 2 {
@@ -161,18 +144,14 @@ fn left_part(payload: &[u8], base: Base, operation: u64) -> Base
     base
 }
 
-// The name that a record builds whose message begins at `from`. Public for the crate's root alone, which has read the record there, so that
-// the sums of places fit.
-pub(crate) fn record_name(payload: &[u8], from: usize, read: Record) -> Name
+// The name that a record builds whose message begins at `from`, if its text can be built. Public for the crate's root alone, which has
+// read the record there, so that the sums of places fit.
+pub(crate) fn record_name(payload: &[u8], from: usize, read: Record) -> Option<Name>
     requires { PieceFits from read.string }
     ensures { BuiltTold payload.now from read result }
 {
-    let Some(base) = base_of(read.string, read.predefined, from) else {
-        return absent();
-    };
-    let Some(part) = substring_of(payload, base, read.substring) else {
-        return absent();
-    };
+    let base = base_of(read.string, read.predefined, from)?;
+    let part = substring_of(payload, base, read.substring)?;
     let left = left_part(payload, part, read.operation);
     with_steps(left, read.replaced, read.operation)
 }

@@ -14,7 +14,7 @@ use Rattle.sheet.specs.declared.State.{State}
 use Rattle.sheet.proofs.PutLaws.{put-types}
 use Rattle.declaration_rows.specs.told.Written as written
 use Rattle.declaration_rows.specs.told.Written.{cell_limit}
-use Rattle.schema.specs.told.SchemaTold.{Picked, Ready, Spends}
+use Rattle.schema.specs.told.SchemaTold.{Lent, Picked, Ready, Spends}
 use Rattle.schema.specs.told.MembersTold.{ListWalked, Affords, Within, PickedWithin, ListedWithin}
 use Rattle.schema.specs.declared.Section.{Section}
 use Rattle.declaration_rows.proofs.WrittenLaws.{Small, head-room}
@@ -42,12 +42,12 @@ pub past-within : (w : ℕ) (s : State) → Within w s (past w s)
 past-within w s = record { counts = omega arith; types = omega arith }
 
 -- What is asked for, by what can be afforded.
-module _ {payload d2 : List ℕ} {n : ℕ} {s : State} (h : Affords payload d2 n s) where
-  pub affords-less : (m : ℕ) → m ≤ n → Affords payload d2 m s
+module _ {e : Lent} {n : ℕ} {s : State} (h : Affords e n s) where
+  pub affords-less : (m : ℕ) → m ≤ n → Affords e m s
   affords-less m l = record { payload-short = h.payload-short; d2-short = h.d2-short; types = h.types; room = omega (arith, h.room) }
 
   -- what is left after a step
-  pub affords-after : {k : ℕ} (m : ℕ) {s' : State} → Within k s s' → k + m ≤ n → Affords payload d2 m s'
+  pub affords-after : {k : ℕ} (m : ℕ) {s' : State} → Within k s s' → k + m ≤ n → Affords e m s'
   affords-after m p l = record {
     payload-short = h.payload-short;
     d2-short = h.d2-short;
@@ -56,7 +56,7 @@ module _ {payload d2 : List ℕ} {n : ℕ} {s : State} (h : Affords payload d2 n
   }
 
   -- for the readers of types
-  pub affords-ready : Ready payload d2 s
+  pub affords-ready : Ready e s
   affords-ready = record {
     payload-short = h.payload-short;
     d2-short = h.d2-short;
@@ -64,10 +64,10 @@ module _ {payload d2 : List ℕ} {n : ℕ} {s : State} (h : Affords payload d2 n
   }
 
   -- for the writers of records
-  pub affords-places : written.RecordRoom (s.sheet + s.text) payload d2 s
+  pub affords-places : written.RecordRoom (s.sheet + s.text) e.payload e.d2 s
   affords-places = record { payload = h.payload-short; d2 = h.d2-short; places = omega arith }
 
-  pub affords-room : written.RecordRoom (2 ^ 61) payload d2 s
+  pub affords-room : written.RecordRoom (2 ^ 61) e.payload e.d2 s
   affords-room = record { payload = h.payload-short; d2 = h.d2-short; places = omega (arith, h.room) }
 
   -- What a record's kind and cells take.

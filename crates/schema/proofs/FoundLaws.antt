@@ -24,13 +24,13 @@ use Rattle.schema.specs.Types.{max_depth, type_in, projection_in, argument_in, t
 use Rattle.schema.specs.told.SchemaTold.{entry_nullable, EntryAt, Stands, entries_in}
 use Rattle.schema.specs.told.TypesTold.{or_nullable, EntryIs, EntryInside, EntryTold}
 use Rattle.schema.specs.told.PlacesTold.{found_type, TableOf, FoundTypeTold, FoundTypeFalls, EntryFound, PlaceFound, head_type, Unnamed, ElementTold, DeclaredFound, ArgumentFound}
-use Rattle.schema.specs.declared.Tables.{Tables}
 use Rattle.schema.specs.declared.FoundType.{FoundType}
 use Rattle.schema.proofs.ArgumentLaws.{Typed, argument-star, argument-typed}
 use Rattle.schema.proofs.TypeLaws.{resolve_nothing, resolve_deep, resolve_entry}
 use Rattle.schema.proofs.ListLaws.{First, cut-first}
 use Rattle.schema.proofs.StandsLaws.{stands-cut, stands-entry, body-ends, body-stands, body_entry}
 use Rattle.foundation.specs.declared.Span.{Span}
+use Rattle.foundation.specs.declared.Tables.{Tables}
 use Rattle.messages.specs.told.Asked.{span}
 
 -- A reading that was accepted: what it was made of was.

@@ -13,7 +13,7 @@ pub mod TableLaws
 pub mod CountLaws
 pub mod ListLaws
 pub mod StandsLaws
-pub mod AnswerLaws
+pub mod WroteLaws
 pub mod FoundLaws
 pub mod GivenLaws
 pub mod EachLaws

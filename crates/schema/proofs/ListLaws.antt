@@ -208,7 +208,7 @@ module _ {A : Type 0} {read : Scope → Message → Read (Option A)} {rows : A �
 
       module _ {cost : ℕ} (cheap : cost ≤ unit * (1 + (b - a))) where
         -- what is left for it
-        pub member-affords : {payload d2 : List ℕ} → Affords payload d2 (unit * length msg) s₀ → Affords payload d2 cost s
+        pub member-affords : {e' : Lent} → Affords e' (unit * length msg) s₀ → Affords e' cost s
         member-affords h =
             let p = paid unit at a b (length msg) member-in.0 member-in.1 member-in.2 in
             affords-after h cost g.spends (omega arith)

@@ -1,9 +1,9 @@
--- Names and their cells: how long a name's text is at most, a name that is absent, and a type's record up to its name.
+-- Names and their cells: how long a name's text is at most, and a type's record up to its name.
 -- Assumes nothing.
 use mathlib.Core.Path.{◌≡◌, refl, ap}
 use mathlib.Core.Bool.{Bool, false}
 use mathlib.Core.List.{List, [], ◌∷◌}
-use mathlib.Core.Option.{Option, none}
+use mathlib.Core.Option.{Option}
 use Prim.Native.Nat.{ℕ, ◌+◌, ◌-◌, ◌≤◌}
 use native.Mathlib.Nat.{add-zero}
 use native.Mathlib.Omega.{arith}
@@ -12,8 +12,10 @@ use lib.Seq.{sets}
 use Rattle.foundation.specs.Digits.{little}
 use Rattle.foundation.specs.Texts.{Text}
 use Rattle.foundation.proofs.OverlayLaws.{sets_then}
-use Rattle.names.specs.told.Name.{source_text, name_text}
+use Rattle.names.specs.told.Name.{name_text}
 use Rattle.names.specs.declared.name.Name.{Name}
+use Rattle.std.specs.declared.option.Option as rust
+use Rattle.std.specs.declared.option.Option.TheVariants.{Some, None}
 use Rattle.names.proofs.PresentLaws.{name-most}
 use Rattle.sheet.specs.Rows.{num, bit, one_if, body_bytes, body_text, cell_text}
 use Rattle.sheet.specs.told.Put.{PutCells, PutHead}
@@ -23,13 +25,10 @@ use Rattle.declaration_rows.specs.Rows.{name_cell}
 use Rattle.schema.specs.told.SchemaTold.{name_limit}
 use Rattle.declaration_rows.proofs.WrittenLaws.{name-text}
 
-module _ (payload d2 : List ℕ) (n : Name) where
-  pub cell-length : length payload ≤ 32768 → length d2 ≤ 32768 → length (cell_text (name_cell (name_text payload d2 n))) ≤ name_limit
-  cell-length p q = omega (arith, name-most payload d2 n 32768 p q (omega arith) false, ap length (name-text payload d2 n))
-
-  pub absent-name : n.source ≡ 0 → name_text payload d2 n ≡ none
-  unfolding name_text source_text
-  absent-name h = rw h
+module _ (payload d2 : List ℕ) where
+  pub cell-length : (o : rust.Option Name) → length payload ≤ 32768 → length d2 ≤ 32768 → length (cell_text (name_cell (name_text payload d2 o))) ≤ name_limit
+  cell-length None p q = omega arith
+  cell-length (Some n) p q = omega (arith, name-most payload d2 n 32768 p q (omega arith) false, ap length (name-text payload d2 n))
 
 -- A type's record up to its name.
 pub head-put : (role : ℕ) (nullable : Bool) (name : Option Text) (s : State) (S T : List ℕ) {S₁ S₂ S₃ S₄ T₄ : List ℕ} {r : State}

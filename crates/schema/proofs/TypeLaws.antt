@@ -44,7 +44,7 @@ spends_then p q = record {
   types = omega (arith, p.types, q.types);
 }
 
-pub ready-after : {payload d2 : List ℕ} {s s' : State} → Ready payload d2 s → Spends s s' → Ready payload d2 s'
+pub ready-after : {e : Lent} {s s' : State} → Ready e s → Spends s s' → Ready e s'
 ready-after h p = record {
   payload-short = h.payload-short;
   d2-short = h.d2-short;

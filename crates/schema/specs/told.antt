@@ -1,4 +1,5 @@
 pub mod SchemaTold
+pub mod WroteTold
 pub mod TypesTold
 pub mod TableTold
 pub mod MembersTold

@@ -5,7 +5,7 @@ ghost use Rattle.schema.specs.Types.{projection_of};
 ghost use Rattle.schema.specs.told.ArgumentTold.{projection_number, ArgumentHeadTold};
 
 use fields::{TYPE_ARGUMENT_PROJECTION, TYPE_ARGUMENT_TYPE, TYPE_ARGUMENT_TYPE_ID};
-use foundation::Span;
+use foundation::{Located, Span};
 use messages::{find_each, index_in, number_in, piece_in};
 use wire::WireValue;
 
@@ -58,12 +58,11 @@ fn projection_of(found: Option<WireValue>) -> Projection
 }
 
 // The argument in a message that is cut. The type of a star is not asked for.
-pub fn argument_head(msg: &[u8], base: u32) -> ArgumentHead
-    ensures { ArgumentHeadTold base msg.now result }
+pub fn argument_head(msg: Located<'_>) -> ArgumentHead
+    ensures { ArgumentHeadTold msg.entry.base msg.entry.bytes.now result }
 {
     let [projection, inline, indexed] = find_each(
         msg,
-        base,
         [
             TYPE_ARGUMENT_PROJECTION,
             TYPE_ARGUMENT_TYPE,

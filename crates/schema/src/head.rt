@@ -1,5 +1,6 @@
 // A type's own fields by one walk of its message. What is told: specs/told/HeadTold.antt.
 ghost use Rattle.std.specs.Prelude.{◌≡◌, false, List, [], ◌∷◌, ℕ};
+ghost use Rattle.foundation.specs.told.Located.{told_part};
 ghost use Rattle.foundation.specs.Results.{ok, ◌from◌};
 ghost use Rattle.fields.specs.Fields.{Type-argument, Type-nullable, Type-class_name};
 ghost use Rattle.wire.specs.Wire.{field, Message, cut};
@@ -9,6 +10,7 @@ ghost use Rattle.messages.specs.told.Asked.{number_told, index_told};
 ghost use Rattle.schema.specs.told.HeadTold.{Known, HeadTold};
 
 use fields::{TYPE_ARGUMENT, TYPE_CLASS_NAME, TYPE_NULLABLE};
+use foundation::Located;
 use messages::index_in;
 use wire::{WireValue, field_at};
 
@@ -43,6 +45,7 @@ fn is_set(value: WireValue) -> bool
     }
 }
 
+// A function for each field: each keeps another word of what was seen, and has a contract of its own.
 impl Seen {
     fn with_name(self, value: WireValue) -> Seen
         ensures { (base : ℕ) (s : List ℕ) (m rest : Message) → Known self m (field Type-class_name (value_of base s value) ∷ rest) → Known result m rest }
@@ -92,8 +95,9 @@ impl Seen {
     }
 }
 
-fn seen_in(msg: &[u8], base: u32) -> Seen
-    ensures { (m : Message) → cut (◌from◌ base msg.now) ≡ ok m → Known result m [] }
+// All fields of the message, one after the other. By `fields_from`, asked for the three, real classes take 4 % more instructions.
+fn seen_in(msg: Located<'_>) -> Seen
+    ensures { (m : Message) → cut (told_part msg.entry) ≡ ok m → Known result m [] }
 {
     let mut seen = Seen {
         name: None,
@@ -101,8 +105,8 @@ fn seen_in(msg: &[u8], base: u32) -> Seen
         arguments: false,
     };
     let mut at = 0;
-    while at < msg.len() {
-        let Ok(read) = field_at(msg, base, at) else {
+    while at < msg.bytes.len() {
+        let Ok(read) = field_at(msg, at) else {
             return seen;
         };
         seen = seen.with_field(read.value.number, read.value.value);
@@ -112,10 +116,10 @@ fn seen_in(msg: &[u8], base: u32) -> Seen
 }
 
 // The head of a message that is cut.
-pub fn type_head(msg: &[u8], base: u32) -> TypeHead
-    ensures { HeadTold base msg.now result }
+pub fn type_head(msg: Located<'_>) -> TypeHead
+    ensures { HeadTold msg.entry.base msg.entry.bytes.now result }
 {
-    let seen = seen_in(msg, base);
+    let seen = seen_in(msg);
     TypeHead {
         name: seen.name.flatten(),
         nullable: seen.nullable.unwrap_or(false),

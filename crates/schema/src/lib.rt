@@ -4,7 +4,6 @@
 
 ghost use Rattle.std.specs.Prelude.{◌≡◌};
 ghost use Rattle.schema.specs.declared.Stop.TheVariants.{Wire};
-ghost use Rattle.schema.specs.told.SchemaTold.{entry_nullable};
 
 use declaration_rows::Role;
 use sheet::State;
@@ -24,27 +23,6 @@ pub const MAX_DEPTH: usize = 64;
 
 // How many types one class may have: `allowance`.
 pub const ALLOWANCE: usize = 2048;
-
-// The sizes of what is lent beside the slices: how many records the name table has, how many entries the type table, and from which of
-// these on all are nullable, if any is.
-#[derive(Clone, Copy)]
-pub struct Tables {
-    pub records: usize,
-    pub types: usize,
-    pub first_nullable: Option<u32>,
-}
-
-impl Tables {
-    // Is an entry of the type table nullable by its place?
-    pub fn is_nullable(self, index: u32) -> bool
-        ensures { result ≡ entry_nullable self.first_nullable index }
-    {
-        match self.first_nullable {
-            Some(first) => first <= index,
-            None => false,
-        }
-    }
-}
 
 // The two fields of a message in which a type may stand, inline or by its index in the type table, and the type's role on the sheet.
 #[derive(Clone, Copy)]

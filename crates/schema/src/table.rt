@@ -11,7 +11,8 @@ ghost use Rattle.names.specs.told.Index.{packed_places};
 ghost use Rattle.schema.specs.told.TableTold.{EntriesTold, TableTold, TypeIndexTold};
 
 use fields::{TYPE_TABLE_FIRST_NULLABLE, TYPE_TABLE_TYPE};
-use messages::{check, index, message, next_body};
+use foundation::Located;
+use messages::{bodies_from, check, index, message};
 use names::records::{IndexError, packed};
 
 // How many entries the type table has, and from which of them on all are nullable, if any is.
@@ -34,19 +35,20 @@ fn note_entries(bytes: &[u8], at: usize, notes: &mut [u64]) -> Result<usize, Ind
     ensures { (m : Message) → cut (rest_of 0 bytes.now at) ≡ ok m → EntriesTold bytes.now m notes.new result }
 {
     let mut count: usize = 0;
-    let mut i = at;
-    loop {
-        let Some(entry) = next_body(bytes, 0, TYPE_TABLE_TYPE, i) else {
-            return Ok(count);
+    let table = Located { base: 0, bytes };
+    for entry in bodies_from(table, TYPE_TABLE_TYPE, at) {
+        let message = Located {
+            base: entry.start,
+            bytes: &bytes[entry.start..entry.end],
         };
-        check(&bytes[entry.start..entry.end], entry.start as u32)?;
+        check(message)?;
         if notes.len() <= count {
             return Err(IndexError::NoRoom);
         }
         put_entry(notes, count, entry.start as u32, entry.end as u32);
         count += 1;
-        i = entry.end;
     }
+    Ok(count)
 }
 
 // The type table from a place to another of the decoded bytes.
@@ -60,11 +62,11 @@ fn note_table(
     ensures { (m : Message) → cut (◌from◌ start (part_from start end payload.now)) ≡ ok m → TableTold payload.now m notes.new result }
 {
     let count = note_entries(&payload[..end], start, notes)?;
-    let first = index(
-        &payload[start..end],
-        start as u32,
-        TYPE_TABLE_FIRST_NULLABLE,
-    );
+    let table = Located {
+        base: start,
+        bytes: &payload[start..end],
+    };
+    let first = index(table, TYPE_TABLE_FIRST_NULLABLE);
     Ok(TypeIndex { count, first })
 }
 
@@ -83,7 +85,11 @@ pub fn index_types(
     if 4294967295 < payload.len() {
         return Err(IndexError::NoRoom);
     }
-    let Some(table) = message(&payload[at..], at as u32, number)? else {
+    let body = Located {
+        base: at,
+        bytes: &payload[at..],
+    };
+    let Some(table) = message(body, number)? else {
         return Ok(TypeIndex {
             count: 0,
             first: None,

@@ -1,16 +1,28 @@
 // Small readers of types: an entry of the type table. Types are walked and written above, in `type_references`. What they tell:
 // specs/told/TypesTold.antt.
-ghost use Rattle.schema.specs.told.SchemaTold.{entries_in};
+ghost use Rattle.std.specs.Prelude.{◌≡◌};
+ghost use Rattle.schema.specs.told.SchemaTold.{entry_nullable, entries_in};
 ghost use Rattle.schema.specs.told.TypesTold.{EntryTold};
 
-use crate::Tables;
-use foundation::{Span, wide};
+use foundation::{Context, Span, Tables, wide};
 use names::records::RECORD_WORDS;
 
-// Where an entry of the type table stands, if there is one at the index.
-pub fn entry_at(payload: &[u8], notes: &[u64], tables: Tables, index: u32) -> Option<Span>
-    ensures { EntryTold payload.now (entries_in tables notes.now) tables.types index result }
+// Is an entry of the type table nullable by its place?
+pub fn is_nullable(tables: Tables, index: u32) -> bool
+    ensures { result ≡ entry_nullable tables.first_nullable index }
 {
+    match tables.first_nullable {
+        Some(first) => first <= index,
+        None => false,
+    }
+}
+
+// Where an entry of the type table stands, if there is one at the index.
+pub fn entry_at(context: &Context<'_>, index: u32) -> Option<Span>
+    ensures { EntryTold context.now.payload.now (entries_in context.now.tables context.now.notes.now) context.now.tables.types index result }
+{
+    let tables = context.tables;
+    let notes = context.notes;
     let i = wide(index);
     if tables.types <= i {
         return None;
@@ -25,7 +37,7 @@ pub fn entry_at(payload: &[u8], notes: &[u64], tables: Tables, index: u32) -> Op
     let place = notes[RECORD_WORDS * records + i];
     let start = (place % 4294967296) as usize;
     let end = (place / 4294967296) as usize;
-    if payload.len() < end {
+    if context.payload.len() < end {
         return None;
     }
     if end < start {

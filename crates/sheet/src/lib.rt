@@ -1,5 +1,5 @@
 // Writing into a lent area. A write is clipped: what stands past the area's end is left out, and nothing else changes, so that an
-// area of length 0 serves to measure. `sets l i vs` is l with vs written over it from place i on.
+// area of length 0 serves to measure. So a place may lie past its area's end, and no slice from the place on can stand for both. `sets l i vs` is l with vs written over it from place i on.
 #![tactic(auto)]
 
 ghost use Rattle.std.specs.Prelude.{◌≡◌, ◌+◌, ◌≤◌, length, set};
@@ -13,6 +13,14 @@ pub struct State {
     pub sheet: usize,
     pub text: usize,
     pub types: usize,
+}
+
+// The two areas that are written into, and how far.
+#[derive(Drop)]
+pub struct Output<'a> {
+    pub sheet: &'a mut [u8],
+    pub text: &'a mut [u8],
+    pub state: State,
 }
 
 // One byte.

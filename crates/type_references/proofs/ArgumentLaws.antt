@@ -25,14 +25,13 @@ use Rattle.declaration_rows.specs.Declarations as declaration
 use Rattle.declaration_rows.specs.Declarations.{star, Ty, projected, blank}
 use Rattle.schema.specs.Reading.{Read, pure, enter, keep, kept, Scope, allowance}
 use Rattle.schema.specs.Types.{max_depth, type_in, projection_in, argument_in, type_at}
-use Rattle.schema.specs.told.SchemaTold.{entries_in, entry_nullable}
+use Rattle.schema.specs.told.SchemaTold.{Lent, entries_in, entry_nullable}
 use Rattle.schema.specs.told.TypesTold.{or_nullable, EntryIs, EntryTold}
 use Rattle.schema.specs.told.PlacesTold.{TableOf}
 use Rattle.schema.specs.told.ArgumentTold.{projection_number, NoStar, ArgumentHeadTold}
 use Rattle.schema.specs.declared.argument.Projection.{Projection}
 use Rattle.schema.specs.declared.argument.ArgumentHead.{ArgumentHead}
 use Rattle.schema.specs.declared.argument.ArgumentHead.TheVariants as head
-use Rattle.schema.specs.declared.Tables.{Tables}
 use Rattle.schema.proofs.ArgumentLaws.{argument-star, star-is, inline-typed, inline-bytes, indexed-typed, indexed-bytes, indexed-index, nothing-typed, nothing-bytes, nothing-index}
 use Rattle.schema.proofs.TypeLaws.{resolve_nothing, resolve_deep, resolve_entry}
 use Rattle.schema.proofs.FoundLaws.{never_given, bind_given, first-same, Passed, next_is, passed-all, next, next-given}
@@ -231,21 +230,21 @@ star-kept c d m l o b e h = go l (sym (ap (λ (r : Read (Option declaration.Argu
     go (suc l) f = ap is_some (first-same f)
 
 -- The same from what the code is told.
-module _ (payload notes : List ℕ) (tables : Tables) (msg : List ℕ) (base left : ℕ) {x : ArgumentHead} (t : ArgumentHeadTold base msg x) where
-  pub kept-star : x ≡ head.Star → KeptTold payload notes tables msg base left true
-  kept-star g = record { is = λ c s m k d deep o l n e. star-kept c d m l o n e (star-is base msg t g m k) }
+module _ (e : Lent) (msg : List ℕ) (base left : ℕ) {x : ArgumentHead} (t : ArgumentHeadTold base msg x) where
+  pub kept-star : x ≡ head.Star → KeptTold e msg base left true
+  kept-star g = record { is = λ c s m k d deep o l n r. star-kept c d m l o n r (star-is base msg t g m k) }
 
-  pub kept-inline : {p : Projection} {a b : ℕ} → x ≡ head.Inline p (span a b) → KeptTold payload notes tables msg base left true
+  pub kept-inline : {p : Projection} {a b : ℕ} → x ≡ head.Inline p (span a b) → KeptTold e msg base left true
   kept-inline {p} {a} {b} g = record {
-    is = λ c s m k d deep o l n e.
-        typed_kept c d m l o n e (inline-typed base msg t g m k) λ u i h.
+    is = λ c s m k d deep o l n r.
+        typed_kept c d m l o n r (inline-typed base msg t g m k) λ u i h.
         body_kept c d m l u i h (part_between base msg a b) ((inline-bytes base msg t g).is m k);
   }
 
-  pub kept-nowhere : x ≡ head.Nothing → KeptTold payload notes tables msg base left false
+  pub kept-nowhere : x ≡ head.Nothing → KeptTold e msg base left false
   kept-nowhere g = record {
-    is = λ c s m k d deep o l n e.
-        typed_kept c d m l o n e (nothing-typed base msg t g m k).1 λ u i h.
+    is = λ c s m k d deep o l n r.
+        typed_kept c d m l o n r (nothing-typed base msg t g m k).1 λ u i h.
         none_dropped c d m l u i h (message_none Type-Argument-type m ((nothing-bytes base msg t g).is m k)) (nothing-index base msg t g m k);
   }
 
@@ -253,36 +252,36 @@ module _ (payload notes : List ℕ) (tables : Tables) (msg : List ℕ) (base lef
     not-inline : (m : Message) → cut (◌from◌ base msg) ≡ ok m → message Type-Argument-type m ≡ ok none
     not-inline m k = message_none Type-Argument-type m ((indexed-bytes base msg t g).is m k)
 
-    pub kept-deep : left ≡ 0 → KeptTold payload notes tables msg base left false
+    pub kept-deep : left ≡ 0 → KeptTold e msg base left false
     kept-deep h = record {
-      is = λ c s m k d deep o l n e.
-          typed_kept c d m l o n e (indexed-typed base msg t g m k) λ u i f.
+      is = λ c s m k d deep o l n r.
+          typed_kept c d m l o n r (indexed-typed base msg t g m k) λ u i f.
           deep-dropped c d m l u i f (not-inline m k) (indexed-index base msg t g m k) (omega arith);
     }
 
-    module _ {z : rust.Option Span} (u : EntryTold payload (entries_in tables notes) tables.types j z) where
-      entry-is : {w : rust.Option Span} → z ≡ w → (c : Scope) → TableOf payload notes tables c → EntryIs payload (get_elem? c.table.types j) w
-      entry-is q c s = subst (EntryIs payload (get_elem? c.table.types j)) q (u.is c.table.types s.entries)
+    module _ {z : rust.Option Span} (u : EntryTold e.payload (entries_in e.tables e.notes) e.tables.types j z) where
+      entry-is : {w : rust.Option Span} → z ≡ w → (c : Scope) → TableOf e.payload e.notes e.tables c → EntryIs e.payload (get_elem? c.table.types j) w
+      entry-is q c s = subst (EntryIs e.payload (get_elem? c.table.types j)) q (u.is c.table.types s.entries)
 
-      pub kept-past : z ≡ None → KeptTold payload notes tables msg base left false
+      pub kept-past : z ≡ None → KeptTold e msg base left false
       kept-past q = record {
-        is = λ c s m k d deep o l n e.
-            typed_kept c d m l o n e (indexed-typed base msg t g m k) λ v i f.
+        is = λ c s m k d deep o l n r.
+            typed_kept c d m l o n r (indexed-typed base msg t g m k) λ v i f.
             nowhere-dropped c d m l v i f (not-inline m k) (indexed-index base msg t g m k) (entry-is q c s);
       }
 
-      pub kept_entry : (left ≡ 0 → ⊥) → {a b : ℕ} → z ≡ Some (span a b) → KeptTold payload notes tables msg base left true
+      pub kept_entry : (left ≡ 0 → ⊥) → {a b : ℕ} → z ≡ Some (span a b) → KeptTold e msg base left true
       kept_entry some_left q = record {
-        is = λ c s m k d deep o l n e.
-            typed_kept c d m l o n e (indexed-typed base msg t g m k) λ v i f.
-            entry_kept c d m l v i f (not-inline m k) (indexed-index base msg t g m k) tables.first_nullable s.nullable (omega arith)
+        is = λ c s m k d deep o l n r.
+            typed_kept c d m l o n r (indexed-typed base msg t g m k) λ v i f.
+            entry_kept c d m l v i f (not-inline m k) (indexed-index base msg t g m k) e.tables.first_nullable s.nullable (omega arith)
             (entry-is q c s).1;
       }
 
-      pub kept-looked : (left ≡ 0 → ⊥) → {r : Bool} → r ≡ found.is_some z → KeptTold payload notes tables msg base left r
-      kept-looked some_left e = rw e (go z refl)
+      pub kept-looked : (left ≡ 0 → ⊥) → {r : Bool} → r ≡ found.is_some z → KeptTold e msg base left r
+      kept-looked some_left h = rw h (go z refl)
         where
-          go : (w : rust.Option Span) → z ≡ w → KeptTold payload notes tables msg base left (found.is_some z)
+          go : (w : rust.Option Span) → z ≡ w → KeptTold e msg base left (found.is_some z)
           go (Some p) q = rw q (kept_entry some_left q)
           go None q = rw q (kept-past q)
 
@@ -331,38 +330,38 @@ module _ (f : Message → Read (Option declaration.Argument)) (base : ℕ) (msg 
         record { later = others; passed = passed_on; all = omega (arith, g.all, ap length given.are, keep-false given.it given.others h) }
 
 -- The loop over the arguments.
-pub record Counting (payload notes : List ℕ) (tables : Tables) (msg : List ℕ) (base left at count : ℕ) : Type 0 where
+pub record Counting (e : Lent) (msg : List ℕ) (base left at count : ℕ) : Type 0 where
   pub few : count ≤ at
-  counted : (c : Scope) → TableOf payload notes tables c → (m : Message) → cut (◌from◌ base msg) ≡ ok m → (ms : List Message)
+  counted : (c : Scope) → TableOf e.payload e.notes e.tables c → (m : Message) → cut (◌from◌ base msg) ≡ ok m → (ms : List Message)
       → messages Type-argument m ≡ ok ms → (d : ℕ) → left ≡ max_depth - d → (ts : List declaration.Argument) (l b : ℕ)
       → kept (argument_in (type_at allowance c) c d) ms l ≡ ok (ts, b)
       → Counted (argument_in (type_at allowance c) c d) base msg at count ts
 
-module _ (payload notes : List ℕ) (tables : Tables) (msg : List ℕ) (base left : ℕ) where
-  pub counting-start : Counting payload notes tables msg base left 0 0
+module _ (e : Lent) (msg : List ℕ) (base left : ℕ) where
+  pub counting-start : Counting e msg base left 0 0
   unfolding messages
   counting-start = record {
     few = omega arith;
-    counted = λ c s m k ms h d deep ts l b e. record {
+    counted = λ c s m k ms h d deep ts l b r. record {
       later = ts;
-      passed = record { rest = m; others = ms; cuts = ap cut (whole base msg) ∙ k; many = h; before = l; after = b; given = e };
+      passed = record { rest = m; others = ms; cuts = ap cut (whole base msg) ∙ k; many = h; before = l; after = b; given = r };
       all = sym (zero-add (length ts));
     };
   }
 
-  module _ (at count : ℕ) (g : Counting payload notes tables msg base left at count) {x : rust.Option Span} (t : NextBodyTold base msg Type-argument at x) where
-    pub counting-end : x ≡ None → CountTold payload notes tables msg base left count
+  module _ (at count : ℕ) (g : Counting e msg base left at count) {x : rust.Option Span} (t : NextBodyTold base msg Type-argument at x) where
+    pub counting-end : x ≡ None → CountTold e msg base left count
     counting-end q = record {
-      is = λ c s m k ms h d deep ts l b e.
-          counted-all (argument_in (type_at allowance c) c d) base msg at count ts (g.counted c s m k ms h d deep ts l b e) t q;
+      is = λ c s m k ms h d deep ts l b r.
+          counted-all (argument_in (type_at allowance c) c d) base msg at count ts (g.counted c s m k ms h d deep ts l b r) t q;
     }
 
     module _ {a b : ℕ} (q : x ≡ Some (span a b)) where
       pub counting-in : (0 < a) × (a ≤ b) × (b ≤ length msg) × (at < b)
       counting-in = let i = subst (PieceInside msg) q t.inside in (i.2, i.0, i.1, subst (PieceAfter at) q t.later)
 
-      module _ {r : Bool} (u : KeptTold payload notes tables (take (b - a) (drop a msg)) (base + a) left r) where
-        argument_is : (c : Scope) → TableOf payload notes tables c → (d : ℕ) → left ≡ max_depth - d → (ts : List declaration.Argument)
+      module _ {r : Bool} (u : KeptTold e (take (b - a) (drop a msg)) (base + a) left r) where
+        argument_is : (c : Scope) → TableOf e.payload e.notes e.tables c → (d : ℕ) → left ≡ max_depth - d → (ts : List declaration.Argument)
             (k : Counted (argument_in (type_at allowance c) c d) base msg at count ts)
             → r ≡ is_some (next-given (argument_in (type_at allowance c) c d) base msg at k.later k.passed t q).it
         argument_is c s d deep ts k =
@@ -371,18 +370,18 @@ module _ (payload notes : List ℕ) (tables : Tables) (msg : List ℕ) (base lef
             let given = next-given f base msg at k.later k.passed t q in
             u.is c s it.first it.cuts d deep given.it k.passed.before given.between given.first
 
-        pub counting_kept : r ≡ true → Counting payload notes tables msg base left b (count + 1)
+        pub counting_kept : r ≡ true → Counting e msg base left b (count + 1)
         counting_kept w = record {
           few = omega (arith, g.few, counting-in);
-          counted = λ c s m k ms h d deep ts l n e.
-              let it = g.counted c s m k ms h d deep ts l n e in
+          counted = λ c s m k ms h d deep ts l n y.
+              let it = g.counted c s m k ms h d deep ts l n y in
               counted-kept (argument_in (type_at allowance c) c d) base msg at count ts it t q (sym w ∙ argument_is c s d deep ts it);
         }
 
-        pub counting-dropped : r ≡ false → Counting payload notes tables msg base left b count
+        pub counting-dropped : r ≡ false → Counting e msg base left b count
         counting-dropped w = record {
           few = omega (arith, g.few, counting-in);
-          counted = λ c s m k ms h d deep ts l n e.
-              let it = g.counted c s m k ms h d deep ts l n e in
+          counted = λ c s m k ms h d deep ts l n y.
+              let it = g.counted c s m k ms h d deep ts l n y in
               counted-dropped (argument_in (type_at allowance c) c d) base msg at count ts it t q (sym w ∙ argument_is c s d deep ts it);
         }

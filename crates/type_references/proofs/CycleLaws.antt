@@ -17,7 +17,7 @@ use Rattle.schema.specs.Reading.{Scope, kept, allowance}
 use Rattle.schema.specs.Types.{argument_in, type_at}
 use Rattle.schema.specs.told.SchemaTold.{Lent, Scoped, entries_in, Ready, Spends, WalkedSpends}
 use Rattle.schema.specs.told.TypesTold.{or_nullable, rows_in, EntryIs, EntryTold, ParseTold}
-use Rattle.schema.specs.declared.Tables.{Tables}
+use Rattle.foundation.specs.declared.Tables.{Tables}
 use Rattle.schema.specs.declared.Stop.{Stop}
 use Rattle.schema.proofs.TypeLaws.{spends_none, spends_then, ready-after}
 use Rattle.schema.proofs.EntryLaws.{entry_in, entry_below}
@@ -105,7 +105,7 @@ module _ (e : Lent) {index : ℕ} {x : Option Span} (t : EntryTold e.payload (en
   entry-fits (nowhere z) = absurd (omega (arith, entry_below e.payload (entries_in e.tables e.notes) e.tables.types index t g))
   entry-fits (no_entry_area z h) = no_area z (entry-alone h)
 
-  pub entry-room : {nest : List ℕ} {left : ℕ} {s : State} → Ready e.payload e.d2 s → left ≤ 64 → FitsEntry e index s.types (length nest)
+  pub entry-room : {nest : List ℕ} {left : ℕ} {s : State} → Ready e s → left ≤ 64 → FitsEntry e index s.types (length nest)
       → ParseRoom e (take (b - a) (drop a e.payload)) nest a (left - 1) s
   entry-room h k f =
       let i = entry_in e.payload (entries_in e.tables e.notes) e.tables.types index t g in
@@ -134,7 +134,7 @@ module _ {e : Lent} {msg : List ℕ} {base left role projection : ℕ} {nullable
     entered-area (no_area z h) k = absurd (k z)
 
     pub entered-room : {nest : List ℕ} → ParseRoom e msg nest base left s → (length nest ≡ 0 → ⊥)
-        → NestRoom e.payload e.d2 msg nest e.tables base less s₁
+        → NestRoom e msg nest base less s₁
     entered-room h k =
         let one = subst (WalkedSpends s) q n.spends in
         record {

@@ -3,7 +3,7 @@
 use mathlib.Core.Path.{◌≡◌, refl, ap, sym, subst, ◌∙◌}
 use mathlib.Core.Bool.{Bool, false, ◌||◌}
 use mathlib.Core.List.{List, [], ◌∷◌, ◌++◌, append-nil}
-use mathlib.Core.Option.{Option}
+use mathlib.Core.Option.{Option, none}
 use Prim.Native.Nat.{ℕ, zero, suc, ◌+◌, ◌-◌, ◌≤◌}
 use native.Mathlib.Nat.{add-zero}
 use native.Mathlib.Omega.{arith}
@@ -18,7 +18,7 @@ use Rattle.wire.specs.Messages.{index, flag, messages}
 use Rattle.messages.specs.told.Asked.{CheckedTold, index_told, bodies}
 use Rattle.wire.specs.declared.WireError.{WireError}
 use Rattle.wire.proofs.WalkLaws.{ok_same}
-use Rattle.names.specs.told.Name.{name_text, source_text, absent_name}
+use Rattle.names.specs.told.Name.{name_text}
 use Rattle.names.specs.declared.name.Name.{Name}
 use Rattle.sheet.specs.Rows.{Cell, num, bit, one_if, Row, row, cell_text, body_text, texts, sheet_from}
 use Rattle.sheet.specs.told.Put.{PutCells, PutRows, past}
@@ -33,7 +33,6 @@ use Rattle.schema.specs.told.SchemaTold.{Lent, NamesOf, Ready, Spends, stop_refu
 use Rattle.schema.specs.told.TypesTold.{or_nullable, rows_in}
 use Rattle.schema.specs.told.PlacesTold.{TableOf}
 use Rattle.schema.specs.told.HeadTold.{HeadTold}
-use Rattle.schema.specs.declared.Tables.{Tables}
 use Rattle.schema.specs.declared.Stop.TheVariants as stop
 use Rattle.schema.specs.declared.head.TypeHead.{TypeHead}
 use Rattle.schema.proofs.HeadLaws.{no-messages}
@@ -41,6 +40,8 @@ use Rattle.schema.proofs.NamedLaws.{cell-length, head-put}
 use Rattle.schema.proofs.ParseLaws.{type_none, of_fields, type_entered, type-uncut, type-done, type_rows_lem}
 use Rattle.type_references.specs.told.Pending.{rows_read, prefixed, argument_rows}
 use Rattle.type_references.specs.told.ParseTold.{CountTold, ArgumentsCut, ArgumentsKept, CountedTold, StarTold, EnterTold}
+use Rattle.std.specs.declared.option.Option as rust
+use Rattle.std.specs.declared.option.Option.TheVariants.{None}
 use Rattle.std.specs.declared.result.Result.{Result}
 use Rattle.std.specs.declared.result.Result.TheVariants.{Ok, Err}
 
@@ -77,11 +78,11 @@ type_put role projection nullable name count s S T {S₄ = S₄} {S₅ = S₅} {
     put-left (row_done 6 (cells ++ (num 2 count ∷ num 1 projection ∷ [])) whole) (put-types written)
 
 -- A row takes no more than is counted for a type.
-row-spends : {payload d2 : List ℕ} {s s' : State} → Ready payload d2 s → 1 ≤ s.types → (role projection : ℕ) (nullable : Bool) (name : Name) (count : ℕ) {S S' T T' : List ℕ}
-    → PutRows (type_row role nullable (name_text payload d2 name) count projection) (s.types - 1) s s' S S' T T' → Spends s s'
-row-spends {payload} {d2} {s} ready some_left role projection nullable name count p =
-    let name-is = name_text payload d2 name in
-    let most = cell-length payload d2 name ready.payload-short ready.d2-short in
+row-spends : {e : Lent} {s s' : State} → Ready e s → 1 ≤ s.types → (role projection : ℕ) (nullable : Bool) (name : rust.Option Name) (count : ℕ) {S S' T T' : List ℕ}
+    → PutRows (type_row role nullable (name_text e.payload e.d2 name) count projection) (s.types - 1) s s' S S' T T' → Spends s s'
+row-spends {e} {s} ready some_left role projection nullable name count p =
+    let name-is = name_text e.payload e.d2 name in
+    let most = cell-length e.payload e.d2 name ready.payload-short ready.d2-short in
     let cells = row-length s.text role nullable name-is count projection in
     let written = ap length (row-text role nullable name-is count projection) in
     record {
@@ -98,15 +99,14 @@ star_entered : (n : ℕ) → 1 ≤ n → enter (pure (projected star blank)) n �
 star_entered zero h = absurd (omega arith)
 star_entered (suc n) h = let less : n ≡ suc n - 1 = omega arith in ap (λ (k : ℕ). ok (projected star blank, k)) less
 
-pub star_done : (payload d2 : List ℕ) (s : State) → Ready payload d2 s → (s.types ≡ 0 → ⊥) → {name : Name} → name ≡ absent_name → {s' : State} {S S' T T' : List ℕ}
-    → PutRows (type_row argument_role false (name_text payload d2 name) 0 star) (s.types - 1) s s' S S' T T' → StarTold s (Ok s') S S' T T'
-unfolding types_rows name_text source_text
-star_done payload d2 s ready h {name} e {s'} {S} {S'} {T} {T'} p =
+pub star_done : (e : Lent) (s : State) → Ready e s → (s.types ≡ 0 → ⊥) → {s' : State} {S S' T T' : List ℕ}
+    → PutRows (type_row argument_role false none 0 star) (s.types - 1) s s' S S' T T' → StarTold s (Ok s') S S' T T'
+unfolding types_rows
+star_done e s ready h p =
     let some_left : 1 ≤ s.types = omega arith in
-    let blank-row = subst (λ (x : Name). PutRows (type_row argument_role false (name_text payload d2 x) 0 star) (s.types - 1) s s' S S' T T') e p in
     record {
-      spends = row-spends ready some_left argument_role star false name 0 p;
-      is = (projected star blank, s.types - 1, star_entered s.types some_left, blank-row);
+      spends = row-spends ready some_left argument_role star false None 0 p;
+      is = (projected star blank, s.types - 1, star_entered s.types some_left, p);
     }
 
 -- A type that is entered: its rows are its own, then those of its arguments, if these are as many as its own row says.
@@ -131,9 +131,9 @@ module _ (c : Scope) (d : ℕ) (m : Message) (n : ℕ) (h : 1 ≤ n) (l : n ≤ 
           ap (rows_read (λ t. rows_in role projection (or_nullable nullable t))) it
 
 -- The arguments of a type are counted: it has none, one isn't cut, or all are.
-module _ (payload notes : List ℕ) (tables : Tables) (msg : List ℕ) (base left : ℕ) where
+module _ (e : Lent) (msg : List ℕ) (base left : ℕ) where
   pub counted_none : ((m : Message) → cut (◌from◌ base msg) ≡ ok m → bodies Type-argument m ≡ [])
-      → CountedTold payload notes tables msg base left (Ok 0)
+      → CountedTold e msg base left (Ok 0)
   unfolding kept
   counted_none h = record {
     cuts = λ m k. ([], no-messages Type-argument m (h m k));
@@ -146,19 +146,19 @@ module _ (payload notes : List ℕ) (tables : Tables) (msg : List ℕ) (base lef
   }
 
   module _ {x : Result Unit WireError} (t : (m : Message) → cut (◌from◌ base msg) ≡ ok m → CheckedTold (messages Type-argument m) x) where
-    pub counted-uncut : {error : WireError} → x ≡ Err error → CountedTold payload notes tables msg base left (Err error)
+    pub counted-uncut : {error : WireError} → x ≡ Err error → CountedTold e msg base left (Err error)
     counted-uncut g = record { cuts = λ m k. subst (CheckedTold (messages Type-argument m)) g (t m k); kept = tt }
 
-    pub counted-all : {count : ℕ} → x ≡ Ok tt → CountTold payload notes tables msg base left count
-        → CountedTold payload notes tables msg base left (Ok count)
+    pub counted-all : {count : ℕ} → x ≡ Ok tt → CountTold e msg base left count
+        → CountedTold e msg base left (Ok count)
     counted-all g n = record { cuts = λ m k. subst (CheckedTold (messages Type-argument m)) g (t m k); kept = n }
 
 module _ (e : Lent) (msg : List ℕ) (base left role projection : ℕ) (nullable : Bool) (s : State) where
   pub enter-none : s.types ≡ 0 → {S S' T T' : List ℕ} → EnterTold e msg base left role projection nullable s (Err stop.TooManyTypes) S S' T T'
   enter-none h = record { spends = tt; one = tt; is = λ c o m k d l. type_none c d m s.types h }
 
-  module _ (ready : Ready e.payload e.d2 s) (h : s.types ≡ 0 → ⊥) {deeper : ℕ} (less : deeper ≡ left - 1) (x : Result ℕ WireError)
-      (t : CountedTold e.payload e.notes e.tables msg base deeper x) where
+  module _ (ready : Ready e s) (h : s.types ≡ 0 → ⊥) {deeper : ℕ} (less : deeper ≡ left - 1) (x : Result ℕ WireError)
+      (t : CountedTold e msg base deeper x) where
     some_left : 1 ≤ s.types
     some_left = omega arith
 
@@ -172,7 +172,7 @@ module _ (e : Lent) (msg : List ℕ) (base left role projection : ℕ) (nullable
           type-uncut c d m s.types some_left ready.room.types error cuts;
     }
 
-    module _ {count : ℕ} (g : x ≡ Ok count) {own : TypeHead} (f : HeadTold base msg own) {either : Bool} (q : either ≡ (nullable || own.nullable)) (name : Name)
+    module _ {count : ℕ} (g : x ≡ Ok count) {own : TypeHead} (f : HeadTold base msg own) {either : Bool} (q : either ≡ (nullable || own.nullable)) (name : rust.Option Name)
         (i : (c : Scope) → NamesOf e.payload e.d2 e.ends e.notes e.tables.records c.names
         → (k : ℕ) (m : Message) → index k m ≡ index_told own.name → (l : ℕ) → class_name_in c k m l ≡ ok (name_text e.payload e.d2 name, l))
         {s' : State} {S S' T T' : List ℕ}
@@ -183,8 +183,8 @@ module _ (e : Lent) (msg : List ℕ) (base left role projection : ℕ) (nullable
         one = omega (arith, put-types p, some_left);
         is = λ c o m k d l.
             let whole : ArgumentsCut (messages Type-argument m) (Ok count) = subst (ArgumentsCut (messages Type-argument m)) g (t.cuts m k) in
-            let few : CountTold e.payload e.notes e.tables msg base deeper count =
-            subst (ArgumentsKept e.payload e.notes e.tables msg base deeper) g t.kept in
+            let few : CountTold e msg base deeper count =
+            subst (ArgumentsKept e msg base deeper) g t.kept in
             let table : TableOf e.payload e.notes e.tables c = record { entries = o.entries; nullable = o.nullable } in
             let deep : deeper ≡ max_depth - (d + 1) = omega arith in
             let name-is = name_text e.payload e.d2 name in

@@ -19,8 +19,6 @@ use Rattle.schema.specs.told.TypesTold.{rows_in, picked_of, ResolveTold, Declare
 use Rattle.type_references.specs.told.OptionalTold.{optional_of, LookedTold, OptionalTold}
 use Rattle.schema.specs.declared.Stop.{Stop}
 use Rattle.schema.proofs.TypeLaws.{spends_none}
-use Rattle.std.specs.declared.option.Option as rust
-use Rattle.std.specs.Prelude.{unwrap_or}
 use Rattle.std.specs.declared.option.Option.TheVariants.{Some, None}
 use Rattle.std.specs.declared.result.Result.TheVariants.{Ok, Err}
 use Rattle.schema.specs.told.SchemaTold.{Walked, Picked}
@@ -72,15 +70,8 @@ pub walked_optional : (s : State) (w : Walked) → w ≡ optional_of s (picked_o
 walked_optional s (Ok s') = refl
 walked_optional s (Err stop) = refl
 
--- what is there or not, once it is known that nothing was refused
-pub optional_ok : (s : State) {p : Picked} {o : rust.Option State} → p ≡ Ok o → {s' : State} → s' ≡ unwrap_or o s → Ok s' ≡ optional_of s p
-optional_ok s {o = o} h e = rw (h, e) (go o)
-  where
-    go : (o : rust.Option State) → Ok (unwrap_or o s) ≡ optional_of s (Ok o)
-    go (Some s') = refl
-    go None = refl
-
-pub looked : {e : Lent} {index role : ℕ} {s : State} (p : Picked) {w : Walked} {S S' T T' : List ℕ}
-    → ResolveTold e index 64 role invariant s p S S' T T' → w ≡ optional_of s p
-    → LookedTold e index role s w S S' T T'
+-- a type by its index is there or not, or refused
+pub looked : {e : Lent} {index left role projection : ℕ} {s : State} (p : Picked) {w : Walked} {S S' T T' : List ℕ}
+    → ResolveTold e index left role projection s p S S' T T' → w ≡ optional_of s p
+    → LookedTold e index left role projection s w S S' T T'
 looked p t q = record { found = p; told = t; is = q }

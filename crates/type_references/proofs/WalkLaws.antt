@@ -32,8 +32,8 @@ use Rattle.schema.specs.Types.{max_depth, resolve_at, argument_in, type_at}
 use Rattle.declaration_rows.specs.Rows.{argument_role}
 use Rattle.schema.specs.told.SchemaTold.{Lent, Scoped, Ready, Spends, WalkedSpends, PickedSpends, WalkedTold, PickedTold, stop_refused}
 use Rattle.schema.specs.told.ArgumentTold.{projection_number, NoStar}
-use Rattle.schema.specs.told.TypesTold.{or_nullable, rows_in, ResolveTold}
-use Rattle.schema.specs.declared.Tables.{Tables}
+use Rattle.schema.specs.told.TypesTold.{or_nullable, rows_in}
+use Rattle.foundation.specs.declared.Tables.{Tables}
 use Rattle.schema.specs.declared.Stop.{Stop}
 use Rattle.schema.specs.declared.Stop.TheVariants as stop
 use Rattle.schema.proofs.TypeLaws.{spends_none, spends_then, ready-after}
@@ -71,6 +71,7 @@ use Rattle.type_references.specs.told.ParseTold.{
   roomy,
   nowhere,
 }
+use Rattle.type_references.specs.told.OptionalTold.{optional_of, LookedTold}
 use Rattle.schema.specs.declared.argument.Projection.{Projection}
 use Rattle.schema.specs.declared.argument.ArgumentHead.{ArgumentHead}
 use Rattle.schema.specs.declared.argument.ArgumentHead.TheVariants as head
@@ -96,7 +97,6 @@ use Rattle.type_references.proofs.PendingLaws.{
   continues-refused,
   continues-done,
 }
-use Rattle.std.specs.Prelude.{unwrap_or}
 use Rattle.std.specs.declared.option.Option as rust
 use Rattle.std.specs.declared.result.Result.{Result}
 use Rattle.std.specs.declared.option.Option.TheVariants.{Some, None}
@@ -175,6 +175,11 @@ pub record Looping (e : Lent) (msg : List ℕ) (base left : ℕ) (s₀ : State) 
   pub going : (c : Scope) → Scoped e c → (m : Message) → cut (◌from◌ base msg) ≡ ok m → (ms : List Message) → messages Type-argument m ≡ ok ms
       → (d : ℕ) → left ≡ max_depth - d
       → Goes (rows_read argument_rows (kept (argument_in (type_at allowance c) c d) ms s₀.types)) c base msg nest height at end deep s₀ s S₀ S T₀ T
+
+-- The loop after an answer, or the refusal of all arguments.
+abbrev LoopAfter : Lent → List ℕ → ℕ → ℕ → State → List ℕ → List ℕ → ℕ → ℕ → ℕ → ℕ → List ℕ → List ℕ → List ℕ → Walked → Type 0
+LoopAfter e msg base left s₀ S₀ T₀ at end deep height S T nest (Ok s) = Looping e msg base left s₀ S₀ T₀ at end deep height s S T nest
+LoopAfter e msg base left s₀ S₀ T₀ at end deep height S T nest (Err stop) = ArgumentsTold e msg base left s₀ (Err stop) S₀ S T₀ T
 
 -- What falls: the bytes of the message that are left here and of what waits, and one for each.
 abbrev pub turns : List ℕ → ℕ → ℕ → ℕ → ℕ
@@ -268,7 +273,7 @@ module _ {e : Lent} {msg : List ℕ} {base left : ℕ} {s₀ : State} {S₀ T₀
   }
 
   module _ {at end deep height : ℕ} {s : State} {S T nest : List ℕ} (g : Looping e msg base left s₀ S₀ T₀ at end deep height s S T nest) where
-    pub loop-ready : {payload d2 : List ℕ} → Ready payload d2 s₀ → Ready payload d2 s
+    pub loop-ready : Ready e s₀ → Ready e s
     loop-ready h = ready-after h g.spends
 
     -- those that wait and the bytes left here are no more than the message has
@@ -497,28 +502,25 @@ module _ {e : Lent} {msg : List ℕ} {base left : ℕ} {s₀ : State} {S₀ T₀
                       omega (arith, pushed, inline_in, body-in)
 
           -- its type by an index
-          module _ {projection : Projection} {i : ℕ} (v : r ≡ Ok (head.ByIndex projection i)) {p : Picked} {S' T' : List ℕ}
-              (n : ResolveTold e i deep argument_role (projection_number projection) s p S S' T T') where
-            resolved-is : {z : Picked} → p ≡ z → (c : Scope) → Scoped e c → (m : Message) → cut (part_between base msg a b) ≡ ok m → (d : ℕ) → deep ≡ max_depth - d
+          module _ {projection : Projection} {i : ℕ} (v : r ≡ Ok (head.ByIndex projection i)) {w : Walked} {S' T' : List ℕ}
+              (n : LookedTold e i deep argument_role (projection_number projection) s w S S' T T') where
+            resolved-is : {z : Picked} → n.found ≡ z → (c : Scope) → Scoped e c → (m : Message) → cut (part_between base msg a b) ≡ ok m → (d : ℕ) → deep ≡ max_depth - d
                 → PickedTold (argument_in (type_at allowance c) c d m s.types) shown_rows s z S S' T T'
             resolved-is {z} h c o m k d l =
                 let j = argument_is v m k in
                 let same = argument-indexed c d m s.types j.2 j.0 j.1 in
-                let found = subst (λ (z : Picked). PickedTold (resolve_at (type_at allowance c) c d i s.types) (rows_in argument_role (projection_number projection)) s z S S' T T') h (n.is c o d l) in
+                let found = subst (λ (z : Picked). PickedTold (resolve_at (type_at allowance c) c d i s.types) (rows_in argument_role (projection_number projection)) s z S S' T T') h (n.told.is c o d l) in
                 subst (λ (r : Res (Option declaration.Argument × ℕ)). PickedTold r shown_rows s z S S' T T') (sym same)
                 (picked_projected (projection_number projection) (resolve_at (type_at allowance c) c d i s.types) s z S S' T T' found)
 
-            pub loop-refused : {stop : Stop} → p ≡ Err stop → ArgumentsTold e msg base left s₀ (Err stop) S₀ S' T₀ T'
-            loop-refused {stop} h = refused_all stop λ c o m k d l. resolved-is h c o m k d l
-
-            module _ {nest' : List ℕ} (f : take height nest' ≡ take height nest) where
-              loop-kept : {s' : State} → p ≡ Ok (Some s') → Looping e msg base left s₀ S₀ T₀ b end deep height s' S' T' nest'
-              loop-kept {s'} h = loop-on s' S' T' nest' f (subst (PickedSpends s) h n.spends) λ c o told go.
+            module _ (nest' : List ℕ) (f : take height nest' ≡ take height nest) where
+              loop-kept : {s' : State} → n.found ≡ Ok (Some s') → Looping e msg base left s₀ S₀ T₀ b end deep height s' S' T' nest'
+              loop-kept {s'} h = loop-on s' S' T' nest' f (subst (PickedSpends s) h n.told.spends) λ c o told go.
                   let next = next-argument go in
                   let it = resolved-is h c o next.first next.cuts go.wait.depth go.here.deep in
                   goes_kept go next nest' f s' S' T' it.2 it.3
 
-              loop-dropped : p ≡ Ok None → Looping e msg base left s₀ S₀ T₀ b end deep height s S' T' nest'
+              loop-dropped : n.found ≡ Ok None → Looping e msg base left s₀ S₀ T₀ b end deep height s S' T' nest'
               loop-dropped h = loop-on s S' T' nest' f (spends_none s) λ c o told go.
                   let next = next-argument go in
                   let it = resolved-is h c o next.first next.cuts go.wait.depth go.here.deep in
@@ -526,11 +528,11 @@ module _ {e : Lent} {msg : List ℕ} {base left : ℕ} {s₀ : State} {S₀ T₀
                   subst (λ (l : List ℕ). Goes told c base msg nest' height b end deep s₀ s S₀ l T₀ T') (sym it.1)
                   (subst (λ (l : List ℕ). Goes told c base msg nest' height b end deep s₀ s S₀ S T₀ l) (sym it.2) same)
 
-              -- what is there or not
-              pub loop-resolved : {o : rust.Option State} → p ≡ Ok o → {s' : State} → s' ≡ unwrap_or o s
-                  → Looping e msg base left s₀ S₀ T₀ b end deep height s' S' T' nest'
-              loop-resolved {o} h {s'} w = subst (λ (z : State). Looping e msg base left s₀ S₀ T₀ b end deep height z S' T' nest') (sym w) (go o h)
-                where
-                  go : (o : rust.Option State) → p ≡ Ok o → Looping e msg base left s₀ S₀ T₀ b end deep height (unwrap_or o s) S' T' nest'
-                  go (Some s') h = loop-kept h
-                  go None h = loop-dropped h
+              -- what is there or not, or refused
+              resolved : (p : Picked) → n.found ≡ p → LoopAfter e msg base left s₀ S₀ T₀ b end deep height S' T' nest' (optional_of s p)
+              resolved (Ok (Some s')) h = loop-kept h
+              resolved (Ok None) h = loop-dropped h
+              resolved (Err stop) h = refused_all stop λ c o m k d l. resolved-is h c o m k d l
+
+              pub loop-resolved : {z : Walked} → w ≡ z → LoopAfter e msg base left s₀ S₀ T₀ b end deep height S' T' nest' z
+              loop-resolved h = subst (λ (z : Walked). LoopAfter e msg base left s₀ S₀ T₀ b end deep height S' T' nest' z) (sym n.is ∙ h) (resolved n.found refl)

@@ -4,11 +4,15 @@
 #![tactic(auto)]
 
 ghost use Rattle.std.specs.Prelude.{◌+◌, ◌≤◌, length};
+ghost use Rattle.sheet.specs.told.Put.{SameAreas};
+ghost use Rattle.declaration_rows.specs.Declarations.{invariant};
 ghost use Rattle.declaration_rows.specs.told.Written.{role_number};
 ghost use Rattle.schema.specs.Reading.{allowance};
+ghost use Rattle.schema.specs.Types.{max_depth};
 ghost use Rattle.schema.specs.told.ArgumentTold.{projection_number};
 ghost use Rattle.schema.specs.told.SchemaTold.{lent, Ready};
 ghost use Rattle.schema.specs.told.TypesTold.{ParseTold};
+ghost use Rattle.schema.specs.told.WroteTold.{walked, Writes};
 ghost use Rattle.type_references.specs.told.ParseTold.{FitsEntry, FitsType};
 ghost use Rattle.type_references.specs.told.OptionalTold.{LookedTold, OptionalTold};
 
@@ -16,12 +20,13 @@ use arguments::{TypeField, type_field};
 use declaration_rows::Role;
 use enter::{Shown, TypePlace};
 use fields::TYPE_ARGUMENT;
+use foundation::{Context, Located};
 use messages::next_body;
 use parse::{parse_at, resolve_at};
 use schema::argument::Projection;
 use schema::types::entry_at;
-use schema::{ALLOWANCE, MAX_DEPTH, Stop, Tables, TypeSlot};
-use sheet::State;
+use schema::{ALLOWANCE, MAX_DEPTH, Stop, TypeSlot};
+use sheet::Output;
 
 mod waiting; // waiting.rt: what waits in a lent area
 mod arguments; // arguments.rt: the arguments of a type
@@ -30,143 +35,98 @@ mod parse; // parse.rt: types inside types
 
 // A type whose message is cut, in an area for so many that wait.
 fn type_in_area<const N: usize>(
-    msg: &[u8],
-    base: u32,
+    msg: Located<'_>,
     place: TypePlace,
-    payload: &[u8],
-    d2: &[u16],
-    ends: &[u32],
-    notes: &[u64],
-    tables: Tables,
-    state: State,
-    sheet: &mut [u8],
-    text: &mut [u8],
-) -> Result<State, Stop>
-    requires { Ready payload.now d2.now state × (base + length msg.now ≤ length payload.now) × (place.left ≤ 64) × FitsType (lent payload.now d2.now ends.now notes.now tables) base msg.now state.types N × (N ≤ allowance) }
-    ensures { ParseTold (lent payload.now d2.now ends.now notes.now tables) msg.now base place.left (role_number place.role) (projection_number place.projection) place.nullable state result sheet.old sheet.new text.old text.new }
+    context: &Context<'_>,
+    out: &mut Output<'_>,
+) -> Result<(), Stop>
+    requires { Ready (lent context.now) out.old.state × (msg.base + length msg.bytes.now ≤ length context.now.payload.now) × (place.left ≤ 64) × FitsType (lent context.now) msg.base msg.bytes.now out.old.state.types N × (N ≤ allowance) }
+    ensures same_areas { SameAreas out.old out.new }
+    ensures written { Writes (ParseTold (lent context.now) msg.entry.bytes.now msg.entry.base place.left (role_number place.role) (projection_number place.projection) place.nullable) out.old (walked result out.new) out.new }
 {
     let mut nest = [0u64; N];
-    parse_at(
-        msg, base, place, payload, d2, ends, notes, tables, state, &mut nest, sheet, text,
-    )
+    parse_at(msg, place, context, &mut nest, out)
 }
 
 // The same in the area that is enough for it. Most have no argument, so that nothing waits: they are lent an empty one, which costs nothing to
 // clear. Where there is no type to look up, as many wait as a message has bytes at most: 1 KB is enough for a short one. Elsewhere as many wait
 // as types may be entered: 16 KB.
 fn own_type(
-    msg: &[u8],
-    base: u32,
+    msg: Located<'_>,
     place: TypePlace,
-    payload: &[u8],
-    d2: &[u16],
-    ends: &[u32],
-    notes: &[u64],
-    tables: Tables,
-    state: State,
-    sheet: &mut [u8],
-    text: &mut [u8],
-) -> Result<State, Stop>
-    requires { Ready payload.now d2.now state × (base + length msg.now ≤ length payload.now) × (place.left ≤ 64) }
-    ensures { ParseTold (lent payload.now d2.now ends.now notes.now tables) msg.now base place.left (role_number place.role) (projection_number place.projection) place.nullable state result sheet.old sheet.new text.old text.new }
+    context: &Context<'_>,
+    out: &mut Output<'_>,
+) -> Result<(), Stop>
+    requires { Ready (lent context.now) out.old.state × (msg.base + length msg.bytes.now ≤ length context.now.payload.now) × (place.left ≤ 64) }
+    ensures same_areas { SameAreas out.old out.new }
+    ensures written { Writes (ParseTold (lent context.now) msg.entry.bytes.now msg.entry.base place.left (role_number place.role) (projection_number place.projection) place.nullable) out.old (walked result out.new) out.new }
 {
-    let Some(_) = next_body(msg, base, TYPE_ARGUMENT, 0) else {
-        return type_in_area::<0>(
-            msg, base, place, payload, d2, ends, notes, tables, state, sheet, text,
-        );
+    let Some(_) = next_body(msg, TYPE_ARGUMENT, 0) else {
+        return type_in_area::<0>(msg, place, context, out);
     };
-    if tables.types == 0 && msg.len() < 128 {
-        return type_in_area::<128>(
-            msg, base, place, payload, d2, ends, notes, tables, state, sheet, text,
-        );
+    if context.tables.types == 0 && msg.bytes.len() < 128 {
+        return type_in_area::<128>(msg, place, context, out);
     }
-    type_in_area::<ALLOWANCE>(
-        msg, base, place, payload, d2, ends, notes, tables, state, sheet, text,
-    )
+    type_in_area::<ALLOWANCE>(msg, place, context, out)
 }
 
 // The type at an index of the type table, or nothing, in an area for so many that wait.
 fn entry_in_area<const N: usize>(
     index: u32,
     role: Role,
-    payload: &[u8],
-    d2: &[u16],
-    ends: &[u32],
-    notes: &[u64],
-    tables: Tables,
-    state: State,
-    sheet: &mut [u8],
-    text: &mut [u8],
-) -> Result<State, Stop>
-    requires { Ready payload.now d2.now state × FitsEntry (lent payload.now d2.now ends.now notes.now tables) index state.types N × (N ≤ allowance) }
-    ensures { LookedTold (lent payload.now d2.now ends.now notes.now tables) index (role_number role) state result sheet.old sheet.new text.old text.new }
+    context: &Context<'_>,
+    out: &mut Output<'_>,
+) -> Result<(), Stop>
+    requires { Ready (lent context.now) out.old.state × FitsEntry (lent context.now) index out.old.state.types N × (N ≤ allowance) }
+    ensures same_areas { SameAreas out.old out.new }
+    ensures written { Writes (LookedTold (lent context.now) index max_depth (role_number role) invariant) out.old (walked result out.new) out.new }
 {
     let mut nest = [0u64; N];
     let shown = Shown {
         role,
         projection: Projection::Invariant,
     };
-    let found = resolve_at(
-        index, MAX_DEPTH, shown, payload, d2, ends, notes, tables, state, &mut nest, sheet, text,
-    )?;
-    Ok(found.unwrap_or(state))
+    resolve_at(index, MAX_DEPTH, shown, context, &mut nest, out)
 }
 
 // The same in the area that is enough for it, as above.
 fn looked_up(
     index: u32,
     role: Role,
-    payload: &[u8],
-    d2: &[u16],
-    ends: &[u32],
-    notes: &[u64],
-    tables: Tables,
-    state: State,
-    sheet: &mut [u8],
-    text: &mut [u8],
-) -> Result<State, Stop>
-    requires { Ready payload.now d2.now state }
-    ensures { LookedTold (lent payload.now d2.now ends.now notes.now tables) index (role_number role) state result sheet.old sheet.new text.old text.new }
+    context: &Context<'_>,
+    out: &mut Output<'_>,
+) -> Result<(), Stop>
+    requires { Ready (lent context.now) out.old.state }
+    ensures same_areas { SameAreas out.old out.new }
+    ensures written { Writes (LookedTold (lent context.now) index max_depth (role_number role) invariant) out.old (walked result out.new) out.new }
 {
-    let Some(entry) = entry_at(payload, notes, tables, index) else {
-        return Ok(state);
+    let Some(entry) = entry_at(context, index) else {
+        return Ok(());
     };
-    let argument = next_body(
-        &payload[entry.start..entry.end],
-        entry.start as u32,
-        TYPE_ARGUMENT,
-        0,
-    );
-    let Some(_) = argument else {
-        return entry_in_area::<0>(
-            index, role, payload, d2, ends, notes, tables, state, sheet, text,
-        );
+    let msg = Located {
+        base: entry.start,
+        bytes: &context.payload[entry.start..entry.end],
     };
-    entry_in_area::<ALLOWANCE>(
-        index, role, payload, d2, ends, notes, tables, state, sheet, text,
-    )
+    let Some(_) = next_body(msg, TYPE_ARGUMENT, 0) else {
+        return entry_in_area::<0>(index, role, context, out);
+    };
+    entry_in_area::<ALLOWANCE>(index, role, context, out)
 }
 
 // A declaration's own type, if it is there: inline in one field of its message, else by its index in another.
 // Callers show `Ready` and that the message is within the payload: the files of members from the `Affords` and `Stands` that they require.
 pub fn declared_type(
-    msg: &[u8],
-    base: u32,
+    msg: Located<'_>,
     slot: TypeSlot,
-    payload: &[u8],
-    d2: &[u16],
-    ends: &[u32],
-    notes: &[u64],
-    tables: Tables,
-    state: State,
-    sheet: &mut [u8],
-    text: &mut [u8],
-) -> Result<State, Stop>
-    requires { Ready payload.now d2.now state × (base + length msg.now ≤ length payload.now) }
-    ensures { OptionalTold (lent payload.now d2.now ends.now notes.now tables) msg.now base slot.inline slot.indexed (role_number slot.role) state result sheet.old sheet.new text.old text.new }
+    context: &Context<'_>,
+    out: &mut Output<'_>,
+) -> Result<(), Stop>
+    requires { Ready (lent context.now) out.old.state × (msg.base + length msg.bytes.now ≤ length context.now.payload.now) }
+    ensures same_areas { SameAreas out.old out.new }
+    ensures written { Writes (OptionalTold (lent context.now) msg.entry.bytes.now msg.entry.base slot.inline slot.indexed (role_number slot.role)) out.old (walked result out.new) out.new }
 {
-    let Some(field) = type_field(msg, base, slot.inline, slot.indexed)? else {
-        return Ok(state);
+    let Some(field) = type_field(msg, slot.inline, slot.indexed)? else {
+        return Ok(());
     };
     match field {
         TypeField::Inline(body) => {
@@ -176,22 +136,8 @@ pub fn declared_type(
                 projection: Projection::Invariant,
                 nullable: false,
             };
-            own_type(
-                &msg[body.start..body.end],
-                base + body.start as u32,
-                place,
-                payload,
-                d2,
-                ends,
-                notes,
-                tables,
-                state,
-                sheet,
-                text,
-            )
+            own_type(msg.part(body), place, context, out)
         }
-        TypeField::ByIndex(index) => looked_up(
-            index, slot.role, payload, d2, ends, notes, tables, state, sheet, text,
-        ),
+        TypeField::ByIndex(index) => looked_up(index, slot.role, context, out),
     }
 }

@@ -1,5 +1,5 @@
-// The wire format: varints and fields in a slice `s` whose first byte has the offset `base` among the decoded bytes. A place in it is
-// `at`. The definitions: specs/Wire.antt; how the answers tell them: specs/told/WireTold.antt.
+// The wire format: varints and fields in a part `s` of the decoded bytes. A place in it is `at`, and has the offset `s.base + at` among
+// them. The definitions: specs/Wire.antt; how the answers tell them: specs/told/WireTold.antt.
 #![tactic(auto)]
 
 ghost use Rattle.std.specs.Prelude.{◌≡◌, List, ℕ, ◌+◌, ◌-◌, ◌^◌, ◌≤◌, ◌<◌, ◌≢◌, false, length, get_or, take, drop, ⊤};
@@ -9,7 +9,7 @@ ghost use Rattle.foundation.specs.Digits.{number};
 ghost use Rattle.wire.specs.Wire.{group, read_fixed, read_value, is_field_number, read_field, read_varint};
 ghost use Rattle.wire.specs.told.WireTold.{rest_of, value_number, piece_of, GroupsTold, VarintAt, DelimitedAt, ValueTold, FieldTold, FieldAt, ShortTold, ShortFieldTold, FieldsNext};
 
-use foundation::{Read, Span};
+use foundation::{Located, Read, Span};
 
 // The refusals of a reading. Each tells the offset, among the decoded bytes, of what was being read.
 #[derive(Clone, Copy, Debug, PartialEq, Eq)]
@@ -35,23 +35,23 @@ fn group_of(byte: u8, earlier: usize) -> u8
 
 // The first step: the continuation bits are dropped. The groups of the varint at a place are written into an area of ten bytes, in the order of
 // its bytes. The answer is how many groups there are, which is how many bytes the varint has. A byte after the tenth makes it oversized.
-fn groups_at(s: &[u8], base: u32, at: usize, groups: &mut [u8]) -> Result<usize, WireError>
-    requires { (at ≤ length s.now) × (length groups.old ≡ 10) }
-    ensures { GroupsTold base s.now at groups.new result }
+fn groups_at(s: Located<'_>, at: usize, groups: &mut [u8]) -> Result<usize, WireError>
+    requires { (at ≤ length s.bytes.now) × (length groups.old ≡ 10) }
+    ensures { GroupsTold s.entry.base s.entry.bytes.now at groups.new result }
 {
-    let place = base as usize + at;
+    let place = s.base + at;
     for count in 0..10 {
         let i = at + count;
-        if s.len() <= i {
+        if s.bytes.len() <= i {
             return Err(WireError::VarintCutShort { place });
         }
-        let byte = s[i];
+        let byte = s.bytes[i];
         groups[count] = group_of(byte, count);
         if byte < 128 {
             return Ok(count + 1);
         }
     }
-    if s.len() <= at + 10 {
+    if s.bytes.len() <= at + 10 {
         return Err(WireError::VarintCutShort { place });
     }
     Err(WireError::OversizedVarint { place })
@@ -71,15 +71,15 @@ fn number_of<const BASE: u64>(digits: &[u8]) -> u64
 
 // A varint of any size, by the encoding guide's two steps: the second joins the groups, from the last to the first. Past the slice's end it is
 // refused as cut short.
-fn long_varint_at(s: &[u8], base: u32, at: usize) -> Result<Read<u64>, WireError>
-    ensures { VarintAt base s.now at result }
+fn long_varint_at(s: Located<'_>, at: usize) -> Result<Read<u64>, WireError>
+    ensures { VarintAt s.entry.base s.entry.bytes.now at result }
 {
-    if s.len() <= at {
-        let place = base as usize + s.len();
+    if s.bytes.len() <= at {
+        let place = s.base + s.bytes.len();
         return Err(WireError::VarintCutShort { place });
     }
     let mut groups = [0u8; 10];
-    let count = groups_at(s, base, at, &mut groups)?;
+    let count = groups_at(s, at, &mut groups)?;
     let value = number_of::<128>(&groups[..count]);
     let next = at + count;
     Ok(Read { value, next })
@@ -112,12 +112,12 @@ fn short_varint(s: &[u8], at: usize) -> Option<Read<u64>>
 }
 
 // The varint at a place. Past the slice's end it is refused as cut short.
-pub fn varint_at(s: &[u8], base: u32, at: usize) -> Result<Read<u64>, WireError>
-    ensures { VarintAt base s.now at result }
+pub fn varint_at(s: Located<'_>, at: usize) -> Result<Read<u64>, WireError>
+    ensures { VarintAt s.entry.base s.entry.bytes.now at result }
 {
-    match short_varint(s, at) {
+    match short_varint(s.bytes, at) {
         Some(read) => Ok(read),
-        None => long_varint_at(s, base, at),
+        None => long_varint_at(s, at),
     }
 }
 
@@ -151,18 +151,24 @@ impl WireValue {
     }
 }
 
-// A number of `width` bytes, the lowest first.
-fn fixed_at(s: &[u8], base: u32, at: usize, width: usize) -> Result<Read<WireValue>, WireError>
-    requires { (width ≤ 8) × (at ≤ length s.now) }
-    ensures { ValueTold base s.now (read_fixed width (rest_of base s.now at)) result }
+// The number that some bytes of a slice give, eight at most, the lowest first.
+fn fixed_number(s: &[u8], at: usize, width: usize) -> u64
+    requires { (width ≤ 8) × (at + width ≤ length s.now) }
+    ensures { result ≡ number 256 (take width (drop at s.now)) }
 {
-    if s.len() - at < width {
-        return Err(WireError::PastItsMessage {
-            place: base as usize + at,
-        });
+    number_of::<256>(&s[at..at + width])
+}
+
+// A number of `width` bytes, the lowest first.
+fn fixed_at(s: Located<'_>, at: usize, width: usize) -> Result<Read<WireValue>, WireError>
+    requires { (width ≤ 8) × (at ≤ length s.bytes.now) }
+    ensures { ValueTold s.entry.base s.entry.bytes.now (read_fixed width (rest_of s.entry.base s.entry.bytes.now at)) result }
+{
+    if s.bytes.len() - at < width {
+        return Err(WireError::PastItsMessage { place: s.base + at });
     }
     let next = at + width;
-    let number = number_of::<256>(&s[at..next]);
+    let number = fixed_number(s.bytes, at, width);
     Ok(Read {
         value: WireValue::Fixed { width, number },
         next,
@@ -170,15 +176,13 @@ fn fixed_at(s: &[u8], base: u32, at: usize, width: usize) -> Result<Read<WireVal
 }
 
 // A length as a varint and that many bytes; past the slice's end refused as its varint is.
-pub fn delimited_at(s: &[u8], base: u32, at: usize) -> Result<Span, WireError>
-    ensures { DelimitedAt base s.now at result }
+pub fn delimited_at(s: Located<'_>, at: usize) -> Result<Span, WireError>
+    ensures { DelimitedAt s.entry.base s.entry.bytes.now at result }
 {
-    let size = varint_at(s, base, at)?;
-    let left = (s.len() - size.next) as u64;
+    let size = varint_at(s, at)?;
+    let left = (s.bytes.len() - size.next) as u64;
     if left < size.value {
-        return Err(WireError::PastItsMessage {
-            place: base as usize + at,
-        });
+        return Err(WireError::PastItsMessage { place: s.base + at });
     }
     Ok(Span {
         start: size.next,
@@ -186,34 +190,28 @@ pub fn delimited_at(s: &[u8], base: u32, at: usize) -> Result<Span, WireError>
     })
 }
 
-// The value after a tag at the offset `place`, by its wire type.
-fn value_at(
-    s: &[u8],
-    base: u32,
-    place: usize,
-    kind: u8,
-    at: usize,
-) -> Result<Read<WireValue>, WireError>
-    requires { at ≤ length s.now }
-    ensures { ValueTold base s.now (read_value place kind (rest_of base s.now at)) result }
+// The value after a tag at the offset `place`, by its wire type: a number, since one that is none of the four is told as it is.
+fn value_at(s: Located<'_>, place: usize, kind: u8, at: usize) -> Result<Read<WireValue>, WireError>
+    requires { at ≤ length s.bytes.now }
+    ensures { ValueTold s.entry.base s.entry.bytes.now (read_value place kind (rest_of s.entry.base s.entry.bytes.now at)) result }
 {
     match kind {
         0 => {
-            let read = varint_at(s, base, at)?;
+            let read = varint_at(s, at)?;
             Ok(Read {
                 value: WireValue::Varint(read.value),
                 next: read.next,
             })
         }
-        1 => fixed_at(s, base, at, 8),
+        1 => fixed_at(s, at, 8),
         2 => {
-            let body = delimited_at(s, base, at)?;
+            let body = delimited_at(s, at)?;
             Ok(Read {
                 value: WireValue::Body(body),
                 next: body.end,
             })
         }
-        5 => fixed_at(s, base, at, 4),
+        5 => fixed_at(s, at, 4),
         _ => Err(WireError::WireType { kind, place }),
     }
 }
@@ -232,18 +230,18 @@ fn is_field_number(number: u32) -> bool
 }
 
 // The field at a place that has this tag. Its number is tested before its wire type.
-fn tagged_at(s: &[u8], base: u32, at: usize, tag: Read<u64>) -> Result<Read<Field>, WireError>
-    requires { (at ≤ length s.now) × (tag.next ≤ length s.now) }
-    ensures { read_varint (rest_of base s.now at) ≡ got tag.value (rest_of base s.now tag.next) → FieldTold base s.now (read_field (rest_of base s.now at)) result }
+fn tagged_at(s: Located<'_>, at: usize, tag: Read<u64>) -> Result<Read<Field>, WireError>
+    requires { (at ≤ length s.bytes.now) × (tag.next ≤ length s.bytes.now) }
+    ensures { read_varint (rest_of s.entry.base s.entry.bytes.now at) ≡ got tag.value (rest_of s.entry.base s.entry.bytes.now tag.next) → FieldTold s.entry.base s.entry.bytes.now (read_field (rest_of s.entry.base s.entry.bytes.now at)) result }
 {
-    let place = base as usize + at;
+    let place = s.base + at;
     let Ok(number) = u32::try_from(tag.value / 8) else {
         return Err(WireError::FieldTooLarge { place });
     };
     if !is_field_number(number) {
         return Err(WireError::ForbiddenField { place });
     }
-    let read = value_at(s, base, place, (tag.value % 8) as u8, tag.next)?;
+    let read = value_at(s, place, (tag.value % 8) as u8, tag.next)?;
     Ok(Read {
         value: Field {
             number,
@@ -297,14 +295,14 @@ fn short_field(s: &[u8], at: usize) -> Option<Read<Field>>
 
 // The field at a place; past the slice's end refused as its tag is.
 #[inline(always)]
-pub fn field_at(s: &[u8], base: u32, at: usize) -> Result<Read<Field>, WireError>
-    ensures { FieldAt base s.now at result }
+pub fn field_at(s: Located<'_>, at: usize) -> Result<Read<Field>, WireError>
+    ensures { FieldAt s.entry.base s.entry.bytes.now at result }
 {
-    if let Some(read) = short_field(s, at) {
+    if let Some(read) = short_field(s.bytes, at) {
         return Ok(read);
     }
-    let tag = varint_at(s, base, at)?;
-    tagged_at(s, base, at, tag)
+    let tag = varint_at(s, at)?;
+    tagged_at(s, at, tag)
 }
 
 // Is a number one of these? A loop of its own, since the library's `contains` isn't inlined: with it a search takes more than twice as long.
@@ -323,8 +321,7 @@ fn is_among<const N: usize>(numbers: [u32; N], number: u32) -> bool
 // field that is refused.
 #[derive(Clone, Copy)]
 pub struct Fields<'a, const N: usize> {
-    s: &'a [u8],
-    base: u32,
+    s: Located<'a>,
     numbers: [u32; N],
     at: usize,
 }
@@ -334,36 +331,31 @@ impl<'a, const N: usize> Iterator for Fields<'a, N> {
 
     ghost can_next = { λ i. ⊤ };
 
-    ghost next_gives = { λ i r t. FieldsNext i.base i.s.now i.numbers i.at r t.at × (t.base ≡ i.base) × (t.s ≡ i.s) × (t.numbers ≡ i.numbers) };
+    ghost next_gives = { λ i r t. FieldsNext i.s.base i.s.bytes.now i.numbers i.at r t.at × (t.s ≡ i.s) × (t.numbers ≡ i.numbers) };
 
-    ghost remaining = { λ i. at_most (length i.s.now - i.at) };
+    ghost remaining = { λ i. at_most (length i.s.bytes.now - i.at) };
 
     #[inline(always)]
     fn next(&mut self) -> Option<Result<Field, WireError>> {
-        let Fields {
-            s,
-            base,
-            numbers,
-            mut at,
-        } = *self;
-        while let Some(read) = short_field(s, at) {
+        let Fields { s, numbers, mut at } = *self;
+        while let Some(read) = short_field(s.bytes, at) {
             if is_among(numbers, read.value.number) {
                 self.at = read.next;
                 return Some(Ok(read.value));
             }
             at = read.next;
         }
-        if s.len() <= at {
+        if s.bytes.len() <= at {
             self.at = at;
             return None;
         }
-        match field_at(s, base, at) {
+        match field_at(s, at) {
             Ok(read) => {
                 self.at = read.next;
                 Some(Ok(read.value))
             }
             Err(error) => {
-                self.at = s.len();
+                self.at = s.bytes.len();
                 Some(Err(error))
             }
         }
@@ -372,17 +364,11 @@ impl<'a, const N: usize> Iterator for Fields<'a, N> {
 
 // The fields with some numbers, from a place on; others may come between them.
 pub fn fields_from<'a, const N: usize>(
-    s: &'a [u8],
-    base: u32,
+    s: Located<'a>,
     numbers: [u32; N],
     at: usize,
 ) -> Fields<'a, N>
-    ensures { (result.s ≡ s.entry) × (result.base ≡ base) × (result.numbers ≡ numbers.entry) × (result.at ≡ at) }
+    ensures { (result.s ≡ s.entry) × (result.numbers ≡ numbers.entry) × (result.at ≡ at) }
 {
-    Fields {
-        s,
-        base,
-        numbers,
-        at,
-    }
+    Fields { s, numbers, at }
 }

@@ -2,6 +2,7 @@
 // value or places, or the refusal with its offset.
 #![tactic(auto)]
 
+use foundation::Located;
 use messages::repeated::Two;
 use std::io;
 use wire::{WireError, WireValue};
@@ -28,12 +29,17 @@ fn print_value(rt: &impl Print, value: WireValue) -> io::Result<()> {
     }
 }
 
+// Some bytes as a whole message: the first has the offset 0.
+fn whole(bytes: &[u8]) -> Located<'_> {
+    Located { base: 0, bytes }
+}
+
 // The fields of a message, up to its end or to what refuses it.
-fn show(rt: &impl Print, name: &str, s: &[u8], base: u32) -> io::Result<()> {
+fn show(rt: &impl Print, name: &str, s: Located<'_>) -> io::Result<()> {
     println!(rt; "{name}")?;
     let mut at = 0;
-    while at < s.len() {
-        let step = wire::field_at(s, base, at);
+    while at < s.bytes.len() {
+        let step = wire::field_at(s, at);
         print!(rt; "  ")?;
         match step {
             Err(error) => return print_refusal(rt, error),
@@ -48,11 +54,11 @@ fn show(rt: &impl Print, name: &str, s: &[u8], base: u32) -> io::Result<()> {
 }
 
 // The numbers of a packed run.
-fn show_packed(rt: &impl Print, name: &str, s: &[u8], base: u32) -> io::Result<()> {
+fn show_packed(rt: &impl Print, name: &str, s: Located<'_>) -> io::Result<()> {
     print!(rt; "{name}\n ")?;
     let mut at = 0;
-    while at < s.len() {
-        let step = wire::varint_at(s, base, at);
+    while at < s.bytes.len() {
+        let step = wire::varint_at(s, at);
         print!(rt; " ")?;
         match step {
             Err(error) => return print_refusal(rt, error),
@@ -77,14 +83,14 @@ fn show_cuts(rt: &impl Print, name: &str, s: &[u8]) -> io::Result<()> {
     println!(rt; "{name}, cut short")?;
     for n in 0..s.len() {
         print!(rt; "  {n} bytes: ")?;
-        print_checked(rt, messages::check(&s[..n], 0))?;
+        print_checked(rt, messages::check(whole(&s[..n])))?;
     }
     Ok(())
 }
 
 fn show_first(rt: &impl Print, name: &str, s: &[u8], number: u32) -> io::Result<()> {
     print!(rt; "{name}\n  first")?;
-    match messages::find(s, 0, number) {
+    match messages::find(whole(s), number) {
         Some(value) => print_value(rt, value),
         None => println!(rt; " nothing"),
     }
@@ -101,50 +107,68 @@ fn print_two(rt: &impl Print, two: Two) -> io::Result<()> {
 // The first two of a repeated number, mod 2^32.
 fn show_two(rt: &impl Print, name: &str, s: &[u8], number: u32) -> io::Result<()> {
     print!(rt; "{name}\n  ")?;
-    match messages::repeated::first_two(s, 0, number) {
+    match messages::repeated::first_two(whole(s), number) {
         Ok(two) => print_two(rt, two),
         Err(error) => print_refusal(rt, error),
     }
 }
 
 fn published(rt: &impl Print) -> io::Result<()> {
-    show(rt, "150", b"\x08\x96\x01", 0)?;
-    show(rt, "testing", b"\x12\x07testing", 0)?;
-    show(rt, "embedded", b"\x1a\x03\x08\x96\x01", 0)?;
-    show(rt, "the message in it", b"\x08\x96\x01", 2)?;
+    show(rt, "150", whole(b"\x08\x96\x01"))?;
+    show(rt, "testing", whole(b"\x12\x07testing"))?;
+    show(rt, "embedded", whole(b"\x1a\x03\x08\x96\x01"))?;
+    show(
+        rt,
+        "the message in it",
+        Located {
+            base: 2,
+            bytes: b"\x08\x96\x01",
+        },
+    )?;
     show(
         rt,
         "hello and 1, 2, 3",
-        b"\x22\x05hello\x28\x01\x28\x02\x28\x03",
-        0,
+        whole(b"\x22\x05hello\x28\x01\x28\x02\x28\x03"),
     )?;
-    show(rt, "packed", b"\x32\x06\x03\x8e\x02\x9e\xa7\x05", 0)?;
-    show_packed(rt, "the numbers in it", b"\x03\x8e\x02\x9e\xa7\x05", 2)
+    show(rt, "packed", whole(b"\x32\x06\x03\x8e\x02\x9e\xa7\x05"))?;
+    show_packed(
+        rt,
+        "the numbers in it",
+        Located {
+            base: 2,
+            bytes: b"\x03\x8e\x02\x9e\xa7\x05",
+        },
+    )
 }
 
 fn numbers(rt: &impl Print) -> io::Result<()> {
-    show(rt, "-2", b"\x08\xfe\xff\xff\xff\xff\xff\xff\xff\xff\x01", 0)?;
-    show(rt, "-1", b"\x08\xff\xff\xff\xff\xff\xff\xff\xff\xff\x01", 0)?;
+    show(
+        rt,
+        "-2",
+        whole(b"\x08\xfe\xff\xff\xff\xff\xff\xff\xff\xff\x01"),
+    )?;
+    show(
+        rt,
+        "-1",
+        whole(b"\x08\xff\xff\xff\xff\xff\xff\xff\xff\xff\x01"),
+    )?;
     show(
         rt,
         "only the lowest bit of the tenth byte",
-        b"\x08\x80\x80\x80\x80\x80\x80\x80\x80\x80\x7e",
-        0,
+        whole(b"\x08\x80\x80\x80\x80\x80\x80\x80\x80\x80\x7e"),
     )?;
     show(
         rt,
         "fixed64 200",
-        b"\x31\xc8\x00\x00\x00\x00\x00\x00\x00",
-        0,
+        whole(b"\x31\xc8\x00\x00\x00\x00\x00\x00\x00"),
     )?;
-    show(rt, "fixed32 200", b"\x35\xc8\x00\x00\x00", 0)?;
+    show(rt, "fixed32 200", whole(b"\x35\xc8\x00\x00\x00"))?;
     show(
         rt,
         "double 25.4",
-        b"\x29\x66\x66\x66\x66\x66\x66\x39\x40",
-        0,
+        whole(b"\x29\x66\x66\x66\x66\x66\x66\x39\x40"),
     )?;
-    show(rt, "float 25.4", b"\x2d\x33\x33\xcb\x41", 0)
+    show(rt, "float 25.4", whole(b"\x2d\x33\x33\xcb\x41"))
 }
 
 fn cut_short(rt: &impl Print) -> io::Result<()> {
@@ -160,45 +184,59 @@ fn cut_short(rt: &impl Print) -> io::Result<()> {
 }
 
 fn wire_types(rt: &impl Print) -> io::Result<()> {
-    show(rt, "wire type 3", b"\x0b", 0)?;
-    show(rt, "wire type 4", b"\x08\x01\x0c", 0)?;
-    show(rt, "wire type 6", b"\x0e\x01", 0)?;
-    show(rt, "wire type 7", b"\x0f\x01", 40)?;
+    show(rt, "wire type 3", whole(b"\x0b"))?;
+    show(rt, "wire type 4", whole(b"\x08\x01\x0c"))?;
+    show(rt, "wire type 6", whole(b"\x0e\x01"))?;
+    show(
+        rt,
+        "wire type 7",
+        Located {
+            base: 40,
+            bytes: b"\x0f\x01",
+        },
+    )?;
     show(
         rt,
         "oversized",
-        b"\x08\xff\xff\xff\xff\xff\xff\xff\xff\xff\xff\x01",
-        0,
+        whole(b"\x08\xff\xff\xff\xff\xff\xff\xff\xff\xff\xff\x01"),
     )?;
-    show(rt, "body one byte past its message", b"\x12\x08testing", 0)?;
+    show(
+        rt,
+        "body one byte past its message",
+        whole(b"\x12\x08testing"),
+    )?;
     show(
         rt,
         "body of 2^64 - 1 bytes",
-        b"\x12\xff\xff\xff\xff\xff\xff\xff\xff\xff\x01",
-        0,
+        whole(b"\x12\xff\xff\xff\xff\xff\xff\xff\xff\xff\x01"),
     )
 }
 
 fn field_numbers(rt: &impl Print) -> io::Result<()> {
-    show(rt, "field 0", b"\x00\x05", 0)?;
-    show(rt, "field 0 with a body", b"\x08\x01\x02\x00", 7)?;
-    show(rt, "field 0 with wire type 3", b"\x03", 0)?;
+    show(rt, "field 0", whole(b"\x00\x05"))?;
+    show(
+        rt,
+        "field 0 with a body",
+        Located {
+            base: 7,
+            bytes: b"\x08\x01\x02\x00",
+        },
+    )?;
+    show(rt, "field 0 with wire type 3", whole(b"\x03"))?;
     show(
         rt,
         "field 0 in a tag of three bytes",
-        b"\x80\x80\x00\x05",
-        0,
+        whole(b"\x80\x80\x00\x05"),
     )?;
-    show(rt, "field 1 in a tag of two bytes", b"\x88\x00\x05", 0)?;
-    show(rt, "field 536,870,911", b"\xf8\xff\xff\xff\x0f\x05", 0)?;
-    show(rt, "field 536,870,912", b"\x80\x80\x80\x80\x10\x05", 0)?;
-    show(rt, "field 2^32 - 1", b"\xf8\xff\xff\xff\x7f\x05", 0)?;
-    show(rt, "field 2^32", b"\x80\x80\x80\x80\x80\x01\x05", 0)?;
+    show(rt, "field 1 in a tag of two bytes", whole(b"\x88\x00\x05"))?;
+    show(rt, "field 536,870,911", whole(b"\xf8\xff\xff\xff\x0f\x05"))?;
+    show(rt, "field 536,870,912", whole(b"\x80\x80\x80\x80\x10\x05"))?;
+    show(rt, "field 2^32 - 1", whole(b"\xf8\xff\xff\xff\x7f\x05"))?;
+    show(rt, "field 2^32", whole(b"\x80\x80\x80\x80\x80\x01\x05"))?;
     show(
         rt,
         "field 2^32 with wire type 7",
-        b"\x87\x80\x80\x80\x80\x01",
-        0,
+        whole(b"\x87\x80\x80\x80\x80\x01"),
     )
 }
 

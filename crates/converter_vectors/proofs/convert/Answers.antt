@@ -9,8 +9,8 @@ slice_bounds-old-end c = search (rules, new-inside)
 pub slice_bounds-old-end-2 : goal.slice_bounds-old-end-2
 slice_bounds-old-end-2 c = search (rules, new-inside)
 
-pub slice_bounds-same-end : goal.slice_bounds-same-end
-slice_bounds-same-end c = search (rules, old-inside)
+pub slice_bounds-eq-end : goal.slice_bounds-eq-end
+slice_bounds-eq-end c = search (rules, old-inside)
 
-pub slice_bounds-same-end-in-Ok-old_to_new : goal.slice_bounds-same-end-in-Ok-old_to_new
-slice_bounds-same-end-in-Ok-old_to_new c = search (rules, old-inside)
+pub slice_bounds-eq-end-in-Ok-old_to_new : goal.slice_bounds-eq-end-in-Ok-old_to_new
+slice_bounds-eq-end-in-Ok-old_to_new c = search (rules, old-inside)

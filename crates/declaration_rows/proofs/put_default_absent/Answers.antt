@@ -1,10 +1,9 @@
-use mathlib.Core.List.{[]}
 use native.Mathlib.Omega.{arith}
 use Rattle.declaration_rows.proofs.WrittenLaws.{default-absent, kind-sheet}
 use Rattle.declaration_rows.proofs.put_default_absent.Goals as goal
 
-pub overflow_add-result : goal.overflow_add-result
-overflow_add-result c = let e = kind-sheet 7 (c.put_kind-begun.ensures []) in omega (arith, c.requires)
+pub overflow_add-out : goal.overflow_add-out
+overflow_add-out c = let e = kind-sheet 7 c.put_kind.ensures.written in omega (arith, c.requires)
 
-pub returns : goal.returns
-returns c = λ T. default-absent c.args.state c.args.sheet.now T (c.put_kind-begun.ensures T) c.put_absent.ensures
+pub returns-clause-written : goal.returns-clause-written
+returns-clause-written c = default-absent c.put_kind.ensures.written c.put_absent.ensures

@@ -1,5 +1,5 @@
 use Rattle.declaration_rows.proofs.WrittenLaws.{init_put}
 use Rattle.declaration_rows.proofs.put_init.Goals as goal
 
-pub returns : goal.returns
-returns c = init_put c.args.state c.args.sheet.now c.args.text.now c.put_all.ensures c.put_ref.ensures
+pub returns-clause-written : goal.returns-clause-written
+returns-clause-written c = init_put c.args.out.now.state c.args.out.now.sheet.now c.args.out.now.text.now c.put_all.ensures c.put_ref.ensures

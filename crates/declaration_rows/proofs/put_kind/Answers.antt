@@ -2,5 +2,5 @@ use Rattle.declaration_rows.specs.told.Written.{record_number}
 use Rattle.declaration_rows.proofs.WrittenLaws.{kind-put}
 use Rattle.declaration_rows.proofs.put_kind.Goals as goal
 
-pub returns : goal.returns
-returns c = λ T. kind-put c.args.state c.args.sheet.now T (record_number c.args.kind) (rw (← c.number_of.ensures) c.put.ensures)
+pub returns-clause-written : goal.returns-clause-written
+returns-clause-written c = kind-put c.args.out.now.state c.args.out.now.sheet.now c.args.out.now.text.now (record_number c.args.kind) (rw (← c.number_of.ensures) c.put.ensures)

@@ -1,5 +1,5 @@
 use Rattle.declaration_rows.proofs.WrittenLaws.{unsigned-put}
 use Rattle.declaration_rows.proofs.put_unsigned.Goals as goal
 
-pub returns : goal.returns
-returns c = λ T. unsigned-put c.args.state c.args.sheet.now T c.put_absent.ensures c.put_absent-2.ensures
+pub returns-clause-written : goal.returns-clause-written
+returns-clause-written c = unsigned-put c.args.out.now.state c.args.out.now.sheet.now c.args.out.now.text.now c.put_absent.ensures c.put_absent-2.ensures

@@ -41,12 +41,12 @@ abbrev pub body_cost : ℕ → ℕ
 body_cost n = 2 ^ 27 * (1 + n)
 
 -- The head is written up to its counts.
-pub record BodyHead (kind : ℕ) (payload d2 ends notes : List ℕ) (records : ℕ) (msg : List ℕ) (base : ℕ) (s s' : State) (S S' T T' : List ℕ) : Type 0 where
+pub record BodyHead (kind : ℕ) (e : Lent) (msg : List ℕ) (base : ℕ) (s s' : State) (S S' T T' : List ℕ) : Type 0 where
   pub name : Option Text
   pub flags : ℕ
   pub put : PutHead 1 (head_cells kind name flags) s.types s s' S S' T T'
   pub spends : Within head_cost s s'
-  pub is : (c : Scope) → NamesOf payload d2 ends notes records c.names → (m : Message) → cut (◌from◌ base msg) ≡ ok m → (l : ℕ)
+  pub is : (c : Scope) → NamesOf e.payload e.d2 e.ends e.notes e.tables.records c.names → (m : Message) → cut (◌from◌ base msg) ≡ ok m → (l : ℕ)
       → head_in (eqb kind 1) c m l ≡ ok (head name flags, l)
 
 -- The constructors of a class; a package has none.

@@ -17,8 +17,8 @@ use Rattle.lookup.specs.told.Strings.{codes_from, SizesOf}
 use Rattle.declaration_rows.specs.Declarations.{Declarations}
 use Rattle.schema.specs.Reading.{TypeTable, allowance}
 use Rattle.schema.specs.Types.{type_table_in}
-use Rattle.schema.specs.told.SchemaTold.{EntriesOf, entries_in}
-use Rattle.schema.specs.declared.Tables.{Tables}
+use Rattle.schema.specs.told.SchemaTold.{Lent, lent_of, EntriesOf, entries_in}
+use Rattle.foundation.specs.declared.Tables.{Tables}
 use Rattle.declarations.specs.Payload.{body_of, payload}
 use Rattle.declarations.specs.declared.payload.Opened.{Opened}
 use Rattle.names.specs.declared.records.IndexError.{IndexError}
@@ -72,9 +72,9 @@ OpenedTold bytes notes (Err (index.Wire error)) = (kind : ℕ) (d2 : ℕ → Res
 OpenedTold bytes notes (Err index.NoRoom) = NotesRoom bytes notes → ⊥
 
 -- All that a reader is lent of the decoded bytes: their tables, and after these the sizes of d2's long strings.
-pub record LentAt (bytes d2 ends notes : List ℕ) (at : ℕ) (tables : Tables) : Type 0 where
-  pub opened : OpenedAt bytes notes at tables
-  pub sizes : ends_fit 0 ends (length d2) ≡ true → SizesOf d2 ends notes
+pub record LentAt (e : Lent) (at : ℕ) : Type 0 where
+  pub opened : OpenedAt e.payload e.notes at e.tables
+  pub sizes : ends_fit 0 e.ends (length e.d2) ≡ true → SizesOf e.d2 e.ends e.notes
 
 -- room for it
 pub record LentRoom (bytes notes : List ℕ) : Type 0 where
@@ -82,6 +82,6 @@ pub record LentRoom (bytes notes : List ℕ) : Type 0 where
   pub long : 3 * length bytes ≤ 2 * codes_from (length notes)
 
 abbrev pub LentTold : List ℕ → List ℕ → List ℕ → List ℕ → Result Opened IndexError → Type 0
-LentTold bytes d2 ends notes (Ok o) = LentAt bytes d2 ends notes o.at o.tables
+LentTold bytes d2 ends notes (Ok o) = LentAt (lent_of bytes d2 ends notes o.tables) o.at
 LentTold bytes d2 ends notes (Err (index.Wire error)) = (kind : ℕ) (strings : ℕ → Res (Option Text)) → payload kind strings bytes ≡ wire_refused error
 LentTold bytes d2 ends notes (Err index.NoRoom) = LentRoom bytes notes → ⊥

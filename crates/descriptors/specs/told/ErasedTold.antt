@@ -5,8 +5,7 @@ use Rattle.std.specs.Prelude as std
 use Rattle.std.specs.Prelude.{Some, None}
 use Rattle.std.proofs.Math.Option.{Option, none, some}
 use Rattle.foundation.specs.Choices.{map_option}
-use Rattle.foundation.specs.Texts.{Text}
-use Rattle.names.specs.told.Name.{name_text}
+use Rattle.names.specs.told.Name.{named_text}
 use Rattle.names.specs.declared.name.Name.{Name}
 use Rattle.declaration_rows.specs.Declarations.{Ty}
 use Rattle.schema.specs.Reading.{Scope}
@@ -37,10 +36,10 @@ TypePartWithin (Some type_part.Bracket) = Unit {0}
 TypePartWithin None = Unit {0}
 
 -- what is printed of a type with this class name
-pub record PrintedPut (payload d2 : List ℕ) (name : Name) (printed : Printed) (at : ℕ) (r : TypePart) (A A' : List ℕ) : Type 0 where
+pub record PrintedPut (e : Lent) (name : Name) (printed : Printed) (at : ℕ) (r : TypePart) (A A' : List ℕ) : Type 0 where
   pub within : TypePartWithin (Some r)
-  pub is : (n : Text) → name_text payload d2 name ≡ some n → (inner : Option Erased)
-      → TypePartIs (map_option print_returned (printed_told (slashed n) inner (Some printed))) inner at (Some r) A A'
+  pub is : (inner : Option Erased)
+      → TypePartIs (map_option print_returned (printed_told (slashed (named_text e.payload e.d2 name)) inner (Some printed))) inner at (Some r) A A'
 
 -- one type, whose message stands from start to end
 pub record TypePartTold (e : Lent) (start end : ℕ) (nullable : Bool) (position : Position) (at : ℕ) (r : std.Option TypePart) (A A' : List ℕ) : Type 0 where

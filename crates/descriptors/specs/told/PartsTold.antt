@@ -21,10 +21,10 @@ use Rattle.descriptors.specs.told.DefaultsTold.{erased_at, PartWithin, PartTold}
 
 -- What a writer of parts starts from: decoded bytes and d2 of 32,768 at most, a message that stands among the decoded bytes, and n bytes
 -- that can be counted from a place on.
-pub record PartRoom (payload d2 msg : List ℕ) (base n at : ℕ) : Type 0 where
-  pub payload-short : length payload ≤ 32768
-  pub d2-short : length d2 ≤ 32768
-  pub stands : Stands payload msg base
+pub record PartRoom (e : Lent) (msg : List ℕ) (base n at : ℕ) : Type 0 where
+  pub payload-short : length e.payload ≤ 32768
+  pub d2-short : length e.d2 ≤ 32768
+  pub stands : Stands e.payload msg base
   pub room : at + n ≤ 2 ^ 61
 
 -- A reading has given this, with some types left before and after.

@@ -3,7 +3,7 @@ use Rattle.lookup.proofs.LookupLaws.{by-none, by-name}
 use Rattle.lookup.proofs.by_record.Goals as goal
 
 pub returns-in_err-words_of : goal.returns-in_err-words_of
-returns-in_err-words_of c = rw c.from_residual.ensures (by-none c.args.notes.now c.args.count c.args.index false c.in_err-words_of.ensures)
+returns-in_err-words_of c = rw c.from_residual.ensures (by-none c.args.context.now.notes.now c.args.context.now.tables.records c.args.index false c.in_err-words_of.ensures)
 
 pub returns : goal.returns
-returns c = by-name c.args.notes.now c.args.count c.args.index c.in_ok-words_of.ensures c.noted.ensures
+returns c = by-name c.args.context.now.notes.now c.args.context.now.tables.records c.args.index c.in_ok-words_of.ensures c.noted.ensures

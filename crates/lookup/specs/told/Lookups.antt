@@ -45,7 +45,7 @@ abbrev pub looked_up : Bool → Names → ℕ → Res (Option Text)
 looked_up class names index = if class then qualified_name names index else string names index
 
 -- what a look-up comes to, by whether a record decides
-abbrev pub DecidedIs : List ℕ → List ℕ → Bool → Names → ℕ → rust.Option Name → Type 0
+abbrev pub DecidedIs : List ℕ → List ℕ → Bool → Names → ℕ → rust.Option (rust.Option Name) → Type 0
 DecidedIs bytes units class names index (Some name) = looked_up class names index ≡ ok (name_text bytes units name)
 DecidedIs bytes units class names index None = string names index ≡ names.d2 index
 
@@ -61,7 +61,7 @@ NotedWords notes count index (Some w) =
     → (r : Record) × (record_at index records ≡ some r) × NoteTold bytes r w.place w.steps
 NotedWords notes count index None = (bytes : List ℕ) (records : List Record) → NotesOf bytes notes count records → record_at index records ≡ none
 
-abbrev pub DecidedTold : List ℕ → ℕ → ℕ → Bool → rust.Option Name → Type 0
+abbrev pub DecidedTold : List ℕ → ℕ → ℕ → Bool → rust.Option (rust.Option Name) → Type 0
 DecidedTold notes count index class r =
     (bytes units : List ℕ) (records : List Record) (d2 : ℕ → Res (Option Text)) → NotesOf bytes notes count records
     → DecidedIs bytes units class (record { records = records; d2 = d2 }) index r

@@ -7,7 +7,7 @@ use Rattle.foundation.specs.Results.{ok, ◌from◌}
 use Rattle.foundation.specs.Texts.{Text}
 use Rattle.fields.specs.Fields.{Function-return_type, Function-receiver_type, Function-return_type_id, Function-receiver_type_id, Function-flags, Function-method_signature}
 use Rattle.wire.specs.Wire.{Message, cut}
-use Rattle.names.specs.told.Name.{name_text}
+use Rattle.names.specs.told.Name.{named_text, name_text}
 use Rattle.names.specs.declared.name.Name.{Name}
 use Rattle.sheet.specs.told.Put.{PutHead, PutRows}
 use Rattle.sheet.specs.declared.State.{State}
@@ -31,15 +31,15 @@ abbrev pub function_head_cost : ℕ
 function_head_cost = 1 + 5 * cell_limit
 
 -- A function's record up to its parameter count, where its signature is accepted or refused later.
-pub record FunctionHead (payload d2 msg : List ℕ) (base : ℕ) (name : Name) (a : Signed) (s s' : State) (S S' T T' : List ℕ) : Type 0 where
+pub record FunctionHead (e : Lent) (msg : List ℕ) (base : ℕ) (name : Name) (a : Signed) (s s' : State) (S S' T T' : List ℕ) : Type 0 where
   pub flags : ℕ
   pub signature : Option Signature
   pub receiver : Bool
   pub flags-are : (m : Message) → cut (◌from◌ base msg) ≡ ok m → flags_in Function-flags m ≡ flags
   pub signature-is : (n : SignatureNames) → a ≡ Ok n
-      → signature ≡ both_of signed (or_else (name_text payload d2 n.name) (name_text payload d2 name)) (name_text payload d2 n.descriptor)
+      → signature ≡ both_of signed (or_else (name_text e.payload e.d2 n.name) (some (named_text e.payload e.d2 name))) (name_text e.payload e.d2 n.descriptor)
   pub receiver-is : ReceiverTold msg base Function-receiver_type Function-receiver_type_id receiver
-  pub put : PutHead 3 (function_cells (name_text payload d2 name) flags signature receiver) s.types s s' S S' T T'
+  pub put : PutHead 3 (function_cells (some (named_text e.payload e.d2 name)) flags signature receiver) s.types s s' S S' T T'
   pub takes : Within function_head_cost s s'
 
 -- what is read after a function's parameters

@@ -5,14 +5,22 @@ use Rattle.foundation.specs.Results.{ok, ◌from◌}
 use Rattle.wire.specs.Wire.{Message, cut}
 use Rattle.wire.specs.Messages.{messages}
 use Rattle.sheet.specs.declared.State.{State}
+use Rattle.sheet.specs.declared.Output.{Output}
 use Rattle.declaration_rows.specs.Rows.{parameter_rows}
 use Rattle.schema.specs.Reading.{each, Scope}
 use Rattle.schema.specs.Members.{parameter_in, parameters_in}
 use Rattle.schema.specs.told.SchemaTold.{Lent, Scoped, WalkedTold}
-use Rattle.schema.specs.told.MembersTold.{Within, ListedWithin, ListedTold, parameter_cost}
+use Rattle.schema.specs.told.MembersTold.{section, Within, ListedWithin, ListedTold, parameter_cost}
+use Rattle.schema.specs.declared.Stop.{Stop}
+use Rattle.std.specs.declared.result.Result.{Result}
 use Rattle.std.specs.declared.result.Result.TheVariants.{Ok, Err}
 use Rattle.schema.specs.told.SchemaTold.{Walked}
 use Rattle.schema.specs.told.MembersTold.{ListWalked}
+
+-- so many are written, up to the state that is left
+abbrev pub section_told : Result ℕ Stop → Output → ListWalked
+section_told (Ok count) o = Ok (section o.state count)
+section_told (Err stop) o = Err stop
 
 abbrev pub WalkedWithin : ℕ → State → Walked → Type 0
 WalkedWithin n s (Ok s') = Within n s s'

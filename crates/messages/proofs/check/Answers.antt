@@ -4,4 +4,4 @@ use Rattle.messages.proofs.check.Goals as goal
 pub returns : goal.returns
 returns c =
     let a = c.args in
-    checked_whole a.base a.s.now c.check_from.result c.check_from.ensures
+    checked_whole a.s.base a.s.bytes.now c.check_from.result c.check_from.ensures

@@ -9,5 +9,5 @@ use Rattle.messages.proofs.check_from.Given as goal
 
 abbrev pub invariant-loop-field : goal.invariant-loop-field
 invariant-loop-field l =
-    Walks l.field-iterator l.base l.s []
-    × ((c : Result Unit WireError) → CheckedTold (cut (rest_of l.base l.s l.field-iterator.at)) c → CheckedTold (cut (rest_of l.base l.s l.at)) c)
+    Walks l.field-iterator l.s.base l.s.bytes.now []
+    × ((c : Result Unit WireError) → CheckedTold (cut (rest_of l.s.base l.s.bytes.now l.field-iterator.at)) c → CheckedTold (cut (rest_of l.s.base l.s.bytes.now l.at)) c)

@@ -1,10 +1,6 @@
-use Prim.Native.Nat.{◌-◌}
-use lib.ListN.{length}
 use Rattle.messages.proofs.BodyLaws.{Cutting}
+use Rattle.messages.proofs.BodiesLaws.{Goes}
 use Rattle.messages.proofs.check_messages.Given as goal
 
-abbrev pub invariant-loop-at : goal.invariant-loop-at
-invariant-loop-at l = Cutting l.number l.base l.s l.at
-
-abbrev pub decreases-loop-at : goal.decreases-loop-at
-decreases-loop-at l = length l.s - l.at
+abbrev pub invariant-loop-body : goal.invariant-loop-body
+invariant-loop-body l = Goes l.body-iterator l.s.base l.s.bytes.now l.number × Cutting l.number l.s.base l.s.bytes.now l.body-iterator.at

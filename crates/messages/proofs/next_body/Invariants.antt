@@ -1,9 +1,9 @@
 use mathlib.Core.List.{[], ◌∷◌}
 use Prim.Native.Nat.{◌≤◌}
 use Rattle.wire.proofs.FieldsLaws.{Walks}
-use Rattle.messages.proofs.BodyLaws.{Bodies}
+use Rattle.messages.proofs.BodyLaws.{BodiesLeft}
 use Rattle.messages.proofs.next_body.Given as goal
 
 abbrev pub invariant-loop-read : goal.invariant-loop-read
 invariant-loop-read l =
-    Walks l.read-iterator l.base l.s (l.number ∷ []) × (l.at ≤ l.read-iterator.at) × Bodies l.number l.base l.s l.at l.read-iterator.at
+    Walks l.read-iterator l.s.base l.s.bytes.now (l.number ∷ []) × (l.at ≤ l.read-iterator.at) × BodiesLeft l.number l.s.base l.s.bytes.now l.at l.read-iterator.at

@@ -110,6 +110,11 @@ abbrev pub PieceBegins : ℕ → rust.Option Span → Type 0
 PieceBegins at (Some p) = at < p.start
 PieceBegins at None = Unit {0}
 
+-- where a walk that stood at a place stands after it gave a piece
+abbrev pub after_body : ℕ → rust.Option Span → ℕ
+after_body at (Some p) = p.end
+after_body at None = at
+
 pub record NextBodyTold (base : ℕ) (s : List ℕ) (n at : ℕ) (r : rust.Option Span) : Type 0 where
   pub is : (m : Message) → cut (rest_of base s at) ≡ ok m → NextIs base s n m r
   pub inside : PieceInside s r

@@ -1,24 +1,35 @@
 -- What the code's Name means: a part of the payload, of the predefined list or of d2, and what is done to its characters.
 -- Assumes nothing.
-use Rattle.std.specs.Prelude.{Bool, false, List, [], ◌∷◌, map, ℕ, ◌-◌, eqb, leb, replicate, if◌then◌else◌}
+use Rattle.std.specs.Prelude.{Bool, false, List, [], ◌∷◌, map, ℕ, ◌-◌, eqb, leb, replicate, if◌then◌else◌, Some, None}
 use Rattle.std.proofs.Math.Option.{Option, none, some}
-use Rattle.foundation.specs.Choices.{map_option, concat}
+use Rattle.std.specs.declared.option.Option as rust
+use Rattle.foundation.specs.Choices.{concat}
 use Rattle.foundation.specs.Texts.{Text, ascii}
+use Rattle.foundation.specs.declared.Span.{Span}
 use Rattle.characters.specs.Characters.{width, between, from_utf8, from_utf16}
 use Rattle.characters.specs.told.Places.{part_from}
 use Rattle.names.specs.Records.{predefined_strings, substituted, dotted, dollars_dotted, without_ends, INTERNAL_TO_CLASS_ID, DESC_TO_CLASS_ID}
 use Rattle.names.specs.declared.name.Name.{Name}
+use Rattle.names.specs.declared.name.Source.{Source}
+use Rattle.names.specs.declared.name.Source.TheVariants.{Payload, Predefined, D2}
+use Rattle.names.specs.declared.name.Operation.{Operation}
+use Rattle.names.specs.declared.name.Operation.TheVariants.{Nothing, InternalToClassId, DescToClassId}
 
 -- the predefined strings one after the other
 unfoldable pub predefined_list : List ℕ
 predefined_list = concat (map ascii predefined_strings)
 
--- the characters that a name is made of
-unfoldable pub source_text : List ℕ → List ℕ → Name → Option Text
-source_text payload d2 n =
-    let units = if eqb n.source 3 then some (from_utf16 (part_from n.start n.end d2)) else none in
-    let listed = if eqb n.source 2 then some (from_utf8 (part_from n.start n.end predefined_list)) else units in
-    if eqb n.source 1 then some (from_utf8 (part_from n.start n.end payload)) else listed
+-- the characters of a part of a source
+unfoldable pub source_text : List ℕ → List ℕ → Source → Span → Text
+source_text payload d2 Payload p = from_utf8 (part_from p.start p.end payload)
+source_text payload d2 Predefined p = from_utf8 (part_from p.start p.end predefined_list)
+source_text payload d2 D2 p = from_utf16 (part_from p.start p.end d2)
+
+-- is it made of bytes, not of units?
+abbrev pub OfBytes : Source → Type 0
+OfBytes Payload = Unit {0}
+OfBytes Predefined = Unit {0}
+OfBytes D2 = ⊥
 
 -- A text made to take n bytes of UTF-8: its characters as long as there is room for the next, then zeros. A text of n bytes stays as it is.
 unfoldable pub fitted : ℕ → Text → Text
@@ -36,10 +47,20 @@ is_measured size = between 1 131072 size
 abbrev pub sized : ℕ → Text → Text
 sized size t = if is_measured size then fitted size t else t
 
--- What a name's operation does to its characters: 1 turns $ and / into dots, 2 turns $ alone. The two characters that operation 2 drops from a
--- record's text are no part of its name.
-unfoldable pub turned : ℕ → Text → Text
-turned op t = if eqb op INTERNAL_TO_CLASS_ID then dotted t else if eqb op DESC_TO_CLASS_ID then dollars_dotted t else t
+-- A record's operation by its number, and its number. One that is neither 1 nor 2 does nothing.
+abbrev pub operation_of : ℕ → Operation
+operation_of op = if eqb op INTERNAL_TO_CLASS_ID then InternalToClassId else if eqb op DESC_TO_CLASS_ID then DescToClassId else Nothing
+
+abbrev pub operation_number : Operation → ℕ
+operation_number Nothing = 0
+operation_number InternalToClassId = INTERNAL_TO_CLASS_ID
+operation_number DescToClassId = DESC_TO_CLASS_ID
+
+-- What a name's operation does to its characters. The two that operation 2 drops from a record's text are no part of its name.
+unfoldable pub turned : Operation → Text → Text
+turned Nothing t = t
+turned InternalToClassId t = dotted t
+turned DescToClassId t = dollars_dotted t
 
 -- what operation 2 drops from a text before its $ are turned
 abbrev pub dropped : ℕ → Text → Text
@@ -51,13 +72,15 @@ stepped_by n t =
     let it = turned n.operation (sized n.size (substituted n.from n.to t)) in
     if n.qualified then dotted it else it
 
--- the name's text, absent if it has no source
-unfoldable pub name_text : List ℕ → List ℕ → Name → Option Text
-name_text payload d2 n = map_option (stepped_by n) (source_text payload d2 n)
+-- the text of a name
+unfoldable pub named_text : List ℕ → List ℕ → Name → Text
+named_text payload d2 n = stepped_by n (source_text payload d2 n.source n.part)
+
+-- the same of a name that may be absent
+abbrev pub name_text : List ℕ → List ℕ → rust.Option Name → Option Text
+name_text payload d2 None = none
+name_text payload d2 (Some n) = some (named_text payload d2 n)
 
 -- a part of a source, with no step
-abbrev pub plain : ℕ → ℕ → ℕ → Name
-plain source start end = record { source = source; start = start; end = end; from = 0; to = 0; operation = 0; qualified = false; size = 0 }
-
-abbrev pub absent_name : Name
-absent_name = plain 0 0 0
+abbrev pub plain : Source → Span → Name
+plain source part = record { source = source; part = part; from = 0; to = 0; operation = Nothing; qualified = false; size = 0 }

@@ -1,18 +1,21 @@
 -- What the code does with a name, in the definitions' words.
 -- Assumes nothing.
 use Rattle.std.specs.Prelude as Std
-use Rattle.std.specs.Prelude.{Some, None, Bool, true, false, ◌||◌, ◌≡◌, List, [], map, ℕ, ◌+◌, ◌≤◌, eqb, leb, length, if◌then◌else◌}
+use Rattle.std.specs.Prelude.{Some, None, Bool, true, false, ◌||◌, ◌≡◌, List, map, ℕ, ◌+◌, leb, length, if◌then◌else◌}
 use Rattle.std.proofs.Math.Option.{Option, none, some}
 use Rattle.std.proofs.lemmas.List.Edits.{sets}
-use Rattle.foundation.specs.Choices.{if_some}
 use Rattle.foundation.specs.Texts.{Text}
 use Rattle.characters.specs.Characters.{width, from_utf8, utf8}
 use Rattle.characters.specs.told.Places.{part_from}
 use Rattle.characters.specs.told.Plain.{instead, with_dots, slashed_character}
 use Rattle.characters.specs.told.CharactersTold.{Character}
-use Rattle.names.specs.told.Name.{predefined_list, sized, name_text}
-use Rattle.names.specs.Records.{INTERNAL_TO_CLASS_ID, DESC_TO_CLASS_ID, substituted}
+use Rattle.names.specs.told.Name.{predefined_list, sized, named_text}
+use Rattle.names.specs.Records.{substituted}
 use Rattle.names.specs.declared.name.Name.{Name}
+use Rattle.names.specs.declared.name.Source.{Source}
+use Rattle.names.specs.declared.name.Source.TheVariants.{Payload, Predefined, D2}
+use Rattle.names.specs.declared.name.Operation.{Operation}
+use Rattle.names.specs.declared.name.Operation.TheVariants.{Nothing, InternalToClassId, DescToClassId}
 use Rattle.names.specs.declared.name.Change.{Change}
 use Rattle.foundation.specs.declared.Read.{Read}
 use Rattle.foundation.specs.declared.Span.{Span}
@@ -22,17 +25,30 @@ abbrev pub listed_text : Std.Option Span → Option Text
 listed_text (Some part) = some (from_utf8 (part_from part.start part.end predefined_list))
 listed_text None = none
 
--- the bytes that a part is taken of
-abbrev pub base_of : ℕ → List ℕ → List ℕ → List ℕ
-base_of source payload list = if eqb source 2 then list else payload
+-- the bytes that a part is taken of, if not the units of d2
+abbrev pub base_of : Source → List ℕ → List ℕ → List ℕ
+base_of Payload payload list = payload
+base_of Predefined payload list = list
+base_of D2 payload list = payload
+
+-- Does an operation turn $ alone? Or / and $?
+abbrev pub turns_dollars : Operation → Bool
+turns_dollars Nothing = false
+turns_dollars InternalToClassId = false
+turns_dollars DescToClassId = true
+
+abbrev pub turns_both : Operation → Bool
+turns_both Nothing = false
+turns_both InternalToClassId = true
+turns_both DescToClassId = false
 
 -- what a name's steps do to each character, with slashes for dots if they are asked for
 abbrev pub change_of : Name → Bool → Change
 change_of n slashes = record {
   from = n.from;
   to = n.to;
-  dollars = eqb n.operation DESC_TO_CLASS_ID;
-  dots = eqb n.operation INTERNAL_TO_CLASS_ID || n.qualified;
+  dollars = turns_dollars n.operation;
+  dots = turns_both n.operation || n.qualified;
   slashes = slashes;
 }
 
@@ -63,9 +79,6 @@ KeepsWidth h = (c : ℕ) → width (changed h c) ≡ width c
 abbrev pub sized_bytes : ℕ → Change → Text → List ℕ
 sized_bytes size h t = utf8 (sized size (map (changed h) t))
 
-abbrev pub source_bytes : ℕ → Change → Option Text → List ℕ
-source_bytes size h t = if_some t [] (sized_bytes size h)
-
 -- What is written next of a text that is made to take `left` bytes more: of a character, it or a zero where it takes too much; at the end
 -- a zero. After a zero the text has ended.
 abbrev pub fitted_of : Change → ℕ → ℕ → Character → Read ℕ
@@ -73,9 +86,9 @@ fitted_of h left end (Some c) =
     if leb (width (changed h c.value)) left then record { value = changed h c.value; next = c.next } else record { value = 0; next = end }
 fitted_of h left end None = record { value = 0; next = end }
 
--- a name's text in UTF-8, with slashes for dots if they are asked for; nothing if it is absent
+-- a name's text in UTF-8, with slashes for dots if they are asked for
 unfoldable pub name_bytes : List ℕ → List ℕ → Name → Bool → List ℕ
-name_bytes payload d2 n slashes = if_some (name_text payload d2 n) [] λ t. utf8 (slashed_text slashes t)
+name_bytes payload d2 n slashes = utf8 (slashed_text slashes (named_text payload d2 n))
 
 -- Bytes were written at a place of an area, and `next` is the place after them.
 pub record PutText (bytes : List ℕ) (at next : ℕ) (before after : List ℕ) : Type 0 where

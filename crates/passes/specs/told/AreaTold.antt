@@ -10,10 +10,11 @@ use Rattle.sheet.specs.declared.State.{State}
 use Rattle.names.specs.Names.{strings_from, d2_string, ends_fit}
 use Rattle.declaration_rows.specs.Declarations.{Declarations}
 use Rattle.schema.specs.Reading.{allowance}
+use Rattle.schema.specs.told.SchemaTold.{Lent}
 use Rattle.declarations.specs.Payload.{payload, declaration_rows}
 use Rattle.declarations.specs.told.PayloadTold.{LentAt}
 use Rattle.declarations.specs.told.BodyTold.{Written}
-use Rattle.passes.specs.declared.Measured.{Measured}
+use Rattle.declarations.specs.declared.body.Sections.{Sections}
 
 -- the action that looks a string of d2 up
 abbrev pub strings : List ℕ → List ℕ → ℕ → Res (Option Text)
@@ -25,22 +26,30 @@ pub record InLimits (bytes d2 ends : List ℕ) : Type 0 where
   pub d2-short : length d2 ≤ unit_limit
   pub fit : ends_fit 0 ends (length d2) ≡ true
 
+-- the same of what is lent
+abbrev pub Limited : Lent → Type 0
+Limited e = InLimits e.payload e.d2 e.ends
+
+-- what is read of the decoded bytes that are lent
+abbrev pub lent_reading : ℕ → Lent → Res (Declarations × ℕ)
+lent_reading kind e = payload kind (strings e.d2 e.ends) e.payload
+
 abbrev pub start : State
 start = record { sheet = 0; text = 0; types = allowance }
 
 -- how far both areas are written, and the types that are left
-abbrev pub last_of : Measured → State
-last_of m = m.sections.aliases.state
+abbrev pub last_of : Sections → State
+last_of b = b.aliases.state
 
 -- The decoded bytes are read, their rows measured, and written where two areas hold them: what is lent is theirs.
-pub record MeasuredAt (kind : ℕ) (bytes d2 ends notes : List ℕ) (m : Measured) (S T : List ℕ) : Type 0 where
-  pub lent : LentAt bytes d2 ends notes m.at m.tables
+pub record MeasuredAt (kind : ℕ) (e : Lent) (at : ℕ) (b : Sections) (S T : List ℕ) : Type 0 where
+  pub lent : LentAt e at
   pub declarations : Declarations
   pub left : ℕ
-  pub reads : payload kind (strings d2 ends) bytes ≡ ok (declarations, left)
+  pub reads : lent_reading kind e ≡ ok (declarations, left)
   pub S₀ : List ℕ
   pub T₀ : List ℕ
-  pub written : Written kind declarations left start m.sections S₀ S T₀ T
+  pub written : Written kind declarations left start b S₀ S T₀ T
 
 -- Both areas hold the rows of what was read, and what they held before past them.
 abbrev pub WrittenOut : ℕ → Res (Declarations × ℕ) → (S S' T T' : List ℕ) → Type 0

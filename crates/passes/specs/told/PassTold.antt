@@ -1,7 +1,7 @@
--- What the code's answers tell of the whole reading: the first pass, an answer or no room.
+-- What the code's answers tell of the whole reading: an answer or no room.
 -- Assumes nothing.
 use Rattle.std.specs.Prelude.{◌≡◌, List, ℕ, ◌*◌, ◌≤◌, length, if◌then◌else◌, Result, Ok, Err}
-use Rattle.foundation.specs.Results.{Res, refused, ◌>>=◌}
+use Rattle.foundation.specs.Results.{Res, ◌>>=◌}
 use Rattle.encoding.specs.Encoding.{decoded}
 use Rattle.encoding.specs.declared.DecodeError.{DecodeError}
 use Rattle.encoding.specs.declared.DecodeError.TheVariants as decode
@@ -9,18 +9,15 @@ use Rattle.lookup.specs.told.Strings.{codes_from}
 use Rattle.declaration_rows.specs.Declarations.{Declarations}
 use Rattle.schema.specs.declared.Stop.TheVariants as stop
 use Rattle.inputs.specs.Inputs.{carries_declarations}
-use Rattle.inputs.specs.told.OutcomesTold.{refusal_cause, refusal_place}
 use Rattle.inputs.specs.declared.Fault.TheVariants as fault
 use Rattle.inputs.specs.declared.outcome.Refusal.TheVariants as refusal
 use Rattle.declarations.specs.Payload.{payload}
-use Rattle.declarations.specs.told.PayloadTold.{LentRoom}
 use Rattle.names.specs.declared.records.IndexError.{IndexError}
 use Rattle.names.specs.declared.records.IndexError.TheVariants as index
 use Rattle.passes.specs.Answered.{nothing_read}
-use Rattle.passes.specs.told.AreaTold.{strings, MeasuredAt}
+use Rattle.passes.specs.told.AreaTold.{strings}
 use Rattle.passes.specs.told.TaskTold.{TaskTold}
 use Rattle.passes.specs.declared.Asked.{Asked}
-use Rattle.passes.specs.declared.Measured.{Measured}
 use Rattle.passes.specs.declared.PassError.{PassError}
 use Rattle.passes.specs.declared.PassError.TheVariants as first
 use Rattle.passes.specs.declared.Reply.{Reply}
@@ -36,11 +33,6 @@ of_decode decode.TooLong = first.Refused (refusal.Fault fault.D1TooLong)
 of_decode decode.Empty = first.Refused refusal.EmptyPayload
 of_decode (decode.NotAByte unit) = first.Refused (refusal.NotAByte unit)
 of_decode decode.NoRoom = first.NoRoom
-
-abbrev pub FirstTold : ℕ → List ℕ → List ℕ → List ℕ → List ℕ → Result Measured PassError → (S T : List ℕ) → Type 0
-FirstTold kind bytes d2 ends notes (Ok measured) S T = MeasuredAt kind bytes d2 ends notes measured S T
-FirstTold kind bytes d2 ends notes (Err (first.Refused r)) S T = payload kind (strings d2 ends) bytes ≡ refused (refusal_cause r) (refusal_place r)
-FirstTold kind bytes d2 ends notes (Err first.NoRoom) S T = LentRoom bytes notes → ⊥
 
 -- The reply to some reading or its refusal, or no room, with both areas as they were.
 abbrev pub PassedTold : Asked → Res (Declarations × ℕ) → Type 0 → Result Reply PassError → (S S' T T' : List ℕ) → Type 0

@@ -8,7 +8,7 @@ use Rattle.characters.specs.Characters.{utf8, from_utf8}
 use Rattle.characters.specs.told.Places.{part_from}
 use Rattle.names.specs.Records.{substituted, dotted}
 use Rattle.names.specs.Names.{unwrapped}
-use Rattle.names.specs.told.Name.{predefined_list, name_text}
+use Rattle.names.specs.told.Name.{predefined_list, named_text}
 use Rattle.names.specs.told.Stream.{base_of}
 use Rattle.names.specs.declared.name.Name.{Name}
 use Rattle.foundation.specs.declared.Span.{Span}
@@ -28,11 +28,10 @@ UnwrapTold s from to (Some p) =
     × (size_with from to s ≡ size_with from to (part_from p.start p.end s) + 2)
 UnwrapTold s from to None = unwrapped (substituted from to (from_utf8 s)) ≡ substituted from to (from_utf8 s)
 
-abbrev pub qualified_part : Name → ℕ → ℕ → Name
-qualified_part n start end = record {
+abbrev pub qualified_part : Name → Span → Name
+qualified_part n part = record {
   source = n.source;
-  start = start;
-  end = end;
+  part = part;
   from = n.from;
   to = n.to;
   operation = n.operation;
@@ -44,12 +43,12 @@ abbrev pub class_text : Option Text → Option Text
 class_text = map_option λ u. dotted (unwrapped u)
 
 -- the size of a part of a name's source, after the replacement
-abbrev pub part_size : List ℕ → Name → ℕ → ℕ → ℕ
-part_size payload n start end = size_with n.from n.to (part_from start end (base_of n.source payload predefined_list))
+abbrev pub part_size : List ℕ → Name → Span → ℕ
+part_size payload n part = size_with n.from n.to (part_from part.start part.end (base_of n.source payload predefined_list))
 
 -- The class name of a name is made of the same part of its source, or of a later one without L and ;.
 pub record ClassTold (payload : List ℕ) (n r : Name) : Type 0 where
-  pub part : r ≡ qualified_part n r.start r.end
-  pub is : (d2 : List ℕ) → name_text payload d2 r ≡ class_text (name_text payload d2 n)
-  pub inside : n.start ≤ n.end → (r.start ≤ n.end) × (r.end ≤ n.end)
-  pub size : part_size payload n n.start n.end ≡ part_size payload n r.start r.end + (if eqb r.start n.start then 0 else 2)
+  pub part : r ≡ qualified_part n r.part
+  pub is : (d2 : List ℕ) → named_text payload d2 r ≡ dotted (unwrapped (named_text payload d2 n))
+  pub inside : n.part.start ≤ n.part.end → (r.part.start ≤ n.part.end) × (r.part.end ≤ n.part.end)
+  pub size : part_size payload n n.part ≡ part_size payload n r.part + (if eqb r.part.start n.part.start then 0 else 2)

@@ -1,6 +1,6 @@
 -- What the code's answers about a record's text tell, in the definitions' words.
 -- Assumes nothing.
-use Rattle.std.specs.Prelude.{◌≡◌, false, List, ℕ, ◌+◌, ◌^◌, ◌≤◌, ◌<◌, eqb, length, if◌then◌else◌, Some, None}
+use Rattle.std.specs.Prelude.{◌≡◌, false, List, ℕ, ◌+◌, ◌^◌, ◌≤◌, ◌<◌, length, Some, None}
 use Rattle.std.proofs.Math.Option.{Option, none, some}
 use Rattle.foundation.specs.Choices.{if_some, map_option}
 use Rattle.foundation.specs.Texts.{Text}
@@ -9,7 +9,7 @@ use Rattle.characters.specs.Characters.{from_utf8}
 use Rattle.characters.specs.told.Places.{part_from}
 use Rattle.characters.specs.Splits.{substring_of}
 use Rattle.names.specs.Records.{text_of, predefined_text, replace_of, operated, stepped}
-use Rattle.names.specs.told.Name.{turned, source_text, name_text, plain}
+use Rattle.names.specs.told.Name.{operation_of, turned, OfBytes, source_text, name_text}
 use Rattle.names.specs.told.RecordTold.{record_told}
 use Rattle.names.specs.declared.records.Record.{Record}
 use Rattle.names.specs.declared.name.Name.{Name}
@@ -40,19 +40,16 @@ PieceFits from (Some p) = (p.start ≤ p.end) × (from + p.end < 2 ^ 64)
 PieceFits from None = Unit {0}
 
 -- the text of a part of a source
-abbrev pub base_in : List ℕ → List ℕ → Base → Option Text
-base_in payload d2 b = source_text payload d2 (plain b.source b.part.start b.part.end)
+abbrev pub base_in : List ℕ → List ℕ → Base → Text
+base_in payload d2 b = source_text payload d2 b.source b.part
 
 abbrev pub text_in : List ℕ → List ℕ → rust.Option Base → Option Text
-text_in payload d2 (Some b) = base_in payload d2 b
+text_in payload d2 (Some b) = some (base_in payload d2 b)
 text_in payload d2 None = none
 
 -- it is made of bytes, not of units
-abbrev pub OfBytes : Base → Type 0
-OfBytes b = (0 < b.source) × (b.source ≤ 2)
-
 abbrev pub IfOfBytes : rust.Option Base → Type 0
-IfOfBytes (Some b) = OfBytes b
+IfOfBytes (Some b) = OfBytes b.source
 IfOfBytes None = Unit {0}
 
 -- what a record's text is made of, whose message begins at `from`: its string or its predefined string
@@ -65,34 +62,35 @@ pub record BaseTold (from : ℕ) (string : rust.Option Span) (index : rust.Optio
 -- the part of a part that a step gives
 pub record StepTold (payload : List ℕ) (step : Text → Option Text) (base : Base) (r : rust.Option Base) : Type 0 where
   pub bytes : IfOfBytes r
-  pub is : (d2 : List ℕ) → if_some (base_in payload d2 base) none step ≡ text_in payload d2 r
+  pub is : (d2 : List ℕ) → step (base_in payload d2 base) ≡ text_in payload d2 r
 
 -- the part of a part that is left by something that drops characters
 pub record LeftTold (payload : List ℕ) (base : Base) (drops : Text → Text) (r : Base) : Type 0 where
-  pub bytes : OfBytes r
-  pub is : (d2 : List ℕ) → map_option drops (base_in payload d2 base) ≡ base_in payload d2 r
-
-abbrev pub known : ℕ → ℕ
-known operation = if eqb operation 1 then 1 else if eqb operation 2 then 2 else 0
+  pub bytes : OfBytes r.source
+  pub is : (d2 : List ℕ) → drops (base_in payload d2 base) ≡ base_in payload d2 r
 
 -- replacement and operation of a text
-abbrev pub with_steps : Option (ℕ × ℕ) → ℕ → Option Text → Option Text
-with_steps replaced operation text = if_some text none λ t. map_option (operated operation) (stepped replace_of replaced t)
+abbrev pub with_steps : Option (ℕ × ℕ) → ℕ → Text → Option Text
+with_steps replaced operation t = map_option (operated operation) (stepped replace_of replaced t)
 
 -- the same of a text from which the operation has dropped what it drops
-abbrev pub turned_steps : Option (ℕ × ℕ) → ℕ → Option Text → Option Text
-turned_steps replaced operation text = if_some text none λ t. map_option (turned operation) (stepped replace_of replaced t)
+abbrev pub turned_steps : Option (ℕ × ℕ) → ℕ → Text → Option Text
+turned_steps replaced operation t = map_option (turned (operation_of operation)) (stepped replace_of replaced t)
 
 -- a name that is made of bytes, not of units, and is no class name yet; its size isn't noted yet
 abbrev pub BytesName : Name → Type 0
-BytesName n = (n.source ≤ 2) × (n.qualified ≡ false) × (n.operation < 4) × (n.from < 2097152) × (n.to < 2097152) × (n.size ≡ 0)
+BytesName n = OfBytes n.source × (n.qualified ≡ false) × (n.from < 2097152) × (n.to < 2097152) × (n.size ≡ 0)
 
-pub record StepsTold (base : Base) (replaced : Option (ℕ × ℕ)) (operation : ℕ) (r : Name) : Type 0 where
-  pub bytes : base.source ≤ 2 → BytesName r
+abbrev pub IfBytesName : rust.Option Name → Type 0
+IfBytesName (Some n) = BytesName n
+IfBytesName None = Unit {0}
+
+pub record StepsTold (base : Base) (replaced : Option (ℕ × ℕ)) (operation : ℕ) (r : rust.Option Name) : Type 0 where
+  pub bytes : OfBytes base.source → IfBytesName r
   pub is : (payload d2 : List ℕ) → name_text payload d2 r ≡ turned_steps replaced operation (base_in payload d2 base)
 
 -- the name that a record builds, whose message begins at `from`
-pub record BuiltTold (payload : List ℕ) (from : ℕ) (read : Record) (r : Name) : Type 0 where
-  pub bytes : BytesName r
+pub record BuiltTold (payload : List ℕ) (from : ℕ) (read : Record) (r : rust.Option Name) : Type 0 where
+  pub bytes : IfBytesName r
   pub is : (d2 : List ℕ) (end : ℕ) → PieceInside (part_from from end payload) read.string
       → name_text payload d2 r ≡ text_of (record_told from (part_from from end payload) read)

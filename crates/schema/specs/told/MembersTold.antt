@@ -29,9 +29,9 @@ abbrev pub counted : State → ℕ
 counted s = s.sheet + s.text + (type_length + name_limit) * s.types
 
 -- What a reader of members starts from: decoded bytes and d2 of 32,768 at most, and n bytes more that can be counted.
-pub record Affords (payload d2 : List ℕ) (n : ℕ) (s : State) : Type 0 where
-  pub payload-short : length payload ≤ 32768
-  pub d2-short : length d2 ≤ 32768
+pub record Affords (e : Lent) (n : ℕ) (s : State) : Type 0 where
+  pub payload-short : length e.payload ≤ 32768
+  pub d2-short : length e.d2 ≤ 32768
   pub types : s.types ≤ allowance
   pub room : counted s + n ≤ 2 ^ 61
 

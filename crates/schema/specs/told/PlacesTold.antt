@@ -5,6 +5,7 @@ use Rattle.std.proofs.Math.Option.{Option, none, some}
 use Rattle.std.specs.declared.option.Option as rust
 use Rattle.std.specs.declared.option.Option.TheVariants.{Some, None}
 use Rattle.foundation.specs.Results.{ok}
+use Rattle.foundation.specs.declared.Tables.{Tables}
 use Rattle.fields.specs.Fields.{Type-argument}
 use Rattle.wire.specs.Wire.{Message}
 use Rattle.wire.specs.Messages.{messages}
@@ -14,7 +15,6 @@ use Rattle.schema.specs.Reading.{Scope, kept, allowance}
 use Rattle.schema.specs.Types.{max_depth, resolve_at, type_in, argument_in, type_at, declared_type}
 use Rattle.schema.specs.told.SchemaTold.{EntryAt, EntriesOf, entries_in}
 use Rattle.schema.specs.told.TypesTold.{or_nullable}
-use Rattle.schema.specs.declared.Tables.{Tables}
 use Rattle.schema.specs.declared.FoundType.{FoundType}
 
 abbrev pub found_type : ℕ → ℕ → Bool → ℕ → FoundType

@@ -8,6 +8,8 @@ use Rattle.std.specs.declared.option.Option.TheVariants.{Some, None}
 use Rattle.std.specs.declared.result.Result.{Result}
 use Rattle.std.specs.declared.result.Result.TheVariants.{Ok, Err}
 use Rattle.foundation.specs.Results.{Res, ok, refused, Cause, too_many_types, ◌from◌}
+use Rattle.foundation.specs.declared.Tables.{Tables}
+use Rattle.foundation.specs.declared.Context.{Context}
 use Rattle.wire.specs.Wire.{Message, cut}
 use Rattle.messages.specs.told.Asked.{index_told}
 use Rattle.wire.specs.told.WireTold.{wire_cause, wire_place}
@@ -20,7 +22,6 @@ use Rattle.sheet.specs.Rows.{Row}
 use Rattle.sheet.specs.told.Put.{PutRows}
 use Rattle.sheet.specs.declared.State.{State}
 use Rattle.schema.specs.Reading.{Scope, allowance}
-use Rattle.schema.specs.declared.Tables.{Tables}
 use Rattle.schema.specs.declared.Stop.{Stop}
 use Rattle.schema.specs.declared.Stop.TheVariants.{Wire, TooManyTypes}
 
@@ -51,14 +52,17 @@ pub record Lent : Type 0 where
   pub notes : List ℕ
   pub tables : Tables
 
-abbrev pub lent : List ℕ → List ℕ → List ℕ → List ℕ → Tables → Lent
-lent payload d2 ends notes tables = record {
+abbrev pub lent_of : List ℕ → List ℕ → List ℕ → List ℕ → Tables → Lent
+lent_of payload d2 ends notes tables = record {
   payload = payload;
   d2 = d2;
   ends = ends;
   notes = notes;
   tables = tables;
 }
+
+abbrev pub lent : Context → Lent
+lent c = lent_of c.payload.now c.d2.now c.ends.now c.notes.now c.tables
 
 -- an entry of the type table from start to end of the decoded bytes
 pub record EntryAt (payload : List ℕ) (start end : ℕ) (m : Message) : Type 0 where
@@ -113,9 +117,9 @@ pub record TypeRoom (s : State) : Type 0 where
   pub types : s.types ≤ allowance
 
 -- What a reader starts from: decoded bytes and d2 of 32,768 at most, and room.
-pub record Ready (payload d2 : List ℕ) (s : State) : Type 0 where
-  pub payload-short : length payload ≤ 32768
-  pub d2-short : length d2 ≤ 32768
+pub record Ready (e : Lent) (s : State) : Type 0 where
+  pub payload-short : length e.payload ≤ 32768
+  pub d2-short : length e.d2 ≤ 32768
   pub room : TypeRoom s
 
 -- A step that enters types writes no more than is counted for them.

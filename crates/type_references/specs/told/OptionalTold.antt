@@ -4,8 +4,7 @@ use Rattle.std.specs.Prelude.{◌≡◌, List, ℕ}
 use Rattle.foundation.specs.Results.{ok, ◌from◌}
 use Rattle.wire.specs.Wire.{Message, cut}
 use Rattle.sheet.specs.declared.State.{State}
-use Rattle.declaration_rows.specs.Declarations.{invariant}
-use Rattle.schema.specs.Types.{max_depth, declared_type}
+use Rattle.schema.specs.Types.{declared_type}
 use Rattle.schema.specs.Reading.{Scope}
 use Rattle.declaration_rows.specs.Rows.{type_rows}
 use Rattle.schema.specs.told.SchemaTold.{Lent, Scoped, WalkedSpends, WalkedTold}
@@ -20,10 +19,10 @@ optional_of s (Ok (Some s')) = Ok s'
 optional_of s (Ok None) = Ok s
 optional_of s (Err stop) = Err stop
 
--- a type by its index, from depth 0
-pub record LookedTold (e : Lent) (index role : ℕ) (s : State) (r : Walked) (S S' T T' : List ℕ) : Type 0 where
+-- a type by its index
+pub record LookedTold (e : Lent) (index left role projection : ℕ) (s : State) (r : Walked) (S S' T T' : List ℕ) : Type 0 where
   pub found : Picked
-  pub told : ResolveTold e index max_depth role invariant s found S S' T T'
+  pub told : ResolveTold e index left role projection s found S S' T T'
   pub is : r ≡ optional_of s found
 
 -- the type and its rows, or nothing and none

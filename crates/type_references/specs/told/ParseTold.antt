@@ -22,7 +22,7 @@ use Rattle.schema.specs.told.SchemaTold.{Lent, Scoped, Ready, WalkedSpends, Walk
 use Rattle.schema.specs.told.PlacesTold.{TableOf}
 use Rattle.schema.specs.told.ArgumentTold.{projection_number, NoStar}
 use Rattle.schema.specs.told.TypesTold.{or_nullable, rows_in}
-use Rattle.schema.specs.declared.Tables.{Tables}
+use Rattle.foundation.specs.declared.Tables.{Tables}
 use Rattle.type_references.specs.told.Pending.{rows_read, prefixed, shown_rows, argument_rows}
 use Rattle.type_references.specs.declared.arguments.TypeField.{TypeField}
 use Rattle.type_references.specs.declared.arguments.TypeField.TheVariants as field
@@ -78,13 +78,13 @@ pub record ArgumentTold (base : ℕ) (msg : List ℕ) (a b : ℕ) (r : Result Ar
   pub inside : ArgumentInside a b r
 
 -- An argument is kept, if it is read at all.
-pub record KeptTold (payload notes : List ℕ) (tables : Tables) (msg : List ℕ) (base left : ℕ) (r : Bool) : Type 0 where
-  pub is : (c : Scope) → TableOf payload notes tables c → (m : Message) → cut (◌from◌ base msg) ≡ ok m → (d : ℕ) → left ≡ max_depth - d
+pub record KeptTold (e : Lent) (msg : List ℕ) (base left : ℕ) (r : Bool) : Type 0 where
+  pub is : (c : Scope) → TableOf e.payload e.notes e.tables c → (m : Message) → cut (◌from◌ base msg) ≡ ok m → (d : ℕ) → left ≡ max_depth - d
       → (o : Option declaration.Argument) (l b : ℕ) → argument_in (type_at allowance c) c d m l ≡ ok (o, b) → r ≡ is_some o
 
 -- How many arguments of a type are kept, if they are read at all.
-pub record CountTold (payload notes : List ℕ) (tables : Tables) (msg : List ℕ) (base left r : ℕ) : Type 0 where
-  pub is : (c : Scope) → TableOf payload notes tables c → (m : Message) → cut (◌from◌ base msg) ≡ ok m → (ms : List Message)
+pub record CountTold (e : Lent) (msg : List ℕ) (base left r : ℕ) : Type 0 where
+  pub is : (c : Scope) → TableOf e.payload e.notes e.tables c → (m : Message) → cut (◌from◌ base msg) ≡ ok m → (ms : List Message)
       → messages Type-argument m ≡ ok ms → (d : ℕ) → left ≡ max_depth - d → (ts : List declaration.Argument) (l b : ℕ)
       → kept (argument_in (type_at allowance c) c d) ms l ≡ ok (ts, b) → r ≡ length ts
 
@@ -93,13 +93,13 @@ abbrev pub ArgumentsCut : Res (List Message) → Result ℕ WireError → Type 0
 ArgumentsCut r (Ok n) = (ms : List Message) × (r ≡ ok ms)
 ArgumentsCut r (Err error) = r ≡ wire_refused error
 
-abbrev pub ArgumentsKept : (payload notes : List ℕ) → Tables → List ℕ → (base left : ℕ) → Result ℕ WireError → Type 0
-ArgumentsKept payload notes tables msg base left (Ok n) = CountTold payload notes tables msg base left n
-ArgumentsKept payload notes tables msg base left (Err error) = Unit {0}
+abbrev pub ArgumentsKept : Lent → List ℕ → (base left : ℕ) → Result ℕ WireError → Type 0
+ArgumentsKept e msg base left (Ok n) = CountTold e msg base left n
+ArgumentsKept e msg base left (Err error) = Unit {0}
 
-pub record CountedTold (payload notes : List ℕ) (tables : Tables) (msg : List ℕ) (base left : ℕ) (r : Result ℕ WireError) : Type 0 where
+pub record CountedTold (e : Lent) (msg : List ℕ) (base left : ℕ) (r : Result ℕ WireError) : Type 0 where
   pub cuts : (m : Message) → cut (◌from◌ base msg) ≡ ok m → ArgumentsCut (messages Type-argument m) r
-  pub kept : ArgumentsKept payload notes tables msg base left r
+  pub kept : ArgumentsKept e msg base left r
 
 -- A type is entered: its own row is written, and those of its arguments are to follow.
 abbrev pub EnteredIs : Scope → ℕ → Message → (role projection : ℕ) → Bool → State → Walked → (S S' T T' : List ℕ) → Type 0
@@ -157,15 +157,15 @@ pub data FitsEntry (e : Lent) (index types room : ℕ) : Type 0 where
   no_entry_area : room ≡ 0 → AloneEntry e index → FitsEntry e index types room
 
 -- What a walk of arguments starts from.
-pub record NestRoom (payload d2 msg nest : List ℕ) (tables : Tables) (base left : ℕ) (s : State) : Type 0 where
-  pub ready : Ready payload d2 s
-  pub inside : base + length msg ≤ length payload
+pub record NestRoom (e : Lent) (msg nest : List ℕ) (base left : ℕ) (s : State) : Type 0 where
+  pub ready : Ready e s
+  pub inside : base + length msg ≤ length e.payload
   pub deep : left ≤ max_depth
-  pub room : WaitingRoom tables s.types (length msg) (length nest)
+  pub room : WaitingRoom e.tables s.types (length msg) (length nest)
 
 -- What the reading of a type starts from.
 pub record ParseRoom (e : Lent) (msg nest : List ℕ) (base left : ℕ) (s : State) : Type 0 where
-  pub ready : Ready e.payload e.d2 s
+  pub ready : Ready e s
   pub inside : base + length msg ≤ length e.payload
   pub deep : left ≤ max_depth
   pub room : FitsType e base msg s.types (length nest)

@@ -8,7 +8,7 @@ use Rattle.wire.proofs.groups_at.Given as goal
 
 abbrev pub invariant-loop-count : goal.invariant-loop-count
 invariant-loop-count l = record {
-  read : onward l.place l.base l.s l.at l.count l.groups ≡ read_groups (rest_of l.base l.s l.at);
+  read : onward l.place l.s.base l.s.bytes.now l.at l.count l.groups ≡ read_groups (rest_of l.s.base l.s.bytes.now l.at);
   room : length l.groups ≡ 10;
-  inside : l.at + l.count ≤ length l.s;
+  inside : l.at + l.count ≤ length l.s.bytes.now;
 }

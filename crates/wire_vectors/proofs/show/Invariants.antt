@@ -3,4 +3,4 @@ use Rattle.std.proofs.Common.{length, ◌-◌}
 use Rattle.wire_vectors.proofs.show.Given as goal
 
 abbrev pub decreases-loop-at : goal.decreases-loop-at
-decreases-loop-at g l = length l.s - l.at
+decreases-loop-at g l = length l.s.bytes.now - l.at

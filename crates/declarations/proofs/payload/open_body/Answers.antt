@@ -1,4 +1,4 @@
-use Rattle.schema.proofs.AnswerLaws.{handed_on}
+use Rattle.foundation.proofs.ErrorLaws.{handed_on}
 use Rattle.declarations.proofs.PayloadLaws.{body_refused, body_unnoted, body_open}
 use Rattle.declarations.proofs.payload.open_body.Goals as goal
 

@@ -1,4 +1,4 @@
-use Rattle.schema.proofs.AnswerLaws.{handed_on}
+use Rattle.foundation.proofs.ErrorLaws.{handed_on}
 use native.Mathlib.Omega.{arith}
 use lib.ListN.{length-take}
 use Rattle.lookup.proofs.StringLaws.{codes_inside}

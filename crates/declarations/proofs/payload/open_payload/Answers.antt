@@ -1,5 +1,5 @@
 use native.Mathlib.Omega.{arith}
-use Rattle.schema.proofs.AnswerLaws.{handed_on}
+use Rattle.foundation.proofs.ErrorLaws.{handed_on}
 use Rattle.declarations.proofs.PayloadLaws.{payload-refused, payload_too_long}
 use Rattle.declarations.proofs.payload.open_payload.Goals as goal
 

@@ -1,6 +1,6 @@
 use native.Mathlib.Omega.{arith}
 use lib.ListN.{length-take}
-use Rattle.schema.proofs.AnswerLaws.{handed_on}
+use Rattle.foundation.proofs.ErrorLaws.{handed_on}
 use Rattle.declarations.proofs.PayloadLaws.{table-refused, records_unnoted, records-long, opened-then}
 use Rattle.declarations.proofs.payload.open_table.Goals as goal
 

@@ -5,14 +5,14 @@ use Rattle.descriptors.proofs.FunctionLaws.{after-suspended, after-returned}
 use Rattle.descriptors.proofs.defaults.after_part.Goals as goal
 
 pub returns-then-suspends : goal.returns-then-suspends
-returns-then-suspends c = after-suspended (lent c.args.payload.now c.args.d2.now c.args.ends.now c.args.notes.now c.args.tables) c.args.msg.now c.args.base c.args.at c.requires.stands c.suspends.ensures c.if-suspends.true c.put_suspended.ensures
+returns-then-suspends c = after-suspended (lent c.args.context.now) c.args.msg.bytes.now c.args.msg.base c.args.at c.requires.stands c.suspends.ensures c.if-suspends.true c.put_suspended.ensures
 
 pub returns-in_err-returned : goal.returns-in_err-returned
 returns-in_err-returned c =
-    after-returned (lent c.args.payload.now c.args.d2.now c.args.ends.now c.args.notes.now c.args.tables) c.args.msg.now c.args.base c.args.at c.requires.stands c.suspends.ensures c.if-suspends.false c.put.ensures c.type_part.ensures
+    after-returned (lent c.args.context.now) c.args.msg.bytes.now c.args.msg.base c.args.at c.requires.stands c.suspends.ensures c.if-suspends.false c.put.ensures c.type_part.ensures
     (c.from_residual.ensures ∙ ap (preceded 1) (sym c.in_err-returned.was))
 
 pub returns : goal.returns
 returns c =
-    after-returned (lent c.args.payload.now c.args.d2.now c.args.ends.now c.args.notes.now c.args.tables) c.args.msg.now c.args.base c.args.at c.requires.stands c.suspends.ensures c.if-suspends.false c.put.ensures c.type_part.ensures
+    after-returned (lent c.args.context.now) c.args.msg.bytes.now c.args.msg.base c.args.at c.requires.stands c.suspends.ensures c.if-suspends.false c.put.ensures c.type_part.ensures
     (ap (preceded 1) (sym c.in_ok-returned.was))

@@ -11,7 +11,7 @@ returns-in_err-size c = rw c.from_residual.ensures (constructor-absent c.args.at
 
 pub overflow_add-at-3 : goal.overflow_add-at-3
 overflow_add-at-3 c =
-    let h = written-within (part_cost * (c.args.base + length c.args.msg.now - c.args.base)) c.parameter_parts.ensures.within c.in_ok-size.was in
+    let h = written-within (part_cost * (c.args.msg.base + length c.args.msg.bytes.now - c.args.msg.base)) c.parameter_parts.ensures.within c.in_ok-size.was in
     omega (arith, c.requires.room)
 
 pub returns : goal.returns

@@ -1,46 +1,38 @@
 use mathlib.Core.Path.{refl, ◌∙◌}
 use native.Mathlib.Omega.{arith}
 use Rattle.schema.specs.told.SchemaTold.{lent}
-use Rattle.descriptors.proofs.DefaultLaws.{parts-start, parts-end, part_in, part_room, parts-absent, parts_next}
+use Rattle.messages.proofs.BodiesLaws.{goes-start, goes-next, goes-to}
+use Rattle.descriptors.proofs.DefaultLaws.{Parting, parts-start, parts-end, part_in, part_room, parts-absent, parts_next}
 use Rattle.descriptors.proofs.defaults.parameter_parts.Goals as goal
 
 pub loop-parameter-init : goal.loop-parameter-init
-loop-parameter-init c = (parts-start (lent c.args.payload.now c.args.d2.now c.args.ends.now c.args.notes.now c.args.tables) c.args.msg.now c.args.base c.args.number c.args.at c.args.area.now c.requires.stands, refl)
+loop-parameter-init c =
+    let g = goes-start c.into_iter-parameter-iterator.ensures.into_iter_gives c.bodies_from-parameter-items.ensures (λ at. Parting (lent c.args.context.now) c.args.msg.bytes.now c.args.msg.base c.args.number c.args.at c.args.area.now at 0 c.args.area.now) (parts-start (lent c.args.context.now) c.args.msg.bytes.now c.args.msg.base c.args.number c.args.at c.args.area.now c.requires.stands) in
+    (g.0, g.1, refl)
 
 pub returns : goal.returns
-returns c = parts-end c.loop-parameter.invariant.0 c.next_body.ensures c.in_default.is
+returns c = parts-end c.loop-parameter.invariant.1 (goes-next c.loop-parameter.invariant.0 c.in-None.ensures.steps).0 refl
 
-pub slice_bounds-type_part-count : goal.slice_bounds-type_part-count
-slice_bounds-type_part-count c = let h = part_in c.loop-parameter.invariant.0 c.next_body.ensures c.in-Some.is in omega (arith, c.requires.stands.inside, c.requires.payload-short)
-
-pub slice_bounds-type_part-start : goal.slice_bounds-type_part-start
-slice_bounds-type_part-start c = let h = part_in c.loop-parameter.invariant.0 c.next_body.ensures c.in-Some.is in omega (arith, c.requires.stands.inside, c.requires.payload-short)
-
-pub slice_bounds-type_part-end : goal.slice_bounds-type_part-end
-slice_bounds-type_part-end c = let h = part_in c.loop-parameter.invariant.0 c.next_body.ensures c.in-Some.is in omega (arith, c.requires.stands.inside, c.requires.payload-short)
-
-pub overflow_cast-parameter : goal.overflow_cast-parameter
-overflow_cast-parameter c = let h = part_in c.loop-parameter.invariant.0 c.next_body.ensures c.in-Some.is in omega (arith, c.requires.stands.inside, c.requires.payload-short)
-
-pub overflow_add-base : goal.overflow_add-base
-overflow_add-base c = let h = part_in c.loop-parameter.invariant.0 c.next_body.ensures c.in-Some.is in omega (arith, c.requires.stands.inside, c.requires.payload-short)
+pub part-requires : goal.part-requires
+part-requires c = let h = part_in c.loop-parameter.invariant.1 (goes-next c.loop-parameter.invariant.0 c.in-Some.ensures.steps).0 refl in (h.0, h.1)
 
 pub overflow_add-at : goal.overflow_add-at
-overflow_add-at c = let h = part_room c.loop-parameter.invariant.0 c.next_body.ensures c.in-Some.is c.requires in omega (arith, h.room)
+overflow_add-at c = let h = part_room c.loop-parameter.invariant.1 (goes-next c.loop-parameter.invariant.0 c.in-Some.ensures.steps).0 refl c.requires in omega (arith, h.room)
 
 pub type_part-requires : goal.type_part-requires
-type_part-requires c = part_room c.loop-parameter.invariant.0 c.next_body.ensures c.in-Some.is c.requires
+type_part-requires c = rw (c.part.ensures.0, c.part.ensures.1) (part_room c.loop-parameter.invariant.1 (goes-next c.loop-parameter.invariant.0 c.in-Some.ensures.steps).0 refl c.requires)
 
 pub returns-in_err-size : goal.returns-in_err-size
-returns-in_err-size c = rw c.from_residual.ensures (parts-absent c.loop-parameter.invariant.0 c.next_body.ensures c.in-Some.is c.requires.stands c.type_part.ensures c.in_err-size.was)
+returns-in_err-size c = rw c.from_residual.ensures (parts-absent c.loop-parameter.invariant.1 (goes-next c.loop-parameter.invariant.0 c.in-Some.ensures.steps).0 refl c.requires.stands (rw (c.part.ensures.0, c.part.ensures.1) at c.type_part.ensures) c.in_err-size.was)
 
 pub overflow_add-size : goal.overflow_add-size
-overflow_add-size c = let h = part_room c.loop-parameter.invariant.0 c.next_body.ensures c.in-Some.is c.requires in
-    let k = parts_next c.loop-parameter.invariant.0 c.next_body.ensures c.in-Some.is c.requires.stands c.type_part.ensures c.in_ok-size.was in
+overflow_add-size c = let h = part_room c.loop-parameter.invariant.1 (goes-next c.loop-parameter.invariant.0 c.in-Some.ensures.steps).0 refl c.requires in
+    let k = parts_next c.loop-parameter.invariant.1 (goes-next c.loop-parameter.invariant.0 c.in-Some.ensures.steps).0 refl c.requires.stands (rw (c.part.ensures.0, c.part.ensures.1) at c.type_part.ensures) c.in_ok-size.was in
     omega (arith, h.room, k.few, k.inside, c.requires.stands.inside, c.requires.payload-short)
 
-pub loop-parameter-smaller : goal.loop-parameter-smaller
-loop-parameter-smaller c = let h = part_in c.loop-parameter.invariant.0 c.next_body.ensures c.in-Some.is in omega arith
-
 pub loop-parameter-preserved : goal.loop-parameter-preserved
-loop-parameter-preserved c = (parts_next c.loop-parameter.invariant.0 c.next_body.ensures c.in-Some.is c.requires.stands c.type_part.ensures c.in_ok-size.was, c.type_part.auto.area ∙ c.loop-parameter.invariant.1)
+loop-parameter-preserved c =
+    let l = c.loop-parameter in
+    let n = goes-next l.invariant.0 c.in-Some.ensures.steps in
+    let on = parts_next l.invariant.1 n.0 refl c.requires.stands (rw (c.part.ensures.0, c.part.ensures.1) at c.type_part.ensures) c.in_ok-size.was in
+    (n.1, rw (goes-to l.invariant.0 c.in-Some.ensures.steps refl) on, c.type_part.auto.area ∙ l.invariant.2)

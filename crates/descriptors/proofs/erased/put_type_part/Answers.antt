@@ -1,20 +1,19 @@
 use mathlib.Core.Path.{ap, sym, ◌∙◌}
 use mathlib.Core.Bool.{Bool, ◌||◌}
-use native.Mathlib.Omega.{arith}
 use Rattle.fields.specs.Fields.{Type-class_name}
 use Rattle.schema.specs.told.SchemaTold.{lent}
 use Rattle.descriptors.proofs.ErasedLaws.{units_each, type-absent, type-nothing, type-part}
 use Rattle.descriptors.proofs.erased.put_type_part.Goals as goal
 use Rattle.descriptors.proofs.erased.put_type_part.Goals.{then-placed, else-placed}
 
-pub returns-then-not-is_there : goal.returns-then-not-is_there
-returns-then-not-is_there c = type-absent (lent c.args.payload.now c.args.d2.now c.args.ends.now c.args.notes.now c.args.tables) c.args.msg.now c.args.base c.args.placed.nullable c.args.placed.position c.args.at c.class_name_at-name.result c.requires.0 (λ s o m w. c.class_name_at-name.ensures s o Type-class_name m (c.type_head-head.ensures.name m w)) (c.is_there.ensures c.args.payload.now c.args.d2.now ∙ c.if-not-is_there.true)
+pub returns-in_err-name : goal.returns-in_err-name
+returns-in_err-name c = rw c.from_residual.ensures (type-absent (lent c.args.context.now) c.args.msg.bytes.now c.args.msg.base c.args.placed.nullable c.args.placed.position c.args.at c.class_name_at.result c.requires.0 (λ s o m w. c.class_name_at.ensures s o Type-class_name m (c.type_head-head.ensures.name m w)) c.in_err-name.was)
 
 pub put_printed-requires : goal.put_printed-requires
 put_printed-requires c = (c.requires.1, c.requires.2, c.requires.3)
 
 pub returns : goal.returns
-returns c = type-part (lent c.args.payload.now c.args.d2.now c.args.ends.now c.args.notes.now c.args.tables) c.args.msg.now c.args.base c.args.placed.nullable c.args.placed.position c.args.at c.class_name_at-name.result c.requires.0 (λ s o m w. c.class_name_at-name.ensures s o Type-class_name m (c.type_head-head.ensures.name m w)) (units_each c.args.d2.now λ i. omega (arith, c.type_inv.d2 i)) c.name_meaning-meaning.result c.name_meaning-meaning.ensures (λ m w. ap (λ (b : Bool). c.args.placed.nullable || b) (c.type_head-head.ensures.nullable m w) ∙ sym (elim c.if-placed.branch [ then-placed w ↦ rw (w.nullable-is, w.if-placed.true) | else-placed w ↦ rw (w.nullable-is, w.if-placed.false) ])) c.printed_as.result c.printed_as.ensures (c.is_there.ensures c.args.payload.now c.args.d2.now ∙ c.if-not-is_there.false) c.in_ok-printed.was c.put_printed.ensures
+returns c = type-part (lent c.args.context.now) c.args.msg.bytes.now c.args.msg.base c.args.placed.nullable c.args.placed.position c.args.at c.class_name_at.result c.requires.0 (λ s o m w. c.class_name_at.ensures s o Type-class_name m (c.type_head-head.ensures.name m w)) c.in_ok-name.was (units_each c.args.context.now.d2.now c.name_meaning-meaning.ensures.units) c.name_meaning-meaning.result c.name_meaning-meaning.ensures.means (λ m w. ap (λ (b : Bool). c.args.placed.nullable || b) (c.type_head-head.ensures.nullable m w) ∙ sym (elim c.if-placed.branch [ then-placed w ↦ rw (w.nullable-is, w.if-placed.true) | else-placed w ↦ rw (w.nullable-is, w.if-placed.false) ])) c.printed_as.result c.printed_as.ensures c.in_ok-printed.was c.put_printed.ensures
 
 pub returns-in_err-printed : goal.returns-in_err-printed
-returns-in_err-printed c = rw c.from_residual.ensures (type-nothing (lent c.args.payload.now c.args.d2.now c.args.ends.now c.args.notes.now c.args.tables) c.args.msg.now c.args.base c.args.placed.nullable c.args.placed.position c.args.at c.class_name_at-name.result c.requires.0 (λ s o m w. c.class_name_at-name.ensures s o Type-class_name m (c.type_head-head.ensures.name m w)) (units_each c.args.d2.now λ i. omega (arith, c.type_inv.d2 i)) c.name_meaning-meaning.result c.name_meaning-meaning.ensures (λ m w. ap (λ (b : Bool). c.args.placed.nullable || b) (c.type_head-head.ensures.nullable m w) ∙ sym (elim c.if-placed.branch [ then-placed w ↦ rw (w.nullable-is, w.if-placed.true) | else-placed w ↦ rw (w.nullable-is, w.if-placed.false) ])) c.printed_as.result c.printed_as.ensures (c.is_there.ensures c.args.payload.now c.args.d2.now ∙ c.if-not-is_there.false) c.in_err-printed.was)
+returns-in_err-printed c = rw c.from_residual-in_err-printed.ensures (type-nothing (lent c.args.context.now) c.args.msg.bytes.now c.args.msg.base c.args.placed.nullable c.args.placed.position c.args.at c.class_name_at.result c.requires.0 (λ s o m w. c.class_name_at.ensures s o Type-class_name m (c.type_head-head.ensures.name m w)) c.in_ok-name.was (units_each c.args.context.now.d2.now c.name_meaning-meaning.ensures.units) c.name_meaning-meaning.result c.name_meaning-meaning.ensures.means (λ m w. ap (λ (b : Bool). c.args.placed.nullable || b) (c.type_head-head.ensures.nullable m w) ∙ sym (elim c.if-placed.branch [ then-placed w ↦ rw (w.nullable-is, w.if-placed.true) | else-placed w ↦ rw (w.nullable-is, w.if-placed.false) ])) c.printed_as.result c.printed_as.ensures c.in_err-printed.was)

@@ -1,50 +1,40 @@
 use mathlib.Core.Path.{refl, ap, ◌∙◌}
-use Rattle.std.specs.declared.result.Result.TheVariants.{Ok}
-use Rattle.schema.proofs.AnswerLaws.{handed_on}
-use Prim.Native.Nat.{◌^◌}
+use Prim.Native.Nat.{ℕ, ◌^◌}
 use native.Mathlib.Omega.{arith}
-use Rattle.schema.proofs.ListLaws.{bytes_cheap, loop-start, member-in, member-affords, loop-end, loop-refused, loop-dropped, loop-kept}
+use Rattle.std.specs.declared.result.Result.TheVariants.{Ok}
+use Rattle.messages.proofs.BodiesLaws.{goes-start, goes-next, goes-to}
+use Rattle.schema.specs.told.SchemaTold.{lent}
+use Rattle.foundation.proofs.ErrorLaws.{handed_on}
+use Rattle.schema.proofs.WroteLaws.{picked_true, picked_false, picked_err}
+use Rattle.schema.proofs.ListLaws.{Looping, bytes_cheap, loop-start, member-in, member-affords, loop-end, loop-refused, loop-dropped, loop-kept}
 use Rattle.schema.proofs.StandsLaws.{body-stands}
+use Rattle.members.specs.Lists.{member_in, member_rows}
+use Rattle.members.proofs.MemberLists.{stayed}
 use Rattle.members.proofs.list.members_at.Goals as goal
 
 pub loop-body-init : goal.loop-body-init
-loop-body-init c = (loop-start, refl, refl)
+loop-body-init c =
+    let a = c.args in
+    let g = goes-start c.into_iter-body-iterator.ensures.into_iter_gives c.bodies_from-body-items.ensures (λ (at : ℕ). Looping (member_in a.list.member) (member_rows a.list.member) (2 ^ 25) (lent a.context.now) a.msg.bytes.now a.msg.base a.list.number a.out.now.state a.out.now.sheet.now a.out.now.text.now at 0 a.out.now.state a.out.now.sheet.now a.out.now.text.now) loop-start in
+    (g.0, g.1, (refl, refl))
 
-pub returns-in_default : goal.returns-in_default
-returns-in_default c = loop-end c.loop-body.invariant.0 c.next_body.ensures c.in_default.is
-
-pub slice_bounds-member_in-count : goal.slice_bounds-member_in-count
-slice_bounds-member_in-count c = let h = member-in c.loop-body.invariant.0 c.next_body.ensures c.in-Some.is in omega arith
-
-pub slice_bounds-member_in-start : goal.slice_bounds-member_in-start
-slice_bounds-member_in-start c = let h = member-in c.loop-body.invariant.0 c.next_body.ensures c.in-Some.is in omega arith
-
-pub slice_bounds-member_in-end : goal.slice_bounds-member_in-end
-slice_bounds-member_in-end c = let h = member-in c.loop-body.invariant.0 c.next_body.ensures c.in-Some.is in omega arith
-
-pub overflow_cast-body : goal.overflow_cast-body
-overflow_cast-body c = let h = member-in c.loop-body.invariant.0 c.next_body.ensures c.in-Some.is in omega (arith, c.requires.1.inside, c.requires.0.payload-short)
-
-pub overflow_add-base : goal.overflow_add-base
-overflow_add-base c = let h = member-in c.loop-body.invariant.0 c.next_body.ensures c.in-Some.is in omega (arith, c.requires.1.inside, c.requires.0.payload-short)
+pub part-requires : goal.part-requires
+part-requires c = let h = member-in c.loop-body.invariant.1 (goes-next c.loop-body.invariant.0 c.in-Some.ensures.steps).0 refl in (h.1, h.2)
 
 pub member_in-requires : goal.member_in-requires
-member_in-requires c = let h = member-in c.loop-body.invariant.0 c.next_body.ensures c.in-Some.is in (member-affords c.loop-body.invariant.0 c.next_body.ensures c.in-Some.is (bytes_cheap (2 ^ 25) c.args.msg.now c.in-Some.body.start c.in-Some.body.end) c.requires.0, body-stands c.requires.1 c.in-Some.body.start c.in-Some.body.end h.1 h.2)
+member_in-requires c = let h = member-in c.loop-body.invariant.1 (goes-next c.loop-body.invariant.0 c.in-Some.ensures.steps).0 refl in rw (c.part.ensures.0, c.part.ensures.1) (member-affords c.loop-body.invariant.1 (goes-next c.loop-body.invariant.0 c.in-Some.ensures.steps).0 refl (bytes_cheap (2 ^ 25) c.args.msg.bytes.now c.in-Some.body.start c.in-Some.body.end) c.requires.0, body-stands c.requires.1 c.in-Some.body.start c.in-Some.body.end h.1 h.2)
 
 pub overflow_add-count : goal.overflow_add-count
-overflow_add-count c = let h = member-in c.loop-body.invariant.0 c.next_body.ensures c.in-Some.is in omega (arith, c.loop-body.invariant.0.few)
+overflow_add-count c = let h = member-in c.loop-body.invariant.1 (goes-next c.loop-body.invariant.0 c.in-Some.ensures.steps).0 refl in omega (arith, c.loop-body.invariant.1.few)
 
-pub loop-body-smaller-in-Some-kept : goal.loop-body-smaller-in-Some-kept
-loop-body-smaller-in-Some-kept c = let h = member-in c.loop-body.invariant.0 c.next_body.ensures c.in-Some.is in omega arith
-
-pub loop-body-preserved-in-Some-kept : goal.loop-body-preserved-in-Some-kept
-loop-body-preserved-in-Some-kept c = (loop-kept c.loop-body.invariant.0 c.next_body.ensures c.in-Some.is (bytes_cheap (2 ^ 25) c.args.msg.now c.in-Some.body.start c.in-Some.body.end) c.member_in.ensures (c.in_ok-kept.was ∙ ap Ok c.in-Some-kept.is), c.member_in.auto.sheet ∙ c.loop-body.invariant.1, c.member_in.auto.text ∙ c.loop-body.invariant.2)
-
-pub loop-body-smaller : goal.loop-body-smaller
-loop-body-smaller c = let h = member-in c.loop-body.invariant.0 c.next_body.ensures c.in-Some.is in omega arith
+pub loop-body-preserved-then-kept : goal.loop-body-preserved-then-kept
+loop-body-preserved-then-kept c = ((goes-next c.loop-body.invariant.0 c.in-Some.ensures.steps).1, rw (goes-to c.loop-body.invariant.0 c.in-Some.ensures.steps refl) (loop-kept c.loop-body.invariant.1 (goes-next c.loop-body.invariant.0 c.in-Some.ensures.steps).0 refl (bytes_cheap (2 ^ 25) c.args.msg.bytes.now c.in-Some.body.start c.in-Some.body.end) (rw (c.part.ensures.0, c.part.ensures.1) at c.member_in.ensures.written) (picked_true c.member_in.new.out (c.in_ok-kept.was ∙ ap Ok c.if-kept.true))), (c.member_in.ensures.same_areas.0 ∙ c.loop-body.invariant.2.0, c.member_in.ensures.same_areas.1 ∙ c.loop-body.invariant.2.1))
 
 pub loop-body-preserved : goal.loop-body-preserved
-loop-body-preserved c = (loop-dropped c.loop-body.invariant.0 c.next_body.ensures c.in-Some.is (bytes_cheap (2 ^ 25) c.args.msg.now c.in-Some.body.start c.in-Some.body.end) c.member_in.ensures (c.in_ok-kept.was ∙ ap Ok c.in_default-kept.is), c.member_in.auto.sheet ∙ c.loop-body.invariant.1, c.member_in.auto.text ∙ c.loop-body.invariant.2)
+loop-body-preserved c = ((goes-next c.loop-body.invariant.0 c.in-Some.ensures.steps).1, rw (goes-to c.loop-body.invariant.0 c.in-Some.ensures.steps refl, stayed c.loop-body.out c.member_in.new.out c.member_in.ensures.stays (c.in_ok-kept.was ∙ ap Ok c.if-kept.false)) (loop-dropped c.loop-body.invariant.1 (goes-next c.loop-body.invariant.0 c.in-Some.ensures.steps).0 refl (bytes_cheap (2 ^ 25) c.args.msg.bytes.now c.in-Some.body.start c.in-Some.body.end) (rw (c.part.ensures.0, c.part.ensures.1) at c.member_in.ensures.written) (picked_false c.member_in.new.out (c.in_ok-kept.was ∙ ap Ok c.if-kept.false))), (c.member_in.ensures.same_areas.0 ∙ c.loop-body.invariant.2.0, c.member_in.ensures.same_areas.1 ∙ c.loop-body.invariant.2.1))
 
-pub returns-in_err-kept : goal.returns-in_err-kept
-returns-in_err-kept c = rw (handed_on _ c.from_residual.ensures.1) (loop-refused c.loop-body.invariant.0 c.next_body.ensures c.in-Some.is (bytes_cheap (2 ^ 25) c.args.msg.now c.in-Some.body.start c.in-Some.body.end) c.member_in.ensures c.in_err-kept.was)
+pub returns-in_err-kept-clause-written : goal.returns-in_err-kept-clause-written
+returns-in_err-kept-clause-written c = rw (handed_on _ c.from_residual.ensures.1) (loop-refused c.loop-body.invariant.1 (goes-next c.loop-body.invariant.0 c.in-Some.ensures.steps).0 refl (bytes_cheap (2 ^ 25) c.args.msg.bytes.now c.in-Some.body.start c.in-Some.body.end) (rw (c.part.ensures.0, c.part.ensures.1) at c.member_in.ensures.written) (picked_err c.member_in.new.out c.in_err-kept.was))
+
+pub returns-clause-written : goal.returns-clause-written
+returns-clause-written c = loop-end c.loop-body.invariant.1 (goes-next c.loop-body.invariant.0 c.in-None.ensures.steps).0 refl

@@ -1,9 +1,9 @@
-use Rattle.schema.proofs.AnswerLaws.{handed_on}
+use Rattle.foundation.proofs.ErrorLaws.{handed_on}
 use Rattle.schema.proofs.ListLaws.{list-uncut, list-cut}
 use Rattle.members.proofs.list.members_in.Goals as goal
 
-pub returns-in_err-check_messages : goal.returns-in_err-check_messages
-returns-in_err-check_messages c = rw (handed_on _ c.from_residual.ensures.1) (list-uncut c.check_messages.result c.check_messages.ensures c.in_err-check_messages.was)
+pub returns-in_err-check_messages-clause-written : goal.returns-in_err-check_messages-clause-written
+returns-in_err-check_messages-clause-written c = rw (handed_on _ c.from_residual.ensures.1) (list-uncut c.check_messages.result c.check_messages.ensures c.in_err-check_messages.was)
 
-pub returns : goal.returns
-returns c = list-cut c.check_messages.result c.check_messages.ensures c.in_ok-check_messages.was c.members_at.ensures
+pub returns-clause-written : goal.returns-clause-written
+returns-clause-written c = list-cut c.check_messages.result c.check_messages.ensures c.in_ok-check_messages.was c.members_at.ensures.written

@@ -1,46 +1,38 @@
-use Rattle.schema.proofs.AnswerLaws.{handed_on}
 use mathlib.Core.Path.{refl, ap, ◌∙◌}
-use Prim.Native.Nat.{◌-◌}
+use Prim.Native.Nat.{ℕ, ◌-◌}
 use native.Mathlib.Omega.{arith}
-use Rattle.schema.specs.told.MembersTold.{parameter_cost}
-use Rattle.schema.proofs.ParseLaws.{part-inside}
-use Rattle.schema.proofs.ListLaws.{unit_cheap, loop-start, member-in, member-affords, loop-end, loop-refused, loop-kept}
+use Rattle.declaration_rows.specs.Rows.{parameter_rows}
+use Rattle.messages.proofs.BodiesLaws.{goes-start, goes-next, goes-to}
+use Rattle.schema.specs.told.SchemaTold.{lent}
 use Rattle.schema.specs.told.TypesTold.{picked_of}
-use Rattle.members.proofs.ParameterLaws.{never_skipped, all_read}
+use Rattle.schema.specs.told.MembersTold.{parameter_cost}
+use Rattle.foundation.proofs.ErrorLaws.{handed_on}
+use Rattle.schema.proofs.ParseLaws.{part-inside}
+use Rattle.schema.proofs.ListLaws.{Looping, unit_cheap, loop-start, member-in, member-affords, loop-end, loop-refused, loop-kept}
+use Rattle.members.proofs.ParameterLaws.{read_always, never_skipped, all_read}
+use Rattle.schema.proofs.WroteLaws.{walked_err, walked_ok}
 use Rattle.members.proofs.parameters.parameters_at.Goals as goal
 
 pub loop-parameter-init : goal.loop-parameter-init
-loop-parameter-init c = (loop-start, refl, refl)
+loop-parameter-init c =
+    let a = c.args in
+    let g = goes-start c.into_iter-parameter-iterator.ensures.into_iter_gives c.bodies_from-parameter-items.ensures (λ (at : ℕ). Looping read_always parameter_rows parameter_cost (lent a.context.now) a.msg.bytes.now a.msg.base a.number a.out.now.state a.out.now.sheet.now a.out.now.text.now at 0 a.out.now.state a.out.now.sheet.now a.out.now.text.now) loop-start in
+    (g.0, g.1, (refl, refl))
 
-pub returns-in_default : goal.returns-in_default
-returns-in_default c = all_read (loop-end c.loop-parameter.invariant.0 c.next_body.ensures c.in_default.is)
-
-pub slice_bounds-parameter_in-count : goal.slice_bounds-parameter_in-count
-slice_bounds-parameter_in-count c = let h = member-in c.loop-parameter.invariant.0 c.next_body.ensures c.in-Some.is in omega arith
-
-pub slice_bounds-parameter_in-start : goal.slice_bounds-parameter_in-start
-slice_bounds-parameter_in-start c = let h = member-in c.loop-parameter.invariant.0 c.next_body.ensures c.in-Some.is in omega arith
-
-pub slice_bounds-parameter_in-end : goal.slice_bounds-parameter_in-end
-slice_bounds-parameter_in-end c = let h = member-in c.loop-parameter.invariant.0 c.next_body.ensures c.in-Some.is in omega arith
-
-pub overflow_cast-parameter : goal.overflow_cast-parameter
-overflow_cast-parameter c = let h = member-in c.loop-parameter.invariant.0 c.next_body.ensures c.in-Some.is in omega (arith, c.requires.1, c.requires.0.payload-short)
-
-pub overflow_add-base : goal.overflow_add-base
-overflow_add-base c = let h = member-in c.loop-parameter.invariant.0 c.next_body.ensures c.in-Some.is in omega (arith, c.requires.1, c.requires.0.payload-short)
+pub part-requires : goal.part-requires
+part-requires c = let h = member-in c.loop-parameter.invariant.1 (goes-next c.loop-parameter.invariant.0 c.in-Some.ensures.steps).0 refl in (h.1, h.2)
 
 pub parameter_in-requires : goal.parameter_in-requires
-parameter_in-requires c = let h = member-in c.loop-parameter.invariant.0 c.next_body.ensures c.in-Some.is in (member-affords c.loop-parameter.invariant.0 c.next_body.ensures c.in-Some.is (unit_cheap parameter_cost (c.in-Some.parameter.end - c.in-Some.parameter.start)) c.requires.0, part-inside c.args.msg.now c.args.base c.in-Some.parameter.start c.in-Some.parameter.end c.requires.1 h.1 h.2)
+parameter_in-requires c = let h = member-in c.loop-parameter.invariant.1 (goes-next c.loop-parameter.invariant.0 c.in-Some.ensures.steps).0 refl in rw (c.part.ensures.0, c.part.ensures.1) (member-affords c.loop-parameter.invariant.1 (goes-next c.loop-parameter.invariant.0 c.in-Some.ensures.steps).0 refl (unit_cheap parameter_cost (c.in-Some.parameter.end - c.in-Some.parameter.start)) c.requires.0, part-inside c.args.msg.bytes.now c.args.msg.base c.in-Some.parameter.start c.in-Some.parameter.end c.requires.1 h.1 h.2)
 
 pub overflow_add-count : goal.overflow_add-count
-overflow_add-count c = let h = member-in c.loop-parameter.invariant.0 c.next_body.ensures c.in-Some.is in omega (arith, c.loop-parameter.invariant.0.few)
-
-pub loop-parameter-smaller : goal.loop-parameter-smaller
-loop-parameter-smaller c = let h = member-in c.loop-parameter.invariant.0 c.next_body.ensures c.in-Some.is in omega arith
+overflow_add-count c = let h = member-in c.loop-parameter.invariant.1 (goes-next c.loop-parameter.invariant.0 c.in-Some.ensures.steps).0 refl in omega (arith, c.loop-parameter.invariant.1.few)
 
 pub loop-parameter-preserved : goal.loop-parameter-preserved
-loop-parameter-preserved c = (loop-kept c.loop-parameter.invariant.0 c.next_body.ensures c.in-Some.is (unit_cheap parameter_cost (c.in-Some.parameter.end - c.in-Some.parameter.start)) (never_skipped c.parameter_in.ensures) (ap picked_of c.in_ok-next.was), c.parameter_in.auto.sheet ∙ c.loop-parameter.invariant.1, c.parameter_in.auto.text ∙ c.loop-parameter.invariant.2)
+loop-parameter-preserved c = ((goes-next c.loop-parameter.invariant.0 c.in-Some.ensures.steps).1, rw (goes-to c.loop-parameter.invariant.0 c.in-Some.ensures.steps refl) (loop-kept c.loop-parameter.invariant.1 (goes-next c.loop-parameter.invariant.0 c.in-Some.ensures.steps).0 refl (unit_cheap parameter_cost (c.in-Some.parameter.end - c.in-Some.parameter.start)) (never_skipped (rw (c.part.ensures.0, c.part.ensures.1) at c.parameter_in.ensures.written)) (ap picked_of (walked_ok c.parameter_in.new.out c.in_ok-parameter_in.was))), (c.parameter_in.ensures.same_areas.0 ∙ c.loop-parameter.invariant.2.0, c.parameter_in.ensures.same_areas.1 ∙ c.loop-parameter.invariant.2.1))
 
-pub returns-in_err-next : goal.returns-in_err-next
-returns-in_err-next c = rw (handed_on _ c.from_residual.ensures.1) (all_read (loop-refused c.loop-parameter.invariant.0 c.next_body.ensures c.in-Some.is (unit_cheap parameter_cost (c.in-Some.parameter.end - c.in-Some.parameter.start)) (never_skipped c.parameter_in.ensures) (ap picked_of c.in_err-next.was)))
+pub returns-in_err-parameter_in-clause-written : goal.returns-in_err-parameter_in-clause-written
+returns-in_err-parameter_in-clause-written c = rw (handed_on _ c.from_residual.ensures.1) (all_read (loop-refused c.loop-parameter.invariant.1 (goes-next c.loop-parameter.invariant.0 c.in-Some.ensures.steps).0 refl (unit_cheap parameter_cost (c.in-Some.parameter.end - c.in-Some.parameter.start)) (never_skipped (rw (c.part.ensures.0, c.part.ensures.1) at c.parameter_in.ensures.written)) (ap picked_of (walked_err c.parameter_in.new.out c.in_err-parameter_in.was))))
+
+pub returns-clause-written : goal.returns-clause-written
+returns-clause-written c = all_read (loop-end c.loop-parameter.invariant.1 (goes-next c.loop-parameter.invariant.0 c.in-None.ensures.steps).0 refl)

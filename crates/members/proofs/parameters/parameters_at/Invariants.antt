@@ -1,7 +1,6 @@
-use mathlib.Core.Path.{◌≡◌}
-use Prim.Native.Nat.{◌-◌}
-use lib.ListN.{length}
 use Rattle.declaration_rows.specs.Rows.{parameter_rows}
+use Rattle.messages.proofs.BodiesLaws.{Goes}
+use Rattle.sheet.specs.told.Put.{SameAreas}
 use Rattle.schema.specs.told.SchemaTold.{lent}
 use Rattle.schema.specs.told.MembersTold.{parameter_cost}
 use Rattle.schema.proofs.ListLaws.{Looping}
@@ -9,7 +8,4 @@ use Rattle.members.proofs.ParameterLaws.{read_always}
 use Rattle.members.proofs.parameters.parameters_at.Given as goal
 
 abbrev pub invariant-loop-parameter : goal.invariant-loop-parameter
-invariant-loop-parameter l = Looping read_always parameter_rows parameter_cost (lent l.payload l.d2 l.ends l.notes l.tables) l.msg l.base l.number l.initial.next l.initial.sheet l.initial.text l.at l.count l.next l.sheet l.text × (length l.sheet ≡ length l.initial.sheet) × (length l.text ≡ length l.initial.text)
-
-abbrev pub decreases-loop-parameter : goal.decreases-loop-parameter
-decreases-loop-parameter l = length l.msg - l.at
+invariant-loop-parameter l = Goes l.parameter-iterator l.msg.base l.msg.bytes.now l.number × Looping read_always parameter_rows parameter_cost (lent l.context) l.msg.bytes.now l.msg.base l.number l.initial.out.state l.initial.out.sheet.now l.initial.out.text.now l.parameter-iterator.at l.count l.out.state l.out.sheet.now l.out.text.now × SameAreas l.initial.out l.out

@@ -1,17 +1,22 @@
-use mathlib.Core.Path.{◌∙◌}
+use lib.ListN.{length}
+use Rattle.fields.specs.Fields.{Property-name}
+use Rattle.declaration_rows.specs.Rows.{property_rows}
+use Rattle.schema.specs.Members.{property_in}
 use Rattle.schema.specs.told.SchemaTold.{lent}
-use Rattle.schema.proofs.AnswerLaws.{handed_on}
-use Rattle.members.proofs.PropertyLaws.{property-dropped, property-unsigned, property-named}
+use Rattle.schema.specs.told.MembersTold.{member_cost}
+use Rattle.foundation.proofs.ErrorLaws.{handed_on}
+use Rattle.members.proofs.PairLaws.{looked, nameless}
+use Rattle.members.proofs.PropertyLaws.{property-nameless, property-unsigned, property-named}
 use Rattle.members.proofs.properties.property_in.Goals as goal
 
-pub returns-then-not-is_there : goal.returns-then-not-is_there
-returns-then-not-is_there c = property-dropped (lent c.args.payload.now c.args.d2.now c.args.ends.now c.args.notes.now c.args.tables) c.args.msg.now c.args.base c.args.state c.name_in-name.result (λ s o m k l. c.name_in-name.ensures c.args.d2.now s o.names m k l) (c.is_there.ensures c.args.payload.now c.args.d2.now ∙ c.if-not-is_there.true)
+pub returns-in_default-clause-written : goal.returns-in_default-clause-written
+returns-in_default-clause-written c = nameless property_in property_rows (member_cost (length c.args.msg.bytes.now)) Property-name property-nameless (looked (lent c.args.context.now) _ _ _ c.name_in.ensures c.in_default.is)
 
-pub returns-in_err-names : goal.returns-in_err-names
-returns-in_err-names c = rw (handed_on _ c.from_residual.ensures.1) (property-unsigned (lent c.args.payload.now c.args.d2.now c.args.ends.now c.args.notes.now c.args.tables) c.args.msg.now c.args.base c.args.state c.name_in-name.result (λ s o m k l. c.name_in-name.ensures c.args.d2.now s o.names m k l) (c.is_there.ensures c.args.payload.now c.args.d2.now ∙ c.if-not-is_there.false) (λ s o m k. c.property_signatures.ensures c.args.d2.now s o.names m k) c.in_err-names.was)
+pub returns-in_err-names-clause-written : goal.returns-in_err-names-clause-written
+returns-in_err-names-clause-written c = rw (handed_on _ c.from_residual.ensures.1) (property-unsigned c.in-Some.name (looked (lent c.args.context.now) _ _ _ c.name_in.ensures c.in-Some.is) (λ s o m k. c.property_signatures.ensures c.args.context.now.d2.now s o.names m k) c.in_err-names.was)
 
 pub named_property-requires : goal.named_property-requires
 named_property-requires c = c.requires
 
-pub returns : goal.returns
-returns c = property-named (lent c.args.payload.now c.args.d2.now c.args.ends.now c.args.notes.now c.args.tables) c.args.msg.now c.args.base c.args.state c.name_in-name.result (λ s o m k l. c.name_in-name.ensures c.args.d2.now s o.names m k l) (c.is_there.ensures c.args.payload.now c.args.d2.now ∙ c.if-not-is_there.false) (λ s o m k. c.property_signatures.ensures c.args.d2.now s o.names m k) c.in_ok-names.was c.named_property.ensures
+pub returns-clause-written : goal.returns-clause-written
+returns-clause-written c = property-named c.in-Some.name (looked (lent c.args.context.now) _ _ _ c.name_in.ensures c.in-Some.is) (λ s o m k. c.property_signatures.ensures c.args.context.now.d2.now s o.names m k) c.in_ok-names.was c.named_property.ensures.written

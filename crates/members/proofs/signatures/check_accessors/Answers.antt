@@ -1,5 +1,5 @@
 use mathlib.Core.Logic.{inl, inr}
-use Rattle.schema.proofs.AnswerLaws.{handed_on}
+use Rattle.foundation.proofs.ErrorLaws.{handed_on}
 use Rattle.members.proofs.signatures.check_accessors.Goals as goal
 
 pub returns-in_err-names : goal.returns-in_err-names

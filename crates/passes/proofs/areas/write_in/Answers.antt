@@ -1,5 +1,6 @@
 use mathlib.Core.Path.{sym, ap, ◌∙◌}
 use Rattle.inputs.specs.told.KindTold.{kind_number}
+use Rattle.schema.specs.told.SchemaTold.{lent}
 use Rattle.std.specs.Prelude.{Ok}
 use Rattle.inputs.specs.told.OutcomesTold.{told}
 use Rattle.inputs.specs.declared.outcome.Sizes.{Sizes}
@@ -9,17 +10,17 @@ use Rattle.passes.proofs.areas.write_in.Goals.{then-length-gt-TEXT_LIMIT-via-the
 
 pub returns-then-length-gt-TEXT_LIMIT : goal.returns-then-length-gt-TEXT_LIMIT
 returns-then-length-gt-TEXT_LIMIT c = elim c.then-length-gt-TEXT_LIMIT.branch [
-  | then-length-gt-TEXT_LIMIT-via-then-length-gt-TEXT_LIMIT w ↦ text-past-limit (kind_number c.args.kind) c.args.bytes.now c.args.d2.now c.args.ends.now c.args.notes.now c.args.measured c.args.scratch_sheet.now c.args.scratch_text.now c.requires.1 c.args.sheet.now c.args.text.now w.if-length-gt-TEXT_LIMIT.true
-  | then-length-gt-TEXT_LIMIT-via-else-length-gt-TEXT_LIMIT+then-text-length w ↦ text-past-area (kind_number c.args.kind) c.args.bytes.now c.args.d2.now c.args.ends.now c.args.notes.now c.args.measured c.args.scratch_sheet.now c.args.scratch_text.now c.requires.1 c.args.sheet.now c.args.text.now w.if-text-length.true
+  | then-length-gt-TEXT_LIMIT-via-then-length-gt-TEXT_LIMIT w ↦ text-past-limit (kind_number c.args.kind) (lent c.args.context.now) c.args.measured.at c.args.measured.sections c.args.measured.sheet.now c.args.measured.text.now c.requires.1 c.args.sheet.now c.args.text.now w.if-length-gt-TEXT_LIMIT.true
+  | then-length-gt-TEXT_LIMIT-via-else-length-gt-TEXT_LIMIT+then-text-length w ↦ text-past-area (kind_number c.args.kind) (lent c.args.context.now) c.args.measured.at c.args.measured.sections c.args.measured.sheet.now c.args.measured.text.now c.requires.1 c.args.sheet.now c.args.text.now w.if-text-length.true
 ]
 
 pub returns-then-sheet-size : goal.returns-then-sheet-size
-returns-then-sheet-size c = sheet-over (kind_number c.args.kind) c.args.bytes.now c.args.d2.now c.args.ends.now c.args.notes.now c.args.measured c.args.scratch_sheet.now c.args.scratch_text.now c.requires.1 c.args.sheet.now c.args.text.now c.if-length-gt-TEXT_LIMIT.false c.if-text-length.false c.if-sheet-size.true
+returns-then-sheet-size c = sheet-over (kind_number c.args.kind) (lent c.args.context.now) c.args.measured.at c.args.measured.sections c.args.measured.sheet.now c.args.measured.text.now c.requires.1 c.args.sheet.now c.args.text.now c.if-length-gt-TEXT_LIMIT.false c.if-text-length.false c.if-sheet-size.true
 
 pub sizes_at-requires : goal.sizes_at-requires
-sizes_at-requires c = types-left (kind_number c.args.kind) c.args.bytes.now c.args.d2.now c.args.ends.now c.args.notes.now c.args.measured c.args.scratch_sheet.now c.args.scratch_text.now c.requires.1
+sizes_at-requires c = types-left (kind_number c.args.kind) (lent c.args.context.now) c.args.measured.at c.args.measured.sections c.args.measured.sheet.now c.args.measured.text.now c.requires.1
 
 pub returns : goal.returns
 returns c =
-    all-written (kind_number c.args.kind) c.args.bytes.now c.args.d2.now c.args.ends.now c.args.notes.now c.args.measured c.args.scratch_sheet.now c.args.scratch_text.now c.requires.1 c.args.sheet.now c.args.text.now c.if-length-gt-TEXT_LIMIT.false c.if-text-length.false c.if-sheet-size.false c.write_out.ensures
+    all-written (kind_number c.args.kind) (lent c.args.context.now) c.args.measured.at c.args.measured.sections c.args.measured.sheet.now c.args.measured.text.now c.requires.1 c.args.sheet.now c.args.text.now c.if-length-gt-TEXT_LIMIT.false c.if-text-length.false c.if-sheet-size.false c.write_out.ensures
     ∙ ap (λ (s : Sizes). told (Ok s) c.write_out.new.sheet c.write_out.new.text) (sym c.sizes_at.ensures)

@@ -9,4 +9,4 @@ pub put_name-size-requires : goal.put_name-size-requires
 put_name-size-requires c = let a = c.args in let l = c.requires.1 in omega (arith, name-most a.bytes.now [] (unstepped a.bytes.now a.name c.requires.0.0) 65536 (omega arith) (omega arith) (omega arith) false)
 
 pub returns : goal.returns
-returns c = let a = c.args in record { fits = c.if-size-gt131072.false; is = λ h. size_is a.bytes.now a.name c.requires.0.0 _ c.put_name-size.ensures.place h }
+returns c = let a = c.args in record { fits = c.if-size-gt131072.false; is = λ h. size_is a.bytes.now a.name c.requires.0.0 _ c.put_name-size.ensures.place }

@@ -3,13 +3,13 @@ use Rattle.schema.proofs.FoundLaws.{place_in, place-inline, place-nowhere, place
 use Rattle.schema.proofs.places.type_place.Goals as goal
 
 pub inline_place-requires : goal.inline_place-requires
-inline_place-requires c = let h = place_in c.args.payload.now c.args.notes.now c.args.tables c.args.msg.now c.args.base c.args.slot.inline c.args.slot.indexed c.args.left c.requires.0 c.bytes.ensures c.in-Some.is in (h.0, omega (arith, c.requires.0.inside, c.requires.1))
+inline_place-requires c = let h = place_in c.args.context.now.payload.now c.args.context.now.notes.now c.args.context.now.tables c.args.msg.bytes.now c.args.msg.base c.args.slot.inline c.args.slot.indexed c.args.left c.requires.0 c.bytes.ensures c.in-Some.is in (h.0, omega (arith, c.requires.0.inside, c.requires.1))
 
 pub returns-in-Some : goal.returns-in-Some
-returns-in-Some c = place-inline c.args.payload.now c.args.notes.now c.args.tables c.args.msg.now c.args.base c.args.slot.inline c.args.slot.indexed c.args.left c.requires.0 c.bytes.ensures c.in-Some.is c.inline_place.ensures
+returns-in-Some c = place-inline c.args.context.now.payload.now c.args.context.now.notes.now c.args.context.now.tables c.args.msg.bytes.now c.args.msg.base c.args.slot.inline c.args.slot.indexed c.args.left c.requires.0 c.bytes.ensures c.in-Some.is c.inline_place.ensures
 
 pub returns-in_err-at : goal.returns-in_err-at
-returns-in_err-at c = rw c.from_residual.ensures (place-nowhere c.args.payload.now c.args.notes.now c.args.tables c.args.msg.now c.args.base c.args.slot.inline c.args.slot.indexed c.args.left c.requires.0 c.bytes.ensures c.in_default.is c.index.ensures c.in_err-at.was)
+returns-in_err-at c = rw c.from_residual.ensures (place-nowhere c.args.context.now.payload.now c.args.context.now.notes.now c.args.context.now.tables c.args.msg.bytes.now c.args.msg.base c.args.slot.inline c.args.slot.indexed c.args.left c.requires.0 c.bytes.ensures c.in_default.is c.index.ensures c.in_err-at.was)
 
 pub returns : goal.returns
-returns c = place-indexed c.args.payload.now c.args.notes.now c.args.tables c.args.msg.now c.args.base c.args.slot.inline c.args.slot.indexed c.args.left c.requires.0 c.bytes.ensures c.in_default.is c.index.ensures c.in_ok-at.was c.entry_place.ensures
+returns c = place-indexed c.args.context.now.payload.now c.args.context.now.notes.now c.args.context.now.tables c.args.msg.bytes.now c.args.msg.base c.args.slot.inline c.args.slot.indexed c.args.left c.requires.0 c.bytes.ensures c.in_default.is c.index.ensures c.in_ok-at.was c.entry_place.ensures

@@ -1,7 +1,7 @@
 use mathlib.Core.Path.{ap, ◌∙◌}
 use native.Mathlib.Omega.{arith}
 use Rattle.std.specs.declared.result.Result.TheVariants.{Ok}
-use Rattle.schema.proofs.AnswerLaws.{handed_on}
+use Rattle.foundation.proofs.ErrorLaws.{handed_on}
 use Rattle.schema.proofs.TableLaws.{table-place, index_none, index-refused, index-inline}
 use Rattle.schema.proofs.table.index_types.Goals as goal
 

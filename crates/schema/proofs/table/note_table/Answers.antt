@@ -1,6 +1,6 @@
 use native.Mathlib.Omega.{arith}
 use lib.ListN.{length-take}
-use Rattle.schema.proofs.AnswerLaws.{handed_on}
+use Rattle.foundation.proofs.ErrorLaws.{handed_on}
 use Rattle.schema.proofs.TableLaws.{table-noted, table-unnoted}
 use Rattle.schema.proofs.table.note_table.Goals as goal
 

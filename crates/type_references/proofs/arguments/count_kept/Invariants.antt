@@ -1,10 +1,10 @@
-use Prim.Native.Nat.{◌-◌}
-use lib.ListN.{length}
+use Rattle.fields.specs.Fields.{Type-argument}
+use Rattle.messages.proofs.BodiesLaws.{Goes}
 use Rattle.type_references.proofs.ArgumentLaws.{Counting}
+use Rattle.schema.specs.told.SchemaTold.{lent}
 use Rattle.type_references.proofs.arguments.count_kept.Given as goal
 
 abbrev pub invariant-loop-argument : goal.invariant-loop-argument
-invariant-loop-argument l = Counting l.payload l.notes l.tables l.msg l.base l.left l.at l.count
-
-abbrev pub decreases-loop-argument : goal.decreases-loop-argument
-decreases-loop-argument l = length l.msg - l.at
+invariant-loop-argument l =
+    Goes l.argument-iterator l.msg.base l.msg.bytes.now Type-argument
+    × Counting (lent l.context) l.msg.bytes.now l.msg.base l.left l.argument-iterator.at l.count

@@ -5,11 +5,11 @@ use Rattle.declaration_rows.proofs.WrittenLaws.{cell-sheet}
 use Rattle.type_references.proofs.EnterLaws.{type_put}
 use Rattle.type_references.proofs.enter.put_type.Goals as goal
 
-pub overflow_add-last : goal.overflow_add-last
-overflow_add-last c = let h = cell-sheet (name_cell (name_text c.args.payload.now c.args.d2.now c.args.name)) c.put_named-head.ensures in omega (arith, c.requires.0.room.sheet)
+pub overflow_add-out-2 : goal.overflow_add-out-2
+overflow_add-out-2 c = let h = cell-sheet (name_cell (name_text c.args.context.now.payload.now c.args.context.now.d2.now c.args.name)) c.put_named.ensures.written in omega (arith, c.requires.0.room.sheet)
 
-pub overflow_add-ended : goal.overflow_add-ended
-overflow_add-ended c = let h = cell-sheet (name_cell (name_text c.args.payload.now c.args.d2.now c.args.name)) c.put_named-head.ensures in omega (arith, c.requires.0.room.sheet)
+pub overflow_add-out-3 : goal.overflow_add-out-3
+overflow_add-out-3 c = let h = cell-sheet (name_cell (name_text c.args.context.now.payload.now c.args.context.now.d2.now c.args.name)) c.put_named.ensures.written in omega (arith, c.requires.0.room.sheet)
 
-pub returns : goal.returns
-returns c = rw (← c.number.ensures, ← c.number-2.ensures) (type_put c.number.result c.number-2.result c.args.nullable (name_text c.args.payload.now c.args.d2.now c.args.name) c.args.count c.args.state c.args.sheet.now c.args.text.now c.put.ensures c.put_number.ensures c.put_bit.ensures c.put_named-head.ensures c.put_number-2.ensures c.put_number-3.ensures)
+pub returns-clause-written : goal.returns-clause-written
+returns-clause-written c = rw (← c.number.ensures, ← c.number-2.ensures) (type_put c.number.result c.number-2.result c.args.nullable (name_text c.args.context.now.payload.now c.args.context.now.d2.now c.args.name) c.args.count c.args.out.now.state c.args.out.now.sheet.now c.args.out.now.text.now c.put.ensures c.put_number.ensures c.put_bit.ensures c.put_named.ensures.written c.put_number-2.ensures c.put_number-3.ensures)

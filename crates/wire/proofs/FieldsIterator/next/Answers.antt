@@ -10,7 +10,7 @@ use Rattle.wire.proofs.FieldsIterator.next.Goals as goal
 pub loop-read-init : goal.loop-read-init
 loop-read-init g c =
     let i = c.args.self.now in
-    record { still = refl; skips = skip_none i.s.now i.numbers i.at }
+    record { still = refl; skips = skip_none i.s.bytes.now i.numbers i.at }
 
 pub loop-read-preserved : goal.loop-read-preserved
 loop-read-preserved g c =
@@ -19,16 +19,15 @@ loop-read-preserved g c =
     record {
       still = c.loop-read.invariant.still;
       skips =
-          skip-then i.s.now i.numbers c.loop-read.invariant.skips
-          (skip-field i.s.now i.numbers c.loop-read.at c.in-Some.ensures λ j h e. c.is_among.ensures c.if-is_among.false j (omega arith) (sym e));
+          skip-then i.s.bytes.now i.numbers c.loop-read.invariant.skips
+          (skip-field i.s.bytes.now i.numbers c.loop-read.at c.in-Some.ensures λ j h e. c.is_among.ensures c.if-is_among.false j (omega arith) (sym e));
     }
 
 pub returns-then-is_among-clause-steps : goal.returns-then-is_among-clause-steps
 returns-then-is_among-clause-steps g c =
     let i = c.args.self.now in
     let e = c.loop-read.invariant.still in (
-      step-short i.base i.s.now i.numbers c.in-Some.read c.loop-read.invariant.skips c.in-Some.ensures,
-      ap (λ (j : Fields g.row.N). j.base) e,
+      step-short i.s.base i.s.bytes.now i.numbers c.in-Some.read c.loop-read.invariant.skips c.in-Some.ensures,
       ap (λ (j : Fields g.row.N). j.s) e,
       ap (λ (j : Fields g.row.N). j.numbers) e,
     )
@@ -36,7 +35,7 @@ returns-then-is_among-clause-steps g c =
 pub returns-in-Ok-clause-goes : goal.returns-in-Ok-clause-goes
 returns-in-Ok-clause-goes g c =
     let i = c.args.self.now in
-    let h = field-inside i.base i.s.now c.loop-read.at c.in-Ok.read (c.in-Ok.ensures.inside (omega arith)) (omega arith) in
+    let h = field-inside i.s.base i.s.bytes.now c.loop-read.at c.in-Ok.read (c.in-Ok.ensures.inside (omega arith)) (omega arith) in
     let f = c.loop-read.invariant.skips.later in
-    let e = ap (λ (j : Fields g.row.N). length j.s.now) c.loop-read.invariant.still in
+    let e = ap (λ (j : Fields g.row.N). length j.s.bytes.now) c.loop-read.invariant.still in
     search rules
