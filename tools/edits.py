@@ -9,7 +9,7 @@ usage: tools/edits.py --check                  whether they fit the files
                                                the edits, the code or its proofs
 
 A file can name the function that its edit falls on, in a line "# LABEL in FUNCTION: what is wrong"; LABEL is the file's name. Such an edit changes code, in
-that function (or a constant that only it names). What a proof of a function needs is said by its own code and by contracts, definitions and laws, which the
+that function (or a constant or static that only it names). What a proof of a function needs is said by its own code and by contracts, definitions and laws, which the
 edit doesn't change. So what rt tells first of its refusal must be a goal of that function, or of one of those that are named, and not that its proof
 doesn't fit the code any more. An edit of a definition names no function, and rt's own word counts.
 
@@ -24,7 +24,7 @@ import tempfile
 from wrong_answers import GONE, REFUSED, ROOT, UNMET, copy_to, follow, functions_of, restore
 
 PART = re.compile(r'^# (\w+) in (\w[\w:]*(?:, \w[\w:]*)*): (.*)$')
-CONSTANT = re.compile(r'^(?:pub(?:\(crate\))? )?const (\w+)', re.M)
+CONSTANT = re.compile(r'^(?:pub(?:\(crate\))? )?(?:const|static) (\w+)', re.M)
 TRIED = re.compile(r'^rt: must-fail (\w+)/(\S+)\.edit: (.*)$', re.M)
 AS_IT_MUST_BE = 'refused, as it must be'
 
@@ -71,7 +71,7 @@ class Part:
 
 
 def constants_at(crate, file, at, end):
-    """The constant of a source file that stands around a place, if one does."""
+    """The constant or static of a source file that stands around a place, if one does."""
     if at is None or not file.endswith('.rt'):
         return []
     text = (ROOT / 'crates' / crate / file).read_text()
@@ -82,7 +82,7 @@ def naming(crate, name, known):
     """The functions of a crate that name a constant; none if it is named elsewhere too, as by another constant."""
     found = set()
     for file in (ROOT / 'crates' / crate / 'src').glob('*.rt'):
-        for place in re.finditer(rf'^(?!use ).*\b(?<!const ){name}\b', re.sub('//.*', lambda words: ' ' * len(words[0]), file.read_text()), re.M):
+        for place in re.finditer(rf'^(?!use ).*\b(?<!const )(?<!static ){name}\b', re.sub('//.*', lambda words: ' ' * len(words[0]), file.read_text()), re.M):
             around = [f.path for f in known.values() if f.file == file.name and f.start <= place.start() and place.end() <= f.end]
             if not around:
                 return set()

@@ -31,7 +31,7 @@ fn print_line(
     Ok(true)
 }
 
-// The answer into these areas, with k and mv from what is kept.
+// The answer into these areas, with k and mv from what is kept. answer_lines takes both in the same way, and says there why that is no function.
 fn show(
     rt: &impl Print,
     kept: &[u8],
@@ -56,7 +56,7 @@ fn show(
     }
 }
 
-// The same with d1, d2 and ends from what is kept.
+// The same with d1, d2 and ends from what is kept. answer_lines has these three arrays too, and says there why they are no function's.
 fn show_kept(rt: &impl Print, kept: &[u8], sheet: &mut [u8], text: &mut [u8]) -> io::Result<bool> {
     let mut d1 = [0u16; 32769];
     let mut d2 = [0u16; 32769];
@@ -82,7 +82,7 @@ fn show_kept(rt: &impl Print, kept: &[u8], sheet: &mut [u8], text: &mut [u8]) ->
     )
 }
 
-// One input of a file; false at its end, or where areas are larger than 65,536 bytes.
+// One input of a file. False at the file's end, or where the input or an area is too long for what is held here.
 fn replay<F: Read>(rt: &impl Print, file: &mut F) -> io::Result<bool> {
     let mut head = [0u8; 12];
     if read_full(file, &mut head) < head.len() {

@@ -2,7 +2,7 @@
 -- Assumes nothing.
 use mathlib.Core.Path.{◌≡◌, refl, ap, sym, ◌∙◌}
 use mathlib.Core.Bool.{Bool, true, false, ◌&&◌, and-true, and_assoc, and-false}
-use mathlib.Core.List.{List, [], ◌∷◌, map}
+use mathlib.Core.List.{List, [], ◌∷◌, ◌++◌, map}
 use Prim.Native.Nat.{ℕ, suc, ◌+◌, ◌≤◌, ◌<◌}
 use native.Mathlib.Numerals.{add-one}
 use native.Mathlib.Omega.{arith}
@@ -29,19 +29,14 @@ or_below a b =
 pub drop_next : (s : List ℕ) (i : ℕ) → i < length s → drop i s ≡ get_or s i 0 ∷ drop (i + 1) s
 drop_next s i h = rw (add-one i, drop-cons s i 0 h)
 
--- The test: what was seen and what is left are the whole.
-pub ascii_next : {rest : List ℕ} {w : Bool} (all c : ℕ) (rest' : List ℕ) → rest ≡ c ∷ rest' → (ltb all 128 && is_ascii rest) ≡ w
-    → (ltb (bit_or all c) 128 && is_ascii rest') ≡ w
+-- The test: all were below 128 if the bits of all so far are.
+ascii-last : (cs : List ℕ) (c : ℕ) → is_ascii (cs ++ c ∷ []) ≡ (is_ascii cs && ltb c 128)
 unfolding is_ascii
-ascii_next all c rest' e f =
-    ap (λ (t : Bool). t && is_ascii rest') (or_below all c)
-    ∙ and_assoc (ltb all 128) (ltb c 128) (is_ascii rest')
-    ∙ ap (λ (l : List ℕ). ltb all 128 && is_ascii l) (sym e)
-    ∙ f
+ascii-last [] c = and-true (ltb c 128)
+ascii-last (d ∷ cs) c = ap (λ (t : Bool). ltb d 128 && t) (ascii-last cs c) ∙ sym (and_assoc (ltb d 128) (is_ascii cs) (ltb c 128))
 
-pub ascii-end : {rest : List ℕ} {w : Bool} (all : ℕ) → rest ≡ [] → (ltb all 128 && is_ascii rest) ≡ w → ltb all 128 ≡ w
-unfolding is_ascii
-ascii-end all e f = sym (and-true (ltb all 128)) ∙ ap (λ (l : List ℕ). ltb all 128 && is_ascii l) (sym e) ∙ f
+pub ascii_next : (cs : List ℕ) (all c : ℕ) → ltb all 128 ≡ is_ascii cs → ltb (bit_or all c) 128 ≡ is_ascii (cs ++ c ∷ [])
+ascii_next cs all c h = or_below all c ∙ ap (λ (t : Bool). t && ltb c 128) h ∙ sym (ascii-last cs c)
 
 -- A text in UTF-8 and UTF-16 is itself.
 split : (c : ℕ) (cs : List ℕ) → is_ascii (c ∷ cs) ≡ true → (c < 128) × (is_ascii cs ≡ true)

@@ -170,6 +170,9 @@ pub record Measuring (s : List ℕ) (i size : ℕ) : Type 0 where
 pub measuring_start : (s : List ℕ) → 0 < length s → Measuring s 0 0
 measuring_start s h = record { inside = h; sums = zero-add (units_size (part_from 0 (length s) s)) ∙ ap units_size (rest-is s 0) }
 
+pub measuring-there : {s : List ℕ} {i size : ℕ} (n : ℕ) → n ≡ i → Measuring s i size → Measuring s n size
+measuring-there {s} {i} {size} n e g = subst (λ (k : ℕ). Measuring s k size) (sym e) g
+
 module _ {s : List ℕ} {i size : ℕ} (g : Measuring s i size) where
   module _ (to r : ℕ) {w : ℕ} (h : to < length s)
       (a : (e : ℕ) → to < e → e ≤ length s → r + units_size (part_from to e s) ≡ units_size (part_from i e s)) (b : w ≡ r) where

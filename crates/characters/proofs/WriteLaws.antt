@@ -3,19 +3,32 @@
 use mathlib.Core.Path.{◌≡◌, refl, ap, sym, ◌∙◌}
 use mathlib.Core.List.{List, [], ◌∷◌}
 use Prim.Native.Nat.{ℕ, ◌+◌, ◌≤◌, ◌<◌}
+use native.Mathlib.Nat.{add-zero, add-suc}
 use native.Mathlib.Numerals.{add-one}
 use native.Mathlib.Omega.{arith}
-use lib.ListN.{set}
+use lib.ListN.{length, drop, drop_of_length-le, get_or, set}
 use lib.Seq.{sets}
 use Rattle.foundation.specs.Texts.{Text}
 use Rattle.foundation.proofs.OverlayLaws.{sets_append}
 use Rattle.characters.specs.Characters.{width, utf8_of, utf8}
 use Rattle.characters.specs.told.CharactersTold.{PutCharacter}
 use Rattle.characters.proofs.Utf8Laws.{utf8-length, by_width, bytes2, bytes3, bytes4}
+use Rattle.characters.proofs.AsciiLaws.{drop_next}
 
--- A byte, and from the next place on more.
-pub put_then : (vs l : List ℕ) (i a : ℕ) {m n : List ℕ} → m ≡ set l i a → n ≡ sets m (i + 1) vs → n ≡ sets l i (a ∷ vs)
-put_then vs l i a e f = f ∙ rw (e, add-one i)
+-- Bytes are written one after the other: what is left to write gives the whole.
+module _ (vs before : List ℕ) (at : ℕ) where
+  abbrev pub LeftBytes : ℕ → List ℕ → Type 0
+  LeftBytes i now = sets before at vs ≡ sets now (at + i) (drop i vs)
+
+  pub left_bytes-start : LeftBytes 0 before
+  left_bytes-start = ap (λ (n : ℕ). sets before n vs) (sym (add-zero at))
+
+  pub left_bytes-next : (i : ℕ) (now : List ℕ) {then : List ℕ} → LeftBytes i now → i < length vs → then ≡ set now (at + i) (get_or vs i 0)
+      → LeftBytes (i + 1) then
+  left_bytes-next i now g h e = g ∙ rw (drop_next vs i h, e, add-one i) (simp add-suc)
+
+  pub left_bytes-end : (i : ℕ) (now : List ℕ) → LeftBytes i now → length vs ≤ i → now ≡ sets before at vs
+  left_bytes-end i now g h = sym (g ∙ ap (sets now (at + i)) (drop_of_length-le vs h))
 
 -- The bytes of a character are those of one width.
 abbrev Is : ℕ → List ℕ → ℕ → List ℕ → Type 0

@@ -3,29 +3,21 @@ ghost use Rattle.std.specs.Prelude.{◌≡◌, true, map, ◌+◌, ◌≤◌, le
 ghost use Rattle.std.proofs.lemmas.List.Edits.{sets};
 ghost use Rattle.characters.specs.told.Plain.{instead, with_dots, is_ascii, shown};
 
-// Is every unit below 128? All are looked at, so that the machine tests many at once.
+// Is every unit below 128? The fold has no way out, so that the machine tests many at once.
 pub fn ascii_units(units: &[u16]) -> bool
     ensures { result ≡ is_ascii units.now }
 {
-    let mut all = 0;
-    for unit in units {
-        all |= *unit;
-    }
-    all < 128
+    units.iter().fold(0, |all, unit| all | *unit) < 128
 }
 
-// Is every byte? A loop of its own: one for both would need laws of `|` on any number, for three lines.
+// Is every byte below 128? One function for both would need a trait with `|`, `<` and their laws for both types: longer than this second line.
 pub fn ascii_bytes(s: &[u8]) -> bool
     ensures { result ≡ is_ascii s.now }
 {
-    let mut all = 0;
-    for byte in s {
-        all |= *byte;
-    }
-    all < 128
+    s.iter().fold(0, |all, byte| all | *byte) < 128
 }
 
-// This and the next two are names::name's of 32-bit numbers: for both at once they would need a trait of their literals.
+// `instead`, `with_dots` and `shown` are of bytes what names::name has of 32-bit characters: for both at once they would need a trait with the literals.
 fn instead(from: u8, to: u8, c: u8) -> u8
     ensures { result ≡ instead from to c }
 {
@@ -52,6 +44,7 @@ fn shown(dots: bool, slashes: bool, c: u8) -> u8
 }
 
 // Units below 128, where there is room for all of them. No unit is tested.
+// The two flags are no struct here: the one that has them, names::name::Change, stands in a crate above and holds a replaced character too.
 // Callers show that they are below 128 and fit the area: names::stream tests both once, before the call.
 pub fn copy_units(units: &[u16], dots: bool, slashes: bool, area: &mut [u8], at: usize)
     requires { (is_ascii units.now ≡ true) × (at + length units.now ≤ length area.old) }
@@ -62,7 +55,8 @@ pub fn copy_units(units: &[u16], dots: bool, slashes: bool, area: &mut [u8], at:
     }
 }
 
-// Bytes below 128, where there is room for all of them. No byte is tested.
+// Bytes below 128, where there is room for all of them. No byte is tested. One function for units and bytes would need a trait that says how an
+// element below 128 becomes a byte, with a law of it for both types: longer than this second loop.
 // Callers show that they are below 128 and fit the area: names::stream tests both once, before the call.
 pub fn copy_bytes(s: &[u8], dots: bool, slashes: bool, area: &mut [u8], at: usize)
     requires { (is_ascii s.now ≡ true) × (at + length s.now ≤ length area.old) }

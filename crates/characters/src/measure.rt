@@ -28,7 +28,8 @@ fn unit_size(unit: u16, next: u16) -> u16
     3
 }
 
-// How many bytes some units add, by 16-bit sums, which their number leaves room for.
+// How many bytes some units add, by 16-bit sums, which their number leaves room for. `units[from..=to].windows(2)` is no plainer: the bounds stand in it all
+// the same, and both units of a pair are taken by index.
 fn block_size(units: &[u16], from: usize, to: usize) -> u16
     requires { (from ≤ to) × (to < length units.now) × (to - from ≤ 16384) }
     ensures { (end : ℕ) → to < end → end ≤ length units.now → result + units_size (part_from to end units.now) ≡ units_size (part_from from end units.now) }
@@ -40,7 +41,8 @@ fn block_size(units: &[u16], from: usize, to: usize) -> u16
     size
 }
 
-// How many bytes UTF-8 gives the text of some units.
+// How many bytes UTF-8 gives the text of some units, block by block. The blocks are places and no chunks of the slice: what the last unit of
+// a block adds goes by the unit after it, the first of the next block.
 // Callers show that the number fits 64 bits: names::stream and lookup::strings by what they require.
 pub fn utf8_size(units: &[u16]) -> usize
     requires { length (utf8 (from_utf16 units.now)) < 2 ^ 64 }
@@ -51,11 +53,9 @@ pub fn utf8_size(units: &[u16]) -> usize
     }
     let last = units.len() - 1;
     let mut size = 0;
-    let mut i = 0;
-    while 16384 < last - i {
-        size += usize::from(block_size(units, i, i + 16384));
-        i += 16384;
+    for from in (0..last).step_by(16384) {
+        let to = last.min(from + 16384);
+        size += usize::from(block_size(units, from, to));
     }
-    size += usize::from(block_size(units, i, last));
     size + usize::from(unit_size(units[last], 0))
 }

@@ -2,14 +2,15 @@
 // answers tell them: specs/told/ConversionTold.antt.
 #![tactic(auto)]
 
-ghost use Rattle.std.specs.Prelude.{◌≡◌, ◌∷◌, ◌≤◌, length, get_or};
+ghost use Rattle.std.specs.Prelude.{◌≡◌, ◌∷◌, ◌≤◌, length};
 ghost use Rattle.std.proofs.Math.Option.{none};
 ghost use Rattle.std.proofs.lemmas.List.Edits.{sets};
 ghost use Rattle.encoding.specs.Encoding.{unit_limit, byte_string_marker, first_above255};
 ghost use Rattle.converter.specs.Conversions.{old_units, carrying, fault_number, fault_detail, old_fault, new_fault, old_to_new, new_to_old};
 ghost use Rattle.converter.specs.told.ConversionTold.{cause_of, size_fault, byte_fault, checked_told, converted_by};
 
-use encoding::{BYTE_STRING_MARKER, UNIT_LIMIT, first_above_255, put_unit, unpack};
+use encoding::{BYTE_STRING_MARKER, UNIT_LIMIT, first_above_255, unpack};
+use foundation::put;
 use std::error::Error;
 use std::fmt;
 
@@ -115,19 +116,9 @@ fn new_fault(d1: &[u16]) -> Result<(), ConvertFault>
 fn put_marked(units: &mut [u16], bytes: &[u8])
     ensures { units.new ≡ sets units.old 0 (byte_string_marker ∷ bytes.now) }
 {
-    put_unit(units, 0, BYTE_STRING_MARKER);
+    put(units, 0, BYTE_STRING_MARKER);
     for (i, byte) in bytes.iter().enumerate() {
-        put_unit(units, i + 1, u16::from(*byte));
-    }
-}
-
-// A unit, 0 past the end.
-fn unit_at(units: &[u16], i: usize) -> u32
-    ensures { result ≡ get_or units.now i 0 }
-{
-    match units.get(i) {
-        Some(unit) => u32::from(*unit),
-        None => 0,
+        put(units, i + 1, u16::from(*byte));
     }
 }
 
@@ -146,17 +137,17 @@ fn pack(bytes: &[u16], units: &mut [u16])
 {
     let mut buffer: u32 = 0;
     let mut scale: u32 = 1;
-    let mut i = 0;
+    let mut rest = bytes.iter();
     for at in 0..(8 * bytes.len() + 6) / 7 {
         if scale == 128 {
-            put_unit(units, at, carrying_unit(buffer));
+            put(units, at, carrying_unit(buffer));
             buffer = 0;
             scale = 1;
             continue;
         }
-        let taken = buffer + unit_at(bytes, i) * scale;
-        i += 1;
-        put_unit(units, at, carrying_unit(taken % 128));
+        let byte = rest.next().copied().unwrap_or(0);
+        let taken = buffer + u32::from(byte) * scale;
+        put(units, at, carrying_unit(taken % 128));
         buffer = taken / 128;
         scale *= 2;
     }

@@ -32,7 +32,7 @@ use Rattle.declaration_rows.specs.told.Written.{RecordRoom, cell_limit, signatur
 use Rattle.declaration_rows.specs.declared.SignatureNames.{SignatureNames}
 
 -- A name's text is what is written of it.
-pub name-text : (payload d2 : List ℕ) (n : Name) → name_bytes payload d2 n false ≡ cell_text (name_cell (some (named_text payload d2 n)))
+pub name-text : (payload d2 : List ℕ) (n : Name) → name_bytes payload d2 (Some n) false ≡ cell_text (name_cell (some (named_text payload d2 n)))
 unfolding name_bytes
 name-text payload d2 n = refl
 
@@ -42,7 +42,7 @@ named_absent s S T p = cell_put (name_cell none) S T (simp add-zero) p refl
 
 module _ (payload d2 : List ℕ) (n : Name) where
   pub named-present : (s : State) (S T : List ℕ) {S' T' : List ℕ} {next : ℕ}
-      → PutText (name_bytes payload d2 n false) s.text next T T' → S' ≡ sets S s.sheet (present_bytes s.text (next - s.text))
+      → PutText (name_bytes payload d2 (Some n) false) s.text next T T' → S' ≡ sets S s.sheet (present_bytes s.text (next - s.text))
       → PutCells (name_cell (some (named_text payload d2 n)) ∷ []) s.types s (record { sheet = s.sheet + 4; text = next; types = s.types }) S S' T T'
   named-present s S T {next = next} w p =
       let c = name_cell (some (named_text payload d2 n)) in
@@ -52,7 +52,7 @@ module _ (payload d2 : List ℕ) (n : Name) where
       cell_put c S T (rw g) (p ∙ rw h refl) (w.written ∙ ap (sets T s.text) f)
 
   -- A name's text is short, and can be counted.
-  pub name-fits : {s : State} → RecordRoom (2 ^ 63) payload d2 s → s.text + length (name_bytes payload d2 n false) < 2 ^ 64
+  pub name-fits : {s : State} → RecordRoom (2 ^ 63) payload d2 s → s.text + length (name_bytes payload d2 (Some n) false) < 2 ^ 64
   name-fits r = omega (arith, name-most payload d2 n 32768 r.payload r.d2 (omega arith) false)
 
 -- A record's kind, a number, a cell of 0 or 1, and two refs to no text.

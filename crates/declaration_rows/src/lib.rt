@@ -1,5 +1,5 @@
-// Records written from values that are looked up, all kinds but 6. A count stands last in its record and is left out here: it is
-// written once what it counts is (sheet's `row-counted`, `row-patch`). The cells: specs/told/Written.antt.
+// Records written from values that are looked up, all kinds but that of a type (type_references). A count stands last in its record and is left
+// out here: it is written once what it counts is (sheet's laws `row-counted`, `row_patch`). The cells: specs/told/Written.antt.
 #![tactic(auto)]
 
 ghost use Rattle.std.specs.Prelude.{◌≡◌, List, [], ◌∷◌, ℕ, ◌+◌, ◌^◌, ◌≤◌, length};
@@ -13,10 +13,13 @@ ghost use Rattle.sheet.specs.told.Put.{PutRows, SameAreas, WroteCells, WroteHead
 ghost use Rattle.declaration_rows.specs.Rows.{name_cell, signature_cells};
 ghost use Rattle.declaration_rows.specs.told.Written.{RecordRoom, role_number, record_number, signature_by, init_by, head_cells, head_counts, constructor_cells, function_cells, property_flags, property_signatures, property_cells, parameter_cells, alias_cells};
 
-use foundation::Context;
+pub mod kinds; // kinds.rt: the kinds of records
+
+use crate::kinds::RecordKind;
+use foundation::{Context, put};
 use names::name::Name;
 use names::stream::put_name;
-use sheet::{Output, put, put_absent, put_all, put_bit, put_number, put_ref};
+use sheet::{Output, put_absent, put_all, put_bit, put_number, put_ref};
 
 // The role of a type: a return or property type, a receiver, a parameter, a vararg element, an argument, an alias's underlying and its expanded
 // type.
@@ -40,19 +43,6 @@ impl Role {
     }
 }
 
-// The kinds of records that are written here.
-#[derive(Clone, Copy)]
-enum Record {
-    Head = 1,
-    Constructor = 2,
-    Function = 3,
-    Property = 4,
-    Parameter = 5,
-    Default = 7,
-    Alias = 8,
-    Aliases = 9,
-}
-
 // The two names of a signature. It is there if both are.
 #[derive(Clone, Copy)]
 pub struct SignatureNames {
@@ -70,14 +60,17 @@ pub struct PropertyFlags {
 }
 
 // The cell of a name that is there, and its text.
+// `RecordRoom`, here and below, is no invariant of `Context` and `Output`: it bounds both by a number of each call's own. So does
+// `out.old.state.sheet ≤ 2 ^ 63` of what writes no text.
 fn put_present(context: &Context<'_>, name: Name, out: &mut Output<'_>)
     requires { RecordRoom (2 ^ 63) context.now.payload.now context.now.d2.now out.old.state }
     ensures same_areas { SameAreas out.old out.new }
     ensures written { WroteCells (name_cell (some (named_text context.now.payload.now context.now.d2.now name)) ∷ []) out.old.state.types out.old out.new }
 {
     let offset = out.state.text;
-    out.state.text = put_name(context, name, false, out.text, offset);
+    out.state.text = put_name(context, Some(name), false, out.text, offset);
     let size = out.state.text - offset;
+    // `as u64`, here and below: Rust has no `From<usize>` for `u64`.
     put_ref(out.sheet, out.state.sheet, offset as u64, size as u64);
     out.state.sheet += 4;
 }
@@ -97,19 +90,13 @@ pub fn put_named(context: &Context<'_>, name: Option<Name>, out: &mut Output<'_>
     put_present(context, name, out);
 }
 
-fn number_of(kind: Record) -> u8
-    ensures { result ≡ record_number kind }
-{
-    kind as u8
-}
-
 // A record begins: its kind.
-fn put_kind(kind: Record, out: &mut Output<'_>)
+fn put_kind(kind: RecordKind, out: &mut Output<'_>)
     requires { out.old.state.sheet ≤ 2 ^ 63 }
     ensures same_areas { SameAreas out.old out.new }
     ensures written { WroteHead (record_number kind) [] out.old.state.types out.old out.new }
 {
-    put(out.sheet, out.state.sheet, number_of(kind));
+    put(out.sheet, out.state.sheet, kind.number());
     out.state.sheet += 1;
 }
 
@@ -123,7 +110,7 @@ fn put_wide(width: usize, n: u64, out: &mut Output<'_>)
     out.state.sheet += width;
 }
 
-// 0 or 1: a cell of a record, where `put_kind` begins one.
+// The cell of a flag: a byte, 0 or 1.
 fn put_flag(on: bool, out: &mut Output<'_>)
     requires { out.old.state.sheet ≤ 2 ^ 63 }
     ensures same_areas { SameAreas out.old out.new }
@@ -200,7 +187,7 @@ pub fn put_constructor(
     ensures same_areas { SameAreas out.old out.new }
     ensures written { WroteHead 2 (constructor_cells flags (init_by context.now.payload.now context.now.d2.now signature)) out.old.state.types out.old out.new }
 {
-    put_kind(Record::Constructor, out);
+    put_kind(RecordKind::Constructor, out);
     put_wide(8, flags, out);
     put_init_signature(context, signature, out);
 }
@@ -219,7 +206,7 @@ pub fn put_function(
     ensures same_areas { SameAreas out.old out.new }
     ensures written { WroteHead 3 (function_cells (name_text context.now.payload.now context.now.d2.now name) flags (signature_by context.now.payload.now context.now.d2.now signature) receiver) out.old.state.types out.old out.new }
 {
-    put_kind(Record::Function, out);
+    put_kind(RecordKind::Function, out);
     put_named(context, name, out);
     put_wide(8, flags, out);
     put_signature(context, signature, out);
@@ -238,7 +225,7 @@ fn put_property_flags(flags: PropertyFlags, out: &mut Output<'_>)
     put_flag(flags.setter, out);
 }
 
-// Field, getter and setter of a property.
+// Field, getter and setter of a property. They are no struct: it would be made for `put_property` alone, which hands the three on.
 fn put_property_signatures(
     context: &Context<'_>,
     field: SignatureNames,
@@ -270,7 +257,7 @@ pub fn put_property(
     ensures same_areas { SameAreas out.old out.new }
     ensures written { WroteRows (row 4 (property_cells (name_text context.now.payload.now context.now.d2.now name) flags.word flags.receiver flags.getter flags.setter (signature_by context.now.payload.now context.now.d2.now field) (signature_by context.now.payload.now context.now.d2.now getter) (signature_by context.now.payload.now context.now.d2.now setter)) ∷ []) out.old.state.types out.old out.new }
 {
-    put_kind(Record::Property, out);
+    put_kind(RecordKind::Property, out);
     put_named(context, name, out);
     put_property_flags(flags, out);
     put_property_signatures(context, field, getter, setter, out);
@@ -283,7 +270,7 @@ pub fn put_parameter(context: &Context<'_>, name: Option<Name>, default: bool, o
     ensures same_areas { SameAreas out.old out.new }
     ensures written { WroteRows (row 5 (parameter_cells (name_text context.now.payload.now context.now.d2.now name) default) ∷ []) out.old.state.types out.old out.new }
 {
-    put_kind(Record::Parameter, out);
+    put_kind(RecordKind::Parameter, out);
     put_named(context, name, out);
     put_flag(default, out);
 }
@@ -295,7 +282,7 @@ pub fn put_alias(context: &Context<'_>, name: Option<Name>, flags: u64, out: &mu
     ensures same_areas { SameAreas out.old out.new }
     ensures written { WroteRows (row 8 (alias_cells (name_text context.now.payload.now context.now.d2.now name) flags) ∷ []) out.old.state.types out.old out.new }
 {
-    put_kind(Record::Alias, out);
+    put_kind(RecordKind::Alias, out);
     put_named(context, name, out);
     put_wide(8, flags, out);
 }
@@ -307,7 +294,7 @@ pub fn put_aliases(out: &mut Output<'_>)
     ensures same_areas { SameAreas out.old out.new }
     ensures written { WroteHead 9 [] out.old.state.types out.old out.new }
 {
-    put_kind(Record::Aliases, out);
+    put_kind(RecordKind::Aliases, out);
 }
 
 // Kind 7 for a constructor or function without a default descriptor.
@@ -317,7 +304,7 @@ pub fn put_default_absent(out: &mut Output<'_>)
     ensures same_areas { SameAreas out.old out.new }
     ensures written { WroteRows (row 7 (ref none ∷ []) ∷ []) out.old.state.types out.old out.new }
 {
-    put_kind(Record::Default, out);
+    put_kind(RecordKind::Default, out);
     put_absent(out.sheet, out.state.sheet);
     out.state.sheet += 4;
 }
@@ -329,15 +316,15 @@ pub fn put_default(size: usize, out: &mut Output<'_>)
     ensures same_areas { SameAreas out.old out.new }
     ensures written { (d T : List ℕ) → length d ≡ size → out.old.text.now ≡ sets T out.old.state.text d → PutRows (row 7 (ref (some d) ∷ []) ∷ []) out.old.state.types out.old.state out.new.state out.old.sheet.now out.new.sheet.now T out.new.text.now }
 {
-    put_kind(Record::Default, out);
+    put_kind(RecordKind::Default, out);
     let offset = out.state.text;
     put_ref(out.sheet, out.state.sheet, offset as u64, size as u64);
     out.state.sheet += 4;
     out.state.text += size;
 }
 
-// Kind 1, up to the counts of constructors, functions and properties. `kind` is the metadata kind's number, as it is written; the enum of kinds is
-// inputs', which stands above.
+// Kind 1, up to the counts of constructors, functions and properties. `kind` is the metadata kind's number, as it is written. The enum of kinds
+// would be no plainer: it stands with what reads k, in inputs, and would have no reader here.
 // Callers show `RecordRoom`: declarations::body from the `Affords` that it requires; metadata has an empty payload and begins at places 0.
 pub fn put_head(
     context: &Context<'_>,
@@ -350,8 +337,8 @@ pub fn put_head(
     ensures same_areas { SameAreas out.old out.new }
     ensures written { WroteHead 1 (head_cells kind (name_text context.now.payload.now context.now.d2.now name) flags) out.old.state.types out.old out.new }
 {
-    put_kind(Record::Head, out);
-    put_wide(1, kind as u64, out);
+    put_kind(RecordKind::Head, out);
+    put_wide(1, u64::from(kind), out);
     put_named(context, name, out);
     put_wide(8, flags, out);
 }

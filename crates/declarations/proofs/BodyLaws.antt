@@ -10,6 +10,7 @@ use native.Mathlib.Omega.{arith}
 use lib.Dec.{eqb}
 use lib.ListN.{length, length-append}
 use lib.Seq.{sets}
+use Rattle.std.specs.Prelude.{if◌then◌else◌}
 use Rattle.foundation.specs.Choices.{concat}
 use Rattle.foundation.specs.Digits.{little}
 use Rattle.foundation.specs.Results.{ok, ◌from◌}
@@ -40,7 +41,7 @@ use Rattle.descriptors.specs.Defaults.{closed_constructor, closed_function}
 use Rattle.members.specs.Lists.{section_rows}
 use Rattle.members.specs.declared.list.Member.TheVariants as member
 use Rattle.declarations.specs.Payload.{head_row, declaration_rows}
-use Rattle.declarations.specs.told.BodyTold.{head_cost, list_cost, aliases_cost, lists_cost, body_cost, BodyHead, ConstructorsTold, AliasesAre, AliasesTold, Reached, ListsTold, BodyWalked}
+use Rattle.declarations.specs.told.BodyTold.{head_cost, list_cost, aliases_cost, lists_cost, body_cost, BodyHead, ConstructorsTold, AliasesAre, AliasesTold, RowsReach, ListsTold, BodyWalked}
 use Rattle.declarations.specs.declared.body.Sections.{Sections}
 use Rattle.std.proofs.Common.{Ok, Err}
 
@@ -139,10 +140,10 @@ module _ {e : Lent} (n : ℕ) {s : State} where
       head-ends = let r = lists-affords.room in omega arith
 
 -- How far rows reach.
-reached : {rs : List Row} {b : ℕ} {s s' : State} {S S' T T' : List ℕ} → PutRows rs b s s' S S' T T' → Reached rs s s'
+reached : {rs : List Row} {b : ℕ} {s s' : State} {S S' T T' : List ℕ} → PutRows rs b s s' S S' T T' → RowsReach rs s s'
 reached p = record { sheet = put-sheet p; text = put-text p }
 
-reached_then : (rs qs : List Row) {s s₁ s₂ : State} → Reached rs s s₁ → Reached qs s₁ s₂ → Reached (rs ++ qs) s s₂
+reached_then : (rs qs : List Row) {s s₁ s₂ : State} → RowsReach rs s s₁ → RowsReach qs s₁ s₂ → RowsReach (rs ++ qs) s s₂
 reached_then rs qs {s} p q = record {
   sheet =
       q.sheet
@@ -150,6 +151,11 @@ reached_then rs qs {s} p q = record {
       (add_assoc s.sheet (length (sheet_from s.text rs)) (length (sheet_from (s.text + length (texts rs)) qs)));
   text = q.text ∙ rw (p.text, texts-append rs qs, length-append) (add_assoc s.text (length (texts rs)) (length (texts qs)));
 }
+
+-- A list's field, by one number for a class and one for a package.
+pub field-by : (f : Bool → ℕ) {n : ℕ} (class : Bool) → n ≡ (if class then f true else f false) → n ≡ f class
+field-by f true e = e
+field-by f false e = e
 
 -- The aliases: kind 9, the list, and then its count.
 module _ (e : Lent) (msg : List ℕ) (base : ℕ) (class : Bool) {s s₁ : State} {S S₁ T T₁ : List ℕ}
@@ -259,18 +265,18 @@ counts_same : (o : ℕ) {i j l a b c : ℕ} → i ≡ a → j ≡ b → l ≡ c 
 counts_same o p q r = rw (p, q, r)
 
 -- The head, the lists, and then the counts.
-module _ (kind : ℕ) (e : Lent) (msg : List ℕ) (base : ℕ) (class : Bool) (k : class ≡ eqb kind 1) {s s₁ : State} {S S₁ T T₁ : List ℕ}
+module _ (kind : ℕ) (e : Lent) (msg : List ℕ) (base : ℕ) {s s₁ : State} {S S₁ T T₁ : List ℕ}
     (h : BodyHead kind e msg base s s₁ S S₁ T T₁)
   where
     module _ (c : Scope) (w : Scoped e c) (m : Message) (f : cut (◌from◌ base msg) ≡ ok m) where
-      after-head : after_table (eqb kind 1) c m s.types ≡ lists_in class (head h.name h.flags) c m s₁.types
+      after-head : after_table (eqb kind 1) c m s.types ≡ lists_in (eqb kind 1) (head h.name h.flags) c m s₁.types
       unfolding after_table
-      after-head = rw (h.is c w.names m f s.types, ← k, put-types h.put)
+      after-head = rw (h.is c w.names m f s.types, put-types h.put)
 
-    pub body-stops : (stop : Stop) (S₂ T₂ : List ℕ) → ListsTold class e msg base (past 6 s₁) (Err stop) S₁ S₂ T₁ T₂ → BodyWalked kind e msg base s (Err stop) S S₂ T T₂
+    pub body-stops : (stop : Stop) (S₂ T₂ : List ℕ) → ListsTold (eqb kind 1) e msg base (past 6 s₁) (Err stop) S₁ S₂ T₁ T₂ → BodyWalked kind e msg base s (Err stop) S S₂ T T₂
     body-stops stop S₂ T₂ t c w m f = after-head c w m f ∙ t c w m f (head h.name h.flags)
 
-    head-reached : (i j l : ℕ) → Reached (row 1 (head_cells kind h.name h.flags ++ head_counts i j l) ∷ []) s (past 6 s₁)
+    head-reached : (i j l : ℕ) → RowsReach (row 1 (head_cells kind h.name h.flags ++ head_counts i j l) ∷ []) s (past 6 s₁)
     unfolding body_bytes sheet_from texts
     head-reached i j l =
         let w : PutRows (row 1 (head_cells kind h.name h.flags ++ head_counts i j l) ∷ []) s₁.types s (past 6 s₁) S
@@ -278,7 +284,7 @@ module _ (kind : ℕ) (e : Lent) (msg : List ℕ) (base : ℕ) (class : Bool) (k
         head-put kind h.name h.flags i j l [] h.put (put_none (past 6 s₁) S₁ T₁) λ o. refl in
         reached w
 
-    pub body-done : {b : Sections} {S₂ S₃ T₂ : List ℕ} → ListsTold class e msg base (past 6 s₁) (Ok b) S₁ S₂ T₁ T₂
+    pub body-done : {b : Sections} {S₂ S₃ T₂ : List ℕ} → ListsTold (eqb kind 1) e msg base (past 6 s₁) (Ok b) S₁ S₂ T₁ T₂
         → ((o : ℕ) → S₃ ≡ sets S₂ s₁.sheet (body_bytes o (head_counts b.constructors.count b.functions.count b.properties.count)))
         → BodyWalked kind e msg base s (Ok b) S S₃ T T₂
     unfolding declaration_rows
@@ -302,7 +308,7 @@ module _ (kind : ℕ) (e : Lent) (msg : List ℕ) (base : ℕ) (class : Bool) (k
           u.left,
           after-head c w m f ∙ u.reads (head h.name h.flags),
           record {
-            head_end = subst (Reached (head_row kind d ∷ []) s) (sym u.head_end) above;
+            head_end = subst (RowsReach (head_row kind d ∷ []) s) (sym u.head_end) above;
             constructors_end = reached_then (head_row kind d ∷ []) cs above u.constructors_end;
             functions_end = reached_then (head_row kind d ∷ []) (cs ++ fs) above u.functions_end;
             properties_end = reached_then (head_row kind d ∷ []) (cs ++ (fs ++ ps)) above u.properties_end;

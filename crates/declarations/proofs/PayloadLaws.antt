@@ -10,9 +10,9 @@ use native.Mathlib.Omega.{arith}
 use borrow.Rule.Slice.PartMut.{put_mid, mid_of, post_of, Post-is, take_put, same_len_mid}
 use lib.Dec.{eqb}
 use lib.ListN.{length, take, drop, get_or, length-append, length-take, length-drop}
-use lib.Seq.{length-take-le, take_all, drop-append_seam, drop-length, get_or-take, get_or-drop, take-take, take-append_seam}
+use lib.Seq.{length-take-le, drop-append_seam, drop-length, get_or-take, get_or-drop, take-take, take-append_seam}
 use Rattle.foundation.specs.Results as Results
-use Rattle.foundation.specs.Results.{Res, ok, refused, Part, ◌from◌, got}
+use Rattle.foundation.specs.Results.{Res, ok, ◌from◌}
 use Rattle.foundation.specs.Texts.{Text}
 use Rattle.fields.specs.Fields.{StringTableTypes-record, TypeTable-type, Class-type_table}
 use Rattle.wire.specs.Wire.{Message, cut, read_delimited}
@@ -65,17 +65,10 @@ body-after kind names m l = table-then names m l (eqb kind 1)
 
 -- The body, cut, and its type table noted.
 module _ (bytes : List ℕ) (at count : ℕ) (entries : List ℕ) where
-  here : ◌from◌ at (take (length bytes - at) (drop at bytes)) ≡ ◌from◌ at (drop at bytes)
-  here = ap (λ (l : List ℕ). ◌from◌ at l) (take_all (length bytes - at) (drop at bytes) (omega (arith, length-drop at bytes)))
+  pub body_refused : (error : WireError) → cut (◌from◌ at (drop at bytes)) ≡ wire_refused error → BodyOpened bytes at count entries (Err (index.Wire error))
+  body_refused error refuses kind names = rw refuses
 
-  pub body_refused : (error : WireError) → cut (◌from◌ at (take (length bytes - at) (drop at bytes))) ≡ wire_refused error
-      → BodyOpened bytes at count entries (Err (index.Wire error))
-  body_refused error e kind names = let refuses = ap cut (sym here) ∙ e in rw refuses
-
-  module _ (m : Message) (e : cut (◌from◌ at (take (length bytes - at) (drop at bytes))) ≡ ok m) where
-    cuts : cut (◌from◌ at (drop at bytes)) ≡ ok m
-    cuts = ap cut (sym here) ∙ e
-
+  module _ (m : Message) (cuts : cut (◌from◌ at (drop at bytes)) ≡ ok m) where
     pub body_unnoted : (error : IndexError) → ((t : Message) → cut (◌from◌ at (drop at bytes)) ≡ ok t → TypeIndexTold bytes at Class-type_table t entries (Err error))
         → BodyOpened bytes at count entries (Err error)
     body_unnoted (index.Wire error) h = λ kind names. rw cuts (table-refuses names m allowance (eqb kind 1) error (h m cuts allowance))

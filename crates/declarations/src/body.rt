@@ -1,8 +1,7 @@
 // The body of a class or package written as rows: the head, constructors, functions, properties, type aliases; then the head's counts. The definitions:
 // specs/Payload.antt, `declaration_rows`, and schema's specs/Members.antt, `after_table`; what the functions tell: specs/told/BodyTold.antt.
-ghost use Rattle.std.specs.Prelude.{◌≡◌, length};
+ghost use Rattle.std.specs.Prelude.{◌≡◌, eqb, if◌then◌else◌, length};
 ghost use Rattle.sheet.specs.told.Put.{SameAreas};
-ghost use Rattle.schema.specs.Members.{function_field, property_field, alias_field};
 ghost use Rattle.schema.specs.told.SchemaTold.{lent, Stands};
 ghost use Rattle.schema.specs.told.MembersTold.{Affords};
 ghost use Rattle.schema.specs.told.WroteTold.{Writes};
@@ -33,37 +32,19 @@ pub struct Sections {
     pub aliases: Section,
 }
 
-fn function_field(class: bool) -> u32
-    ensures { result ≡ function_field class }
+// The field of a list, which a class and a package number apart.
+fn field_of(kind: Kind, in_class: u32, in_package: u32) -> u32
+    ensures { result ≡ (if eqb (kind_number kind) 1 then in_class else in_package) }
 {
-    if class {
-        CLASS_FUNCTION
+    if kind.is_class() {
+        in_class
     } else {
-        PACKAGE_FUNCTION
-    }
-}
-
-fn property_field(class: bool) -> u32
-    ensures { result ≡ property_field class }
-{
-    if class {
-        CLASS_PROPERTY
-    } else {
-        PACKAGE_PROPERTY
-    }
-}
-
-fn alias_field(class: bool) -> u32
-    ensures { result ≡ alias_field class }
-{
-    if class {
-        CLASS_TYPE_ALIAS
-    } else {
-        PACKAGE_TYPE_ALIAS
+        in_package
     }
 }
 
 // The head up to its counts. A package has no class name, and flags 6.
+// `Affords`, here and below, is no invariant of `Output`: each function asks for room for an amount of its own.
 fn head_in(kind: Kind, msg: Located<'_>, context: &Context<'_>, out: &mut Output<'_>)
     requires { Affords (lent context.now) head_cost out.old.state }
     ensures same_areas { SameAreas out.old out.new }
@@ -80,7 +61,7 @@ fn head_in(kind: Kind, msg: Located<'_>, context: &Context<'_>, out: &mut Output
 
 // The constructors of a class; a package has none.
 fn constructors_in(
-    class: bool,
+    kind: Kind,
     msg: Located<'_>,
     context: &Context<'_>,
     out: &mut Output<'_>,
@@ -88,9 +69,9 @@ fn constructors_in(
     requires { Affords (lent context.now) (list_cost (length msg.bytes.now)) out.old.state × Stands context.now.payload.now msg.bytes.now msg.base }
     ensures same_areas { SameAreas out.old out.new }
     ensures ends { EndsAt result out.new.state }
-    ensures written { Writes (ConstructorsTold class (lent context.now) msg.entry.bytes.now msg.entry.base) out.old result out.new }
+    ensures written { Writes (ConstructorsTold (eqb (kind_number kind) 1) (lent context.now) msg.entry.bytes.now msg.entry.base) out.old result out.new }
 {
-    if !class {
+    if !kind.is_class() {
         return Ok(Section {
             state: out.state,
             count: 0,
@@ -109,14 +90,14 @@ fn constructors_in(
 
 // The type aliases: kind 9 with their count, also when there is none, then each.
 fn aliases_in(
-    class: bool,
+    kind: Kind,
     msg: Located<'_>,
     context: &Context<'_>,
     out: &mut Output<'_>,
 ) -> Result<Section, Stop>
     requires { Affords (lent context.now) (aliases_cost (length msg.bytes.now)) out.old.state × Stands context.now.payload.now msg.bytes.now msg.base }
     ensures same_areas { SameAreas out.old out.new }
-    ensures written { Writes (AliasesTold class (lent context.now) msg.entry.bytes.now msg.entry.base) out.old result out.new }
+    ensures written { Writes (AliasesTold (eqb (kind_number kind) 1) (lent context.now) msg.entry.bytes.now msg.entry.base) out.old result out.new }
 {
     put_aliases(out);
     let place = out.state.sheet;
@@ -124,7 +105,7 @@ fn aliases_in(
     let aliases = members_in(
         MemberList {
             member: Member::Alias,
-            number: alias_field(class),
+            number: field_of(kind, CLASS_TYPE_ALIAS, PACKAGE_TYPE_ALIAS),
         },
         msg,
         context,
@@ -136,21 +117,21 @@ fn aliases_in(
 
 // Constructors, functions, properties, type aliases, after the head.
 fn lists_in(
-    class: bool,
+    kind: Kind,
     msg: Located<'_>,
     context: &Context<'_>,
     out: &mut Output<'_>,
 ) -> Result<Sections, Stop>
     requires { Affords (lent context.now) (lists_cost (length msg.bytes.now)) out.old.state × Stands context.now.payload.now msg.bytes.now msg.base }
     ensures same_areas { SameAreas out.old out.new }
-    ensures written { Writes (ListsTold class (lent context.now) msg.entry.bytes.now msg.entry.base) out.old result out.new }
+    ensures written { Writes (ListsTold (eqb (kind_number kind) 1) (lent context.now) msg.entry.bytes.now msg.entry.base) out.old result out.new }
 {
     let head = out.state;
-    let constructors = constructors_in(class, msg, context, out)?;
+    let constructors = constructors_in(kind, msg, context, out)?;
     let functions = members_in(
         MemberList {
             member: Member::Function,
-            number: function_field(class),
+            number: field_of(kind, CLASS_FUNCTION, PACKAGE_FUNCTION),
         },
         msg,
         context,
@@ -159,13 +140,13 @@ fn lists_in(
     let properties = members_in(
         MemberList {
             member: Member::Property,
-            number: property_field(class),
+            number: field_of(kind, CLASS_PROPERTY, PACKAGE_PROPERTY),
         },
         msg,
         context,
         out,
     )?;
-    let aliases = aliases_in(class, msg, context, out)?;
+    let aliases = aliases_in(kind, msg, context, out)?;
     Ok(Sections {
         head,
         constructors,
@@ -190,7 +171,7 @@ pub fn body_in(
     head_in(kind, msg, context, out);
     let place = out.state.sheet;
     out.state.sheet += 6;
-    let sections = lists_in(kind.is_class(), msg, context, out)?;
+    let sections = lists_in(kind, msg, context, out)?;
     put_head_counts(
         out.sheet,
         place,

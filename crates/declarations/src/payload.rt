@@ -1,6 +1,6 @@
 // The decoded bytes opened: a length-delimited name table, its records noted, then the body and its type table. The definition:
 // specs/Payload.antt, `payload`; what the answers tell: specs/told/PayloadTold.antt.
-ghost use Rattle.std.specs.Prelude.{◌≡◌, ◌*◌, ◌≤◌, ◌<◌, length, Ok};
+ghost use Rattle.std.specs.Prelude.{◌*◌, ◌≤◌, ◌<◌, length, Ok};
 ghost use Rattle.foundation.specs.Results.{◌from◌};
 ghost use Rattle.wire.specs.Wire.{read_delimited};
 ghost use Rattle.messages.specs.told.Reader.{SplitTold};
@@ -8,6 +8,7 @@ ghost use Rattle.declarations.specs.told.PayloadTold.{BodyOpened, NotedOpened, O
 
 use fields::CLASS_TYPE_TABLE;
 use foundation::{Located, Tables};
+use inputs::Units;
 use lookup::codes::{codes_from, note_codes};
 use lookup::resolve::resolve;
 use lookup::strings::note_strings;
@@ -24,6 +25,7 @@ pub struct Opened {
 }
 
 // The body from `at` on is cut, and where the entries of its type table stand is noted.
+// The bytes and what is lent for notes go apart, here and below: a struct of both would be taken apart at each call of `names`, `lookup` and `schema`.
 fn open_body(
     bytes: &[u8],
     at: usize,
@@ -33,11 +35,7 @@ fn open_body(
     requires { (at ≤ length bytes.now) × (length bytes.now < 65536) }
     ensures { BodyOpened bytes.now at records entries.new result }
 {
-    let body = Located {
-        base: at,
-        bytes: &bytes[at..],
-    };
-    check(body)?;
+    check(Located::rest(bytes, at))?;
     let types = index_types(bytes, at, CLASS_TYPE_TABLE, entries)?;
     Ok(Opened {
         at,
@@ -69,11 +67,7 @@ fn open_table(bytes: &[u8], parts: Parts, notes: &mut [u64]) -> Result<Opened, I
     ensures { OpenedTold bytes.now notes.new result }
 {
     let table = parts.table;
-    let message = Located {
-        base: table.start,
-        bytes: &bytes[table.start..table.end],
-    };
-    check(message)?;
+    check(Located::of(bytes, table))?;
     let count = index_records(&bytes[..table.end], table.start, notes)?;
     open_noted(bytes, parts.rest, count, notes)
 }
@@ -89,20 +83,15 @@ fn open_payload(bytes: &[u8], notes: &mut [u64]) -> Result<Opened, IndexError>
     open_table(bytes, parts, notes)
 }
 
-// The same, and after both tables' notes a code for each of the first indices and the sizes of d2's long strings.
+// `open_payload`, and after both tables' notes a code for each of the first indices and the sizes of d2's long strings. It doesn't look at d1.
 // Callers show that d2 is within its limit: passes from its `InLimits`.
-pub fn open_lent(
-    bytes: &[u8],
-    d2: &[u16],
-    ends: &[u32],
-    notes: &mut [u64],
-) -> Result<Opened, IndexError>
-    requires { length d2.now ≤ 32768 }
-    ensures { LentTold bytes.now d2.now ends.now notes.new result }
+pub fn open_lent(bytes: &[u8], units: &Units<'_>, notes: &mut [u64]) -> Result<Opened, IndexError>
+    requires { length units.now.d2.now ≤ 32768 }
+    ensures { LentTold bytes.now units.now.d2.now units.now.ends.now notes.new result }
 {
     let limit = codes_from(notes.len());
     let opened = open_payload(bytes, &mut notes[..limit])?;
     note_codes(notes, opened.tables.records);
-    note_strings(d2, ends, notes);
+    note_strings(units.d2, units.ends, notes);
     Ok(opened)
 }

@@ -1,4 +1,4 @@
--- Demand 3 of the texts that the definitions give.
+-- What is promised of default descriptors, of the texts that the definitions give.
 -- Assumes nothing.
 use mathlib.Core.Path.{◌≡◌, refl, ap, sym, ◌∙◌}
 use mathlib.Core.Logic.Iff

@@ -1,4 +1,4 @@
--- Demand 3 holds of any two accepted answers.
+-- What is promised of default descriptors holds of any two accepted answers.
 -- Assumes nothing.
 use mathlib.Core.Path.{◌≡◌, refl, ◌∙◌, ap}
 use mathlib.Core.List.{List, [], ◌∷◌, ◌++◌, map}
@@ -77,7 +77,7 @@ module _ (i : Input) (a : Answer) (p : Promised i a) where
   each-constructor : (P : Described Constructor → Type 0) → ((c : Constructor) → P (c, of_constructor c)) → All P (constructors_on a)
   each-constructor P h = rw constructors-on (all-given of_constructor P h p.declarations.constructors)
 
--- For any two inputs, any areas, and whatever answers the reader gives: demand 3 as one statement on what the areas then hold.
+-- For any two inputs, any areas, and whatever answers the reader gives: the promise as one statement on what the areas then hold.
 pub demand_3 : (sheet text sheet' text' : List ℕ) (i j : Input) {a b : Answer} → read sheet text i ≡ a → read sheet' text' j ≡ b
     → Units i.d2 → Units j.d2 → a.number ≡ 0 → b.number ≡ 0 → Demand i j a b
 demand_3 sheet text sheet' text' i j {a} {b} e e' u v y z =

@@ -1,4 +1,4 @@
--- Demand 3, of any two accepted answers: on the bytes of their areas.
+-- What is promised of the default descriptors of any two accepted answers, on the bytes of their areas.
 -- Assumes nothing.
 use Rattle.std.specs.Prelude.{◌≡◌, List, [], ◌++◌, map, ℕ}
 use Rattle.std.proofs.Math.Option.{Option}
@@ -47,6 +47,6 @@ pub record Demand (i j : Input) (a b : Answer) : Type 0 where
   pub each : All (λ x. ToldFunction x.0 x.1) (functions_on a ++ functions_on b)
   -- and any two print the same text exactly when their erased parts are equal.
   pub same : All (λ x. All (SameText x) (functions_on a ++ functions_on b)) (functions_on a ++ functions_on b)
-  -- The demand speaks of functions alone; each constructor has its default descriptor by the same rule.
+  -- This far it is of functions alone. Each constructor has its default descriptor by the same rule.
   pub constructors : All (λ x. ToldConstructor x.0 x.1) (constructors_on a ++ constructors_on b)
   pub constructor_messages : All (λ x. ConstructorByMessages i x.0) (constructors_on a) × All (λ x. ConstructorByMessages j x.0) (constructors_on b)

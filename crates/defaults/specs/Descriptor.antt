@@ -1,4 +1,4 @@
--- What a default descriptor tells of the function or constructor that it closes: demand 3.
+-- What a default descriptor tells of the function or constructor that it closes.
 -- Assumes nothing.
 use Rattle.std.specs.Prelude.{◌≡◌, ◌↔◌, List, [], ◌∷◌, ◌++◌, ℕ}
 use Rattle.std.proofs.Math.Option.{Option, some, IsSome}

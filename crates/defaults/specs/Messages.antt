@@ -1,4 +1,4 @@
--- The messages that functions and constructors were read from, and that every parameter message gives a part: change request 11.
+-- The messages that functions and constructors were read from, and that every parameter message gives a part.
 -- Assumes nothing.
 use Rattle.std.specs.Prelude.{◌≡◌, Bool, List, [], ◌∷◌, ◌++◌, map, ℕ, eqb, length, if◌then◌else◌}
 use Rattle.std.proofs.Math.Option.{Option, some}

@@ -1,7 +1,6 @@
 -- The parts of a declaration's types and of its parameters, from what the calls told.
 -- Assumes nothing.
 use mathlib.Core.Path.{◌≡◌, refl, sym, ap, subst, ◌∙◌}
-use mathlib.Core.Bool.{Bool}
 use mathlib.Core.List.{List, []}
 use mathlib.Core.Option.{Option, some}
 use Prim.Native.Nat.{ℕ, ◌+◌, ◌-◌, ◌*◌, ◌≤◌, ◌<◌}
@@ -23,7 +22,7 @@ use Rattle.schema.specs.Types.{max_depth}
 use Rattle.schema.specs.Members.{parameter_in, parameters_in}
 use Rattle.schema.specs.told.SchemaTold.{Lent, Scoped, EntryAt, Stands}
 use Rattle.schema.specs.told.TypesTold.{or_nullable}
-use Rattle.schema.specs.told.PlacesTold.{found_type, TableOf, TypeFound, FoundTypeTold, FoundTypeInside, FoundTypeFalls, DeclaredFound}
+use Rattle.schema.specs.told.PlacesTold.{TableOf, TypeFound, FoundTypeTold, FoundTypeInside, FoundTypeFalls, DeclaredFound}
 use Rattle.schema.specs.declared.FoundType.{FoundType}
 use Rattle.schema.proofs.ListLaws.{First, cut-first}
 use Rattle.schema.proofs.StandsLaws.{part-ends, stands-cut, stands-entry, body-stands}
@@ -51,22 +50,22 @@ module _ (e : Lent) (at : ℕ) (position : Position) {start end inline indexed :
   pub type-nowhere : x ≡ None → {A A₁ : List ℕ} → PartOf (TypeGiven inline indexed) (type_part position) part_cost e start end at None A A₁
   type-nowhere g = record { within = tt; is = λ c s m k o h. rw (place g c s m k o h) }
 
-  module _ {here to left : ℕ} {nullable : Bool} (g : x ≡ Some (found_type here to nullable left)) where
-    pub type-inside : (here ≤ to) × (to ≤ length e.payload) × (left ≤ max_depth)
+  module _ {y : FoundType} (g : x ≡ Some y) where
+    type-inside : (y.part.start ≤ y.part.end) × (y.part.end ≤ length e.payload) × (y.reached.left ≤ max_depth)
     type-inside =
         let i = subst (FoundTypeInside e.payload) g t.inside in
         (i.0, i.1, (subst (FoundTypeFalls max_depth start end) g t.falls).0)
 
     pub type-there : {r : std.Option ℕ} {A A₁ : List ℕ}
-        → ErasedTold e here (here + length (part_from here to e.payload)) left nullable position at r A A₁
+        → ErasedTold e y.part.start (y.part.start + length (part_from y.part.start y.part.end e.payload)) y.reached.left y.reached.nullable position at r A A₁
         → PartOf (TypeGiven inline indexed) (type_part position) part_cost e start end at r A A₁
     type-there {r} {A} {A₁} p = record {
       within = p.within;
       is = λ c s m k o h.
           let f = place g c s m k o h in
-          let ends = part-ends e.payload here to type-inside.0 type-inside.1 in
-          let lent-part = subst (λ (n : ℕ). TypeFound e.payload c here n left f.0) (sym ends) f.1 in
-          told_same {x = map_option print_returned (erased_at position (or_nullable nullable f.0))} {y = type_part position o} at r A A₁
+          let ends = part-ends e.payload y.part.start y.part.end type-inside.0 type-inside.1 in
+          let lent-part = subst (λ (n : ℕ). TypeFound e.payload c y.part.start n y.reached.left f.0) (sym ends) f.1 in
+          told_same {x = map_option print_returned (erased_at position (or_nullable y.reached.nullable f.0))} {y = type_part position o} at r A A₁
           (ap (type_part position) (sym f.2))
           (p.is c s f.0 lent-part);
     }

@@ -63,10 +63,10 @@ use Rattle.descriptors.specs.declared.erased.TypePart.{TypePart}
 use Rattle.descriptors.specs.declared.erased.TypePart.TheVariants as type_part
 
 -- A name's bytes, with slashes for dots.
-pub name-short : (payload d2 : List ℕ) (name : Name) → length payload ≤ 32768 → length d2 ≤ 32768 → length (name_bytes payload d2 name true) ≤ 131072
+pub name-short : (payload d2 : List ℕ) (name : Name) → length payload ≤ 32768 → length d2 ≤ 32768 → length (name_bytes payload d2 (Some name) true) ≤ 131072
 name-short payload d2 name f g = name-most payload d2 name 32768 f g (omega arith) true
 
-name-slashed : (payload d2 : List ℕ) (name : Name) → name_bytes payload d2 name true ≡ utf8 (slashed (named_text payload d2 name))
+name-slashed : (payload d2 : List ℕ) (name : Name) → name_bytes payload d2 (Some name) true ≡ utf8 (slashed (named_text payload d2 name))
 unfolding name_bytes
 name-slashed payload d2 name = refl
 
@@ -89,16 +89,16 @@ sized-first size c t =
     let P : Text → Type 0 = λ u. get_or (utf8 u) 0 0 ≡ 0x6b → c ≡ 0x6b in
     if_ind P (is_measured size) (λ m. fitted_ind P size c t (first_of c (fitted (size - width c) t)) λ e. absurd (zeros-first size e)) λ m. first_of c t
 
-pub not_listed : (payload d2 : List ℕ) (name : Name) → name.source ≡ D2 → {h : Change} → h ≡ change_of name true
+pub not_listed : (payload d2 : List ℕ) (name : Name) → name.source ≡ D2 → {h : Change} → h ≡ change_of (Some name) true
     → {code : ℕ} {rest : Text} → from_utf16 (part_from name.part.start name.part.end d2) ≡ code ∷ rest → {c : ℕ} → c ≡ changed h code → (c ≡ 0x6b → ⊥)
-    → Means (name_bytes payload d2 name true) Other
+    → Means (name_bytes payload d2 (Some name) true) Other
 unfolding utf8
 not_listed payload d2 name s {h} e {code} {rest} f {c} q g =
-    let bytes : name_bytes payload d2 name true ≡ sized_bytes name.size h (code ∷ rest) =
+    let bytes : name_bytes payload d2 (Some name) true ≡ sized_bytes name.size h (code ∷ rest) =
     name-parts payload d2 name true e ∙ ap (sized_bytes name.size h) (source-units payload d2 name.source name.part s ∙ f) in
-    let other : get_or (name_bytes payload d2 name true) 0 0 ≡ 0x6b → ⊥ =
+    let other : get_or (name_bytes payload d2 (Some name) true) 0 0 ≡ 0x6b → ⊥ =
     λ k. g (q ∙ sized-first name.size (changed h code) (map (changed h) rest) (ap (λ (l : List ℕ). get_or l 0 0) (sym bytes) ∙ k)) in
-    means_none (name_bytes payload d2 name true) (no_kotlin other)
+    means_none (name_bytes payload d2 (Some name) true) (no_kotlin other)
 
 -- What a name means, by its bytes in an area that holds every listed name.
 module _ (bytes : List ℕ) {before area : List ℕ} {size : ℕ} (p : stream.PutText bytes 0 size before area) where
@@ -110,9 +110,6 @@ module _ (bytes : List ℕ) {before area : List ℕ} {size : ℕ} (p : stream.Pu
       let fits : length bytes ≤ length before = omega (arith, p.place) in
       let e : size ≡ length bytes = p.place ∙ zero-add (length bytes) in
       rw (e, p.written, sets_front bytes before fits) (take-append_seam bytes (drop (length bytes) before))
-
-  pub taken-size : length before ≡ 36 → size ≤ 36 → size ≡ length (take size area)
-  taken-size f h = p.place ∙ zero-add (length bytes) ∙ ap length (sym (short-taken f h))
 
   pub means-short : length before ≡ 36 → size ≤ 36 → (r : Meaning) → Means (take size area) r → Means bytes r
   means-short f h r m n c u = m n c (u ∙ sym (short-taken f h))
@@ -136,7 +133,7 @@ array-text none = refl
 array-text (some e) = refl
 
 class-text : (payload d2 : List ℕ) (name : Name)
-    → print_returned (of_type (class (slashed (named_text payload d2 name)))) ≡ 0x4c ∷ (name_bytes payload d2 name true ++ (0x3b ∷ []))
+    → print_returned (of_type (class (slashed (named_text payload d2 name)))) ≡ 0x4c ∷ (name_bytes payload d2 (Some name) true ++ (0x3b ∷ []))
 unfolding print
 class-text payload d2 name = ap (λ (l : List ℕ). 0x4c ∷ (l ++ (0x3b ∷ []))) (sym (name-slashed payload d2 name))
 
@@ -158,10 +155,10 @@ module _ (e : Lent) (name : Name) {printed : Printed} {at : ℕ} {A A' : List �
   printed-array f q = record { within = tt; is = λ inner. (by_answer (ap Some f) (told_name e name) inner ∙ array-text inner, record { size = refl; area = q }) }
 
   pub printed-class : length e.payload ≤ 32768 → length e.d2 ≤ 32768 → printed ≡ prints.ClassItself → {r : ℕ}
-      → PutSized (0x4c ∷ (name_bytes e.payload e.d2 name true ++ (0x3b ∷ []))) at r A A' → PrintedPut e name printed at (type_part.Whole r) A A'
+      → PutSized (0x4c ∷ (name_bytes e.payload e.d2 (Some name) true ++ (0x3b ∷ []))) at r A A' → PrintedPut e name printed at (type_part.Whole r) A A'
   printed-class f g q p = record {
-    within = omega (arith, p.size, length-append (name_bytes e.payload e.d2 name true) (0x3b ∷ []), name-short e.payload e.d2 name f g);
-    is = λ inner. (0x4c ∷ (name_bytes e.payload e.d2 name true ++ (0x3b ∷ [])), by_answer (ap Some q) (told_name e name) inner ∙ ap some (class-text e.payload e.d2 name), p);
+    within = omega (arith, p.size, length-append (name_bytes e.payload e.d2 (Some name) true) (0x3b ∷ []), name-short e.payload e.d2 name f g);
+    is = λ inner. (0x4c ∷ (name_bytes e.payload e.d2 (Some name) true ++ (0x3b ∷ [])), by_answer (ap Some q) (told_name e name) inner ∙ ap some (class-text e.payload e.d2 name), p);
   }
 
 -- The erasure of a type at its position, by its name.
@@ -225,7 +222,7 @@ module _ (e : Lent) (msg : List ℕ) (base : ℕ) (nullable : Bool) (position : 
     is = λ c o left t f. ap (map_option print_returned) (erased_nameless position (or_nullable nullable t) (name-is c o left t f w));
   }
 
-  module _ {name : Name} (w : found ≡ Some name) (units : Units e.d2) (meaning : Meaning) (m : Means (name_bytes e.payload e.d2 name true) meaning)
+  module _ {name : Name} (w : found ≡ Some name) (units : Units e.d2) (meaning : Meaning) (m : Means (name_bytes e.payload e.d2 (Some name) true) meaning)
       {either : Bool} (n : (m : Message) → cut (◌from◌ base msg) ≡ ok m → (nullable || flag Type-nullable m) ≡ either)
       (printed : std.Option Printed) (p : PrintsAs meaning either position printed) where
     type-printed : (c : Scope) (o : Scoped e c) (left : ℕ) (t : Ty) (f : TypeFound e.payload c base (base + length msg) left t)

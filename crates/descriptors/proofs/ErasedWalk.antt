@@ -15,9 +15,9 @@ use Rattle.characters.specs.told.Places.{part_from}
 use Rattle.declaration_rows.specs.Declarations.{Ty, Argument, types_of}
 use Rattle.schema.specs.Reading.{Scope}
 use Rattle.schema.specs.Types.{max_depth}
-use Rattle.schema.specs.told.SchemaTold.{Lent, Scoped, EntryAt}
+use Rattle.schema.specs.told.SchemaTold.{Lent, Scoped}
 use Rattle.schema.specs.told.TypesTold.{or_nullable}
-use Rattle.schema.specs.told.PlacesTold.{found_type, TableOf, TypeFound, FoundTypeInside, reach, FoundTypeFalls, head_type, Unnamed, ElementTold, ArgumentFound}
+use Rattle.schema.specs.told.PlacesTold.{TableOf, TypeFound, FoundTypeInside, reach, FoundTypeFalls, head_type, Unnamed, ElementTold, ArgumentFound}
 use Rattle.schema.specs.declared.FoundType.{FoundType}
 use Rattle.schema.proofs.StandsLaws.{part-ends}
 use Rattle.schema.proofs.GivenLaws.{Entered, type_entered}
@@ -89,47 +89,24 @@ pub record Rest (whole : Option (List ℕ)) (payload : List ℕ) (c : Scope) (at
 -- The loop: as many [ were written as arrays were passed.
 pub record Walking (e : Lent) (start end : ℕ) (nullable : Bool) (left : ℕ) (position : Position) (at : ℕ) (A₀ : List ℕ) (first last : ℕ) (said : Bool) (deep : ℕ)
     (here : Position) (next : ℕ) (A : List ℕ) : Type 0 where
-  pub ordered : first ≤ last
-  pub inside : last ≤ length e.payload
   pub later : at ≤ next
   pub far : next + reach deep first last ≤ at + reach left start end
   pub rest : (c : Scope) → Scoped e c → (t : Ty) → TypeFound e.payload c start end left t
       → Rest (text_at position nullable t) e.payload c at A₀ first last said deep here next A
 
-pub walking_start : (e : Lent) (start end : ℕ) (nullable : Bool) (left : ℕ) (position : Position) (at : ℕ) (A₀ : List ℕ) → start ≤ end
-    → end ≤ length e.payload → Walking e start end nullable left position at A₀ start end nullable left position at A₀
-walking_start e start end nullable left position at A₀ f g = record {
-  ordered = f;
-  inside = g;
-  later = omega arith;
-  far = omega arith;
-  rest = λ c o t h. record {
-    front = [];
-    put = record { size = omega arith; area = refl };
-    type = t;
-    found = h;
-    is = sym (after_none (text_at position nullable t));
-  };
-}
-
 module _ {e : Lent} {start end : ℕ} {nullable : Bool} {left : ℕ} {position : Position} {at : ℕ} {A₀ : List ℕ} {first last : ℕ} {said : Bool} {deep : ℕ}
     {here : Position} {next : ℕ} {A : List ℕ} (w : Walking e start end nullable left position at A₀ first last said deep here next A) where
   -- how many [ there can be
-  pub walking-few : left ≤ 64 → end ≤ length e.payload → length e.payload ≤ 32768 → next ≤ at + 2129984
+  walking-few : left ≤ 64 → end ≤ length e.payload → length e.payload ≤ 32768 → next ≤ at + 2129984
   walking-few h g k = omega (arith, w.far, mul-le-mul_right 32769 h)
 
-  -- the message here is lent as a part of the decoded bytes
-  here-ends : first + length (part_from first last e.payload) ≡ last
-  here-ends = part-ends e.payload first last w.ordered w.inside
-
-  module _ {r : std.Option TypePart} {A₁ : List ℕ} (p : TypePartTold e first (first + length (part_from first last e.payload)) said here next r A A₁) where
+  module _ {r : std.Option TypePart} {A₁ : List ℕ} (p : TypePartTold e first last said here next r A A₁) where
     part-is : (c : Scope) → Scoped e c → (u : Ty) → TypeFound e.payload c first last deep u → {y : std.Option TypePart} → r ≡ y
         → TypePartIs (text_at here said u) (first_erased true u.arguments) next y A A₁
     part-is c o u f q =
-        let f' = subst (λ (n : ℕ). TypeFound e.payload c first n deep u) (sym here-ends) f in
-        subst (λ (y : std.Option TypePart). TypePartIs (text_at here said u) (first_erased true u.arguments) next y A A₁) q (p.is c o deep u f')
+        subst (λ (y : std.Option TypePart). TypePartIs (text_at here said u) (first_erased true u.arguments) next y A A₁) q (p.is c o deep u f)
 
-    pub whole-short : {size : ℕ} → r ≡ Some (type_part.Whole size) → size ≤ 131093
+    whole-short : {size : ℕ} → r ≡ Some (type_part.Whole size) → size ≤ 131093
     whole-short q = subst TypePartWithin q p.within
 
     pub walking-whole : left ≤ 64 → end ≤ length e.payload → length e.payload ≤ 32768 → {size : ℕ} → r ≡ Some (type_part.Whole size)
@@ -154,7 +131,7 @@ module _ {e : Lent} {start end : ℕ} {nullable : Bool} {left : ℕ} {position :
     }
 
     module _ (q : r ≡ Some type_part.Bracket) {less : ℕ} (l : less ≡ deep - 1) {s : std.Option FoundType}
-        (a : ArgumentFound e.payload e.notes e.tables first (first + length (part_from first last e.payload)) less s) where
+        (a : ArgumentFound e.payload e.notes e.tables first last less s) where
       -- the first kept argument of the type here
       module _ (c : Scope) (o : Scoped e c) (u : Ty) (f : TypeFound e.payload c first last deep u) where
         given : Entered c f.depth f.message u
@@ -164,9 +141,8 @@ module _ {e : Lent} {start end : ℕ} {nullable : Bool} {left : ℕ} {position :
         argument_is g =
             let table : TableOf e.payload e.notes e.tables c = record { entries = o.entries; nullable = o.nullable } in
             let deeper : less ≡ max_depth - (f.depth + 1) = omega (arith, f.deep) in
-            let at_here = subst (λ (n : ℕ). EntryAt e.payload first n f.message) (sym here-ends) f.at in
             subst (ElementTold e.payload c (head_type given.types)) g
-            (a.is c table f.message at_here given.arguments given.cuts (f.depth + 1) deeper given.types given.before given.between given.given)
+            (a.is c table f.message f.at given.arguments given.cuts (f.depth + 1) deeper given.types given.before given.between given.given)
 
         inner-is : first_erased true u.arguments ≡ first_erased true (types_of given.types)
         inner-is = ap (λ (t : Ty). first_erased true t.arguments) given.is
@@ -183,20 +159,28 @@ module _ {e : Lent} {start end : ℕ} {nullable : Bool} {left : ℕ} {position :
             u.is ∙ ap (after u.front) (text-is c o u.type u.found ∙ ap (map_option (λ e. 0x5b ∷ print e)) none_kept);
       }
 
-      module _ {start' end' left' : ℕ} {nullable' : Bool} (g : s ≡ Some (found_type start' end' nullable' left')) where
-        falls : (left' ≤ less) × (reach left' start' end' < reach less first last)
-        falls = subst (FoundTypeFalls less first last) g (subst (λ (n : ℕ). FoundTypeFalls less first n s) here-ends a.falls)
+      module _ {x : FoundType} (g : s ≡ Some x) where
+        -- the argument's message, as a part of the decoded bytes
+        abbrev pub lent-part : List ℕ
+        lent-part = part_from x.part.start x.part.end e.payload
 
-        pub walking-less : reach left' start' end' < reach deep first last
-        walking-less = let h : less ≤ deep = omega arith in omega (arith, falls.1, mul-le-mul_right 32769 h)
+        pub found-inside : (x.part.start ≤ x.part.end) × (x.part.end ≤ length e.payload)
+        found-inside = subst (FoundTypeInside e.payload) g a.inside
 
-        pub walking_on : Walking e start end nullable left position at A₀ start' end' nullable' left' Element (next + 1) A₁
+        ends : x.part.start + length lent-part ≡ x.part.end
+        ends = part-ends e.payload x.part.start x.part.end found-inside.0 found-inside.1
+
+        falls : (x.reached.left ≤ less) × (reach x.reached.left x.part.start x.part.end < reach less first last)
+        falls = subst (FoundTypeFalls less first last) g a.falls
+
+        walking-less : reach x.reached.left x.part.start (x.part.start + length lent-part) < reach deep first last
+        walking-less = let h : less ≤ deep = omega arith in omega (arith, ends, falls.1, mul-le-mul_right 32769 h)
+
+        pub walking_on : Walking e start end nullable left position at A₀ x.part.start (x.part.start + length lent-part)
+            x.reached.nullable x.reached.left Element (next + 1) A₁
         walking_on =
-            let inside = subst (FoundTypeInside e.payload) g a.inside in
             let sum : next - at + 1 ≡ next + 1 - at = omega (arith, w.later) in
             record {
-              ordered = inside.0;
-              inside = inside.1;
               later = omega (arith, w.later);
               far = omega (arith, w.far, walking-less);
               rest = λ c o t i.
@@ -207,11 +191,11 @@ module _ {e : Lent} {start end : ℕ} {nullable : Bool} {left : ℕ} {position :
                     front = u.front ++ (0x5b ∷ []);
                     put = subst (λ (n : ℕ). PutSized (u.front ++ (0x5b ∷ [])) at n A₀ A₁) sum both;
                     type = v.0;
-                    found = v.1;
+                    found = subst (λ (n : ℕ). TypeFound e.payload c x.part.start n x.reached.left v.0) (sym ends) v.1;
                     is =
                         u.is
                         ∙ ap (after u.front)
-                        (text-is c o u.type u.found ∙ element_text (given c o u.type u.found).types (or_nullable nullable' v.0) v.2)
-                        ∙ after_both u.front (0x5b ∷ []) (text_at Element nullable' v.0);
+                        (text-is c o u.type u.found ∙ element_text (given c o u.type u.found).types (or_nullable x.reached.nullable v.0) v.2)
+                        ∙ after_both u.front (0x5b ∷ []) (text_at Element x.reached.nullable v.0);
                   };
             }

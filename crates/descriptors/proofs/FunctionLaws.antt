@@ -30,34 +30,9 @@ use Rattle.std.specs.Prelude.{Some, None}
 use Rattle.erasure.proofs.PartLaws.{part-short}
 use Rattle.descriptors.specs.Defaults.{suspends, continuation_class, object, function_parts, constructor_parts, descriptor}
 use Rattle.descriptors.specs.told.DefaultsTold.{part_cost, parameters_part, ParametersTold, ConstructorDefault, FunctionDefault}
-use Rattle.descriptors.specs.told.PartsTold.{PartRoom, PartOf, TypeGiven, type_part, FunctionGiven, receiver_part, before_part, after_part, preceded}
+use Rattle.descriptors.specs.told.PartsTold.{PartOf, TypeGiven, type_part, FunctionGiven, receiver_part, before_part, after_part, preceded}
 use Rattle.descriptors.proofs.GivenLaws.{ConstructorGiven, constructor_given, function_given}
-use Rattle.descriptors.proofs.JoinLaws.{
-  both,
-  before-part,
-  constructor_text,
-  function_text,
-  text_none,
-  text_then,
-  text-byte,
-  told_same,
-  preceded-sum,
-  part-absent,
-  part_then,
-  part-fixed,
-  part-more,
-  part-answer,
-}
-
--- Room for what stands at the start, and after it.
-pub room_less : {e : Lent} {msg : List ℕ} {base n at : ℕ} (n₁ at₁ : ℕ) → at₁ + n₁ ≤ at + n → PartRoom e msg base n at
-    → PartRoom e msg base n₁ at₁
-room_less n₁ at₁ h p = record {
-  payload-short = p.payload-short;
-  d2-short = p.d2-short;
-  stands = p.stands;
-  room = omega (arith, p.room);
-}
+use Rattle.descriptors.proofs.JoinLaws.{both, before-part, constructor_text, function_text, text_then, text-byte, told_same, preceded-sum, part-absent, part_then, part-fixed, part-more, part-answer}
 
 -- A part after a (.
 opened : {D : Type 0} (p s : D → Option (List ℕ)) → ((d : D) → s d ≡ both (some (0x28 ∷ [])) (p d))
@@ -112,13 +87,6 @@ module _ (e : Lent) (msg : List ℕ) (base at : ℕ) (st : Stands e.payload msg 
     is = λ c s m k f g.
         told_same {x = type_part position.Parameter f.receiver} {y = receiver_part f} at r A A₁ (received c m k f g q)
         (u.is c s m k f.receiver g.receiver);
-  }
-
-  pub receiver-none : b ≡ false → (A : List ℕ) → PartOf FunctionGiven receiver_part part_cost e base (base + length msg) at (Some 0) A A
-  receiver-none q A = record {
-    within = omega arith;
-    is = λ c s m k f g.
-        told_same {x = some []} {y = receiver_part f} at (Some 0) A A (received c m k f g q) ([], refl, text_none at A);
   }
 
 -- What stands before the ): the receiver, then the parameters.

@@ -14,22 +14,22 @@ ghost use Rattle.descriptors.specs.told.DefaultsTold.{part_cost, ParametersTold,
 ghost use Rattle.descriptors.specs.told.PartsTold.{PartRoom, PartOf, TypeGiven, type_part, FunctionGiven, receiver_part, before_part, after_part};
 
 use crate::erased::{Placement, put_erased};
-use declaration_rows::Role;
+use crate::slots::{FUNCTION_RECEIVER, FUNCTION_RETURN, PARAMETER};
 use erasure::{Class, Part, Position, put_part};
 use fields::{
-    CONSTRUCTOR_VALUE_PARAMETER, FUNCTION_FLAGS, FUNCTION_RECEIVER_TYPE, FUNCTION_RECEIVER_TYPE_ID,
-    FUNCTION_RETURN_TYPE, FUNCTION_RETURN_TYPE_ID, FUNCTION_VALUE_PARAMETER, OMITTED_FLAGS,
-    VALUE_PARAMETER_TYPE, VALUE_PARAMETER_TYPE_ID,
+    CONSTRUCTOR_VALUE_PARAMETER, FUNCTION_FLAGS, FUNCTION_VALUE_PARAMETER, OMITTED_FLAGS,
 };
-use foundation::{Context, Located};
+use foundation::{Context, Located, put};
 use messages::bodies_from;
 use schema::TypeSlot;
-use schema::flags::flags_in;
+use schema::flags::{bit_of, flags_in};
 use schema::places::declared_place;
 use schema::receiver::has_receiver;
-use sheet::{put, put_all};
+use sheet::put_all;
 
 // A declaration's own type at its position. A type that isn't there has no descriptor. The slot's role is not looked at.
+// `msg` and `context`, `area` and `at` are no structs: each call would make one anew, since message and place change, and each function take it apart.
+// `PartRoom` is no invariant of Context or Located: its last part bounds the place by what this call may write, and their other users have no such place.
 fn type_part(
     msg: Located<'_>,
     slot: TypeSlot,
@@ -43,14 +43,10 @@ fn type_part(
 {
     let found = declared_place(msg, slot, context)?;
     let placed = Placement {
-        nullable: found.nullable,
-        left: found.left,
+        reached: found.reached,
         position,
     };
-    let part = Located {
-        base: found.start,
-        bytes: &context.payload[found.start..found.end],
-    };
+    let part = Located::of(context.payload, found.part);
     put_erased(part, placed, context, area, at)
 }
 
@@ -69,11 +65,7 @@ fn parameter_parts(
     for parameter in bodies_from(msg, number, 0) {
         size += type_part(
             msg.part(parameter),
-            TypeSlot {
-                inline: VALUE_PARAMETER_TYPE,
-                indexed: VALUE_PARAMETER_TYPE_ID,
-                role: Role::Parameter,
-            },
+            PARAMETER,
             Position::Parameter,
             context,
             area,
@@ -110,14 +102,10 @@ fn receiver_part(
     requires { PartRoom (lent context.now) msg.bytes.now msg.base part_cost at }
     ensures { PartOf FunctionGiven receiver_part part_cost (lent context.now) msg.entry.base (msg.entry.base + length msg.entry.bytes.now) at result area.old area.new }
 {
-    if has_receiver(msg, FUNCTION_RECEIVER_TYPE, FUNCTION_RECEIVER_TYPE_ID) {
+    if has_receiver(msg, FUNCTION_RECEIVER) {
         return type_part(
             msg,
-            TypeSlot {
-                inline: FUNCTION_RECEIVER_TYPE,
-                indexed: FUNCTION_RECEIVER_TYPE_ID,
-                role: Role::Receiver,
-            },
+            FUNCTION_RECEIVER,
             Position::Parameter,
             context,
             area,
@@ -142,7 +130,7 @@ fn suspends(msg: Located<'_>) -> bool
     ensures { (m : Message) → cut (told_part msg.entry) ≡ ok m → bit_of 13 (flags_in Function-flags m) ≡ result }
 {
     let flags = flags_in(msg, FUNCTION_FLAGS, OMITTED_FLAGS);
-    flags / 8192 % 2 == 1
+    bit_of(flags, 13)
 }
 
 // What a suspending function has after its parameters: a continuation, ), and Object.
@@ -167,11 +155,7 @@ fn after_part(msg: Located<'_>, context: &Context<'_>, area: &mut [u8], at: usiz
     put(area, at, b')');
     let returned = type_part(
         msg,
-        TypeSlot {
-            inline: FUNCTION_RETURN_TYPE,
-            indexed: FUNCTION_RETURN_TYPE_ID,
-            role: Role::Return,
-        },
+        FUNCTION_RETURN,
         Position::Return,
         context,
         area,

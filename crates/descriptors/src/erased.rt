@@ -1,6 +1,6 @@
 // The part of a type at its position, by its message: its class name decides; an array goes on with its first kept argument.
 // The definitions: erasure's specs/Erasure.antt; what is told: specs/told/ErasedTold.antt and `ErasedTold` in specs/told/DefaultsTold.antt.
-ghost use Rattle.std.specs.Prelude.{◌≡◌, true, false, List, [], ◌∷◌, ◌++◌, ℕ, ◌+◌, ◌^◌, ◌<◌, ◌≤◌, length, get_or};
+ghost use Rattle.std.specs.Prelude.{◌≡◌, true, false, List, [], ◌∷◌, ◌++◌, ℕ, ◌+◌, ◌^◌, ◌<◌, ◌≤◌, length, get_or, Some};
 ghost use Rattle.names.specs.told.Stream.{name_bytes};
 ghost use Rattle.schema.specs.told.SchemaTold.{lent, Stands};
 ghost use Rattle.erasure.specs.told.ErasureTold.{Means, PutSized};
@@ -10,24 +10,22 @@ ghost use Rattle.erasure.specs.declared.Meaning.TheVariants.{Other};
 
 use characters::utf16_at;
 use erasure::{Meaning, Position, Printed, meaning_of, printed_as, put_part};
-use foundation::{Context, Located};
+use foundation::{Context, Located, put};
 use names::name::{Name, Source, change_of, character_of, part_of};
 use names::stream::put_name;
+use schema::Reached;
 use schema::head::type_head;
 use schema::name::class_name_at;
 use schema::places::first_argument;
-use sheet::put;
 
-// How a type is placed: whether it is nullable by its place in the type table, what is left of the depth there, and its position in the
-// descriptor.
+// How a type is placed: how it was reached, and its position in the descriptor.
 #[derive(Clone, Copy)]
 pub(crate) struct Placement {
-    pub nullable: bool,
-    pub left: usize,
+    pub reached: Reached,
     pub position: Position,
 }
 
-// What is written of one type.
+// What is written of one type. No `Option<usize>`: a bracket is written too, and the answer that has no part is the `None` around this.
 #[derive(Clone, Copy)]
 enum TypePart {
     // Its part.
@@ -40,7 +38,7 @@ enum TypePart {
 // of 16 bits, that of a context doesn't.
 fn may_be_listed(d2: &[u16], name: Name) -> bool
     ensures units { (i : ℕ) → get_or d2.now i 0 < 65536 }
-    ensures listed { (payload : List ℕ) → result ≡ false → Means (name_bytes payload d2.now name true) Other }
+    ensures listed { (payload : List ℕ) → result ≡ false → Means (name_bytes payload d2.now (Some name) true) Other }
 {
     let Source::D2 = name.source else {
         return true;
@@ -48,20 +46,21 @@ fn may_be_listed(d2: &[u16], name: Name) -> bool
     let Some(character) = utf16_at(part_of(d2, name.part), 0) else {
         return true;
     };
-    character_of(change_of(name, true), character.value) == 0x6b
+    character_of(change_of(Some(name), true), character.value) == 0x6b
 }
 
 // What a name, dots turned into slashes, means. No listed name is longer than 36 bytes.
+// The limits of payload and d2 bound a name's size. They are no invariant of `Context`: what reads one entry asks for none.
 fn name_meaning(context: &Context<'_>, name: Name) -> Meaning
     requires { (length context.now.payload.now ≤ 32768) × (length context.now.d2.now ≤ 32768) }
     ensures units { (i : ℕ) → get_or context.now.d2.now i 0 < 65536 }
-    ensures means { Means (name_bytes context.now.payload.now context.now.d2.now name true) result }
+    ensures means { Means (name_bytes context.now.payload.now context.now.d2.now (Some name) true) result }
 {
     if !may_be_listed(context.d2, name) {
         return Meaning::Other;
     }
     let mut bytes = [0u8; 36];
-    let size = put_name(context, name, true, &mut bytes, 0);
+    let size = put_name(context, Some(name), true, &mut bytes, 0);
     if 36 < size {
         return Meaning::Other;
     }
@@ -69,12 +68,13 @@ fn name_meaning(context: &Context<'_>, name: Name) -> Meaning
 }
 
 // L, the name with slashes for dots, and ;.
+// With `at ≤ 2 ^ 62` no place overflows 64 bits. No type says it: `at` may lie past the area's end, where a write is left out.
 fn put_class(context: &Context<'_>, name: Name, area: &mut [u8], at: usize) -> usize
     requires { (length context.now.payload.now ≤ 32768) × (length context.now.d2.now ≤ 32768) × (at ≤ 2 ^ 62) }
-    ensures { PutSized (0x4c ∷ (name_bytes context.now.payload.now context.now.d2.now name true ++ (0x3b ∷ []))) at result area.old area.new }
+    ensures { PutSized (0x4c ∷ (name_bytes context.now.payload.now context.now.d2.now (Some name) true ++ (0x3b ∷ []))) at result area.old area.new }
 {
     put(area, at, b'L');
-    let next = put_name(context, name, true, area, at + 1);
+    let next = put_name(context, Some(name), true, area, at + 1);
     put(area, next, b';');
     next + 1 - at
 }
@@ -113,12 +113,12 @@ fn put_type_part(
     at: usize,
 ) -> Option<TypePart>
     requires { Stands context.now.payload.now msg.bytes.now msg.base × (length context.now.payload.now ≤ 32768) × (length context.now.d2.now ≤ 32768) × (at ≤ 2 ^ 62) }
-    ensures { TypePartTold (lent context.now) msg.entry.base (msg.entry.base + length msg.entry.bytes.now) placed.nullable placed.position at result area.old area.new }
+    ensures { TypePartTold (lent context.now) msg.entry.base (msg.entry.base + length msg.entry.bytes.now) placed.reached.nullable placed.position at result area.old area.new }
 {
     let head = type_head(msg);
     let name = class_name_at(head.name, context)?;
     let meaning = name_meaning(context, name);
-    let nullable = placed.nullable || head.nullable;
+    let nullable = placed.reached.nullable || head.nullable;
     let printed = printed_as(meaning, nullable, placed.position)?;
     Some(put_printed(printed, context, name, area, at))
 }
@@ -132,29 +132,22 @@ pub(crate) fn put_erased(
     area: &mut [u8],
     at: usize,
 ) -> Option<usize>
-    requires { Stands context.now.payload.now msg.bytes.now msg.base × (placed.left ≤ 64) × (length context.now.payload.now ≤ 32768) × (length context.now.d2.now ≤ 32768) × (at ≤ 2 ^ 61) }
-    ensures { ErasedTold (lent context.now) msg.entry.base (msg.entry.base + length msg.entry.bytes.now) placed.left placed.nullable placed.position at result area.old area.new }
+    requires { Stands context.now.payload.now msg.bytes.now msg.base × (placed.reached.left ≤ 64) × (length context.now.payload.now ≤ 32768) × (length context.now.d2.now ≤ 32768) × (at ≤ 2 ^ 61) }
+    ensures { ErasedTold (lent context.now) msg.entry.base (msg.entry.base + length msg.entry.bytes.now) placed.reached.left placed.reached.nullable placed.position at result area.old area.new }
 {
-    let mut start = msg.base;
-    let mut end = start + msg.bytes.len();
+    let mut part = msg;
     let mut here = placed;
     let mut next = at;
     // A `loop`: what is written of a type tells whether another follows, so there is no list to walk and no test before it.
     loop {
-        let part = Located {
-            base: start,
-            bytes: &context.payload[start..end],
-        };
         let one = put_type_part(part, here, context, area, next)?;
         if let TypePart::Whole { size } = one {
             return Some(next + size - at);
         }
-        let found = first_argument(part, here.left.saturating_sub(1), context)?;
-        start = found.start;
-        end = found.end;
+        let found = first_argument(part, here.reached.left.saturating_sub(1), context)?;
+        part = Located::of(context.payload, found.part);
         here = Placement {
-            nullable: found.nullable,
-            left: found.left,
+            reached: found.reached,
             position: Position::Element,
         };
         next += 1;

@@ -1,7 +1,7 @@
 // From d1's units to bytes, into a lent area. The definitions: specs/Encoding.antt, specs/told/Outcome.antt.
 #![tactic(auto)]
 
-ghost use Rattle.std.specs.Prelude.{◌≡◌, true, ◌*◌, ◌/◌, ◌≤◌, length, set};
+ghost use Rattle.std.specs.Prelude.{◌≡◌, true, ◌*◌, ◌/◌, ◌≤◌, length};
 ghost use Rattle.std.proofs.Math.Option.{none};
 ghost use Rattle.std.proofs.lemmas.List.Edits.{sets};
 ghost use Rattle.encoding.specs.Encoding.{low_seven, unpacked, first_above255};
@@ -39,7 +39,8 @@ impl fmt::Display for DecodeError {
 
 impl Error for DecodeError {}
 
-// Are all units bytes? The fold has no way out, so that the machine tests many at once.
+// Are all units bytes? The fold has no way out, so that the machine tests many at once. characters' `ascii_units` is the same line with another limit:
+// one function for both would ask for a limit that is a power of two, and be proved for each such limit.
 fn all_bytes(units: &[u16]) -> bool
     ensures { result ≡ true → first_above255 units.now ≡ none }
 {
@@ -74,6 +75,8 @@ fn low_seven(unit: u16) -> u32
 }
 
 // The old form's bytes, to the area's front. `buffer` holds the bits taken and not yet written: it is below `scale`, 2 to their number.
+// The place `at` is counted beside the loop, since it goes up less often than the units, seven bytes for eight of them; `area.iter_mut()` would add an
+// arm for an area that ends too early, which is none here.
 // Callers show that the area has room: `decode` has tested it, `converter::old_to_new` has an area for as many as the limit allows.
 pub fn unpack(units: &[u16], area: &mut [u8])
     requires { 7 * length units.now / 8 ≤ length area.old }
@@ -93,15 +96,6 @@ pub fn unpack(units: &[u16], area: &mut [u8])
         at += 1;
         buffer = taken / 256;
         scale /= 2;
-    }
-}
-
-// One unit, clipped: a unit past the area's end is left out.
-pub fn put_unit(area: &mut [u16], at: usize, unit: u16)
-    ensures { area.new ≡ set area.old at unit }
-{
-    if at < area.len() {
-        area[at] = unit;
     }
 }
 

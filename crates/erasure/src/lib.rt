@@ -84,7 +84,7 @@ pub enum Printed {
     ClassItself,
 }
 
-// By a name's hash the row that it can be, if any: 36 is none.
+// By a name's hash the row that it can be, if any. 36 is none: 128 `Option`s, written out, would be no plainer than 128 bytes.
 static ROWS: [u8; 128] = *b"\
     \x07\x24\x24\x18\x24\x15\x24\x24\x24\x24\x24\x24\x05\x24\x24\x24\
     \x24\x12\x24\x16\x24\x14\x24\x19\x24\x24\x00\x24\x1a\x24\x24\x24\
@@ -95,7 +95,8 @@ static ROWS: [u8; 128] = *b"\
     \x24\x24\x24\x24\x24\x24\x24\x24\x24\x24\x24\x24\x24\x24\x24\x24\
     \x24\x24\x24\x24\x24\x24\x24\x24\x24\x24\x24\x24\x01\x24\x24\x24";
 
-// The row of the table that `name` can be, by its length, its eighth byte and its last, which no two rows have in common.
+// The row of the table that `name` can be, by its length, its eighth byte and its last, which no two rows have in common. A row is told by its
+// number, since a byte of `ROWS` has room for no more.
 fn row_of(name: &[u8]) -> Option<usize>
     ensures { CanBe name.now result }
 {
@@ -108,83 +109,85 @@ fn row_of(name: &[u8]) -> Option<usize>
     if row < 36 { Some(row) } else { None }
 }
 
-// A row of the table: a name, and what it means.
-#[tactic(auto, unfolding(crate::specs::told::ErasureTold::row_at, crate::specs::told::ErasureTold::listed_name, crate::specs::told::ErasureTold::listed_meaning, characters::specs::Characters::utf8, characters::specs::Characters::utf8_of))]
+// The table: names, and what each means.
+static TABLE: [(&[u8], Meaning); 36] = [
+    (b"kotlin/Boolean", Meaning::Primitive(Primitive::Boolean)),
+    (b"kotlin/Byte", Meaning::Primitive(Primitive::Byte)),
+    (b"kotlin/Char", Meaning::Primitive(Primitive::Char)),
+    (b"kotlin/Short", Meaning::Primitive(Primitive::Short)),
+    (b"kotlin/Int", Meaning::Primitive(Primitive::Int)),
+    (b"kotlin/Long", Meaning::Primitive(Primitive::Long)),
+    (b"kotlin/Float", Meaning::Primitive(Primitive::Float)),
+    (b"kotlin/Double", Meaning::Primitive(Primitive::Double)),
+    (
+        b"kotlin/BooleanArray",
+        Meaning::PrimitiveArray(Primitive::Boolean),
+    ),
+    (
+        b"kotlin/ByteArray",
+        Meaning::PrimitiveArray(Primitive::Byte),
+    ),
+    (
+        b"kotlin/CharArray",
+        Meaning::PrimitiveArray(Primitive::Char),
+    ),
+    (
+        b"kotlin/ShortArray",
+        Meaning::PrimitiveArray(Primitive::Short),
+    ),
+    (b"kotlin/IntArray", Meaning::PrimitiveArray(Primitive::Int)),
+    (
+        b"kotlin/LongArray",
+        Meaning::PrimitiveArray(Primitive::Long),
+    ),
+    (
+        b"kotlin/FloatArray",
+        Meaning::PrimitiveArray(Primitive::Float),
+    ),
+    (
+        b"kotlin/DoubleArray",
+        Meaning::PrimitiveArray(Primitive::Double),
+    ),
+    (b"kotlin/Array", Meaning::Array),
+    (b"kotlin/Unit", Meaning::Unit),
+    (b"kotlin/Nothing", Meaning::Nothing),
+    (b"kotlin/Any", Meaning::Class(Class::Object)),
+    (b"kotlin/String", Meaning::Class(Class::String)),
+    (b"kotlin/CharSequence", Meaning::Class(Class::CharSequence)),
+    (b"kotlin/Throwable", Meaning::Class(Class::Throwable)),
+    (b"kotlin/Number", Meaning::Class(Class::Number)),
+    (b"kotlin/Comparable", Meaning::Class(Class::Comparable)),
+    (b"kotlin/Enum", Meaning::Class(Class::Enum)),
+    (b"kotlin/Annotation", Meaning::Class(Class::Annotation)),
+    (
+        b"kotlin/collections/Iterable",
+        Meaning::Class(Class::Iterable),
+    ),
+    (
+        b"kotlin/collections/Collection",
+        Meaning::Class(Class::Collection),
+    ),
+    (
+        b"kotlin/collections/MutableCollection",
+        Meaning::Class(Class::Collection),
+    ),
+    (b"kotlin/collections/List", Meaning::Class(Class::List)),
+    (
+        b"kotlin/collections/MutableList",
+        Meaning::Class(Class::List),
+    ),
+    (b"kotlin/collections/Set", Meaning::Class(Class::Set)),
+    (b"kotlin/collections/MutableSet", Meaning::Class(Class::Set)),
+    (b"kotlin/collections/Map", Meaning::Class(Class::Map)),
+    (b"kotlin/collections/MutableMap", Meaning::Class(Class::Map)),
+];
+
+// A row of the table.
 fn row_at(row: usize) -> (&'static [u8], Meaning)
     requires { row < 36 }
     ensures { IsRow row result }
 {
-    match row {
-        0 => (b"kotlin/Boolean", Meaning::Primitive(Primitive::Boolean)),
-        1 => (b"kotlin/Byte", Meaning::Primitive(Primitive::Byte)),
-        2 => (b"kotlin/Char", Meaning::Primitive(Primitive::Char)),
-        3 => (b"kotlin/Short", Meaning::Primitive(Primitive::Short)),
-        4 => (b"kotlin/Int", Meaning::Primitive(Primitive::Int)),
-        5 => (b"kotlin/Long", Meaning::Primitive(Primitive::Long)),
-        6 => (b"kotlin/Float", Meaning::Primitive(Primitive::Float)),
-        7 => (b"kotlin/Double", Meaning::Primitive(Primitive::Double)),
-        8 => (
-            b"kotlin/BooleanArray",
-            Meaning::PrimitiveArray(Primitive::Boolean),
-        ),
-        9 => (
-            b"kotlin/ByteArray",
-            Meaning::PrimitiveArray(Primitive::Byte),
-        ),
-        10 => (
-            b"kotlin/CharArray",
-            Meaning::PrimitiveArray(Primitive::Char),
-        ),
-        11 => (
-            b"kotlin/ShortArray",
-            Meaning::PrimitiveArray(Primitive::Short),
-        ),
-        12 => (b"kotlin/IntArray", Meaning::PrimitiveArray(Primitive::Int)),
-        13 => (
-            b"kotlin/LongArray",
-            Meaning::PrimitiveArray(Primitive::Long),
-        ),
-        14 => (
-            b"kotlin/FloatArray",
-            Meaning::PrimitiveArray(Primitive::Float),
-        ),
-        15 => (
-            b"kotlin/DoubleArray",
-            Meaning::PrimitiveArray(Primitive::Double),
-        ),
-        16 => (b"kotlin/Array", Meaning::Array),
-        17 => (b"kotlin/Unit", Meaning::Unit),
-        18 => (b"kotlin/Nothing", Meaning::Nothing),
-        19 => (b"kotlin/Any", Meaning::Class(Class::Object)),
-        20 => (b"kotlin/String", Meaning::Class(Class::String)),
-        21 => (b"kotlin/CharSequence", Meaning::Class(Class::CharSequence)),
-        22 => (b"kotlin/Throwable", Meaning::Class(Class::Throwable)),
-        23 => (b"kotlin/Number", Meaning::Class(Class::Number)),
-        24 => (b"kotlin/Comparable", Meaning::Class(Class::Comparable)),
-        25 => (b"kotlin/Enum", Meaning::Class(Class::Enum)),
-        26 => (b"kotlin/Annotation", Meaning::Class(Class::Annotation)),
-        27 => (
-            b"kotlin/collections/Iterable",
-            Meaning::Class(Class::Iterable),
-        ),
-        28 => (
-            b"kotlin/collections/Collection",
-            Meaning::Class(Class::Collection),
-        ),
-        29 => (
-            b"kotlin/collections/MutableCollection",
-            Meaning::Class(Class::Collection),
-        ),
-        30 => (b"kotlin/collections/List", Meaning::Class(Class::List)),
-        31 => (
-            b"kotlin/collections/MutableList",
-            Meaning::Class(Class::List),
-        ),
-        32 => (b"kotlin/collections/Set", Meaning::Class(Class::Set)),
-        33 => (b"kotlin/collections/MutableSet", Meaning::Class(Class::Set)),
-        34 => (b"kotlin/collections/Map", Meaning::Class(Class::Map)),
-        _ => (b"kotlin/collections/MutableMap", Meaning::Class(Class::Map)),
-    }
+    TABLE[row]
 }
 
 // What a class name, dots turned into slashes, means.
@@ -204,21 +207,6 @@ pub fn meaning_of(name: &[u8]) -> Meaning
     }
 }
 
-fn letter_of(primitive: Primitive) -> &'static [u8]
-    ensures { result.now ≡ letter (primitive_told primitive) ∷ [] }
-{
-    match primitive {
-        Primitive::Boolean => b"Z",
-        Primitive::Byte => b"B",
-        Primitive::Char => b"C",
-        Primitive::Short => b"S",
-        Primitive::Int => b"I",
-        Primitive::Long => b"J",
-        Primitive::Float => b"F",
-        Primitive::Double => b"D",
-    }
-}
-
 #[tactic(auto, unfolding(crate::specs::Erasure::print, characters::specs::Characters::utf8, characters::specs::Characters::utf8_of))]
 fn array_of(primitive: Primitive) -> &'static [u8]
     ensures { result.now ≡ print_returned (fixed_told (parts.LetterArray primitive)) }
@@ -233,6 +221,14 @@ fn array_of(primitive: Primitive) -> &'static [u8]
         Primitive::Float => b"[F",
         Primitive::Double => b"[D",
     }
+}
+
+// The letter alone: it stands last in its array's text.
+#[tactic(auto, unfolding(crate::specs::Erasure::print))]
+fn letter_of(primitive: Primitive) -> &'static [u8]
+    ensures { result.now ≡ letter (primitive_told primitive) ∷ [] }
+{
+    &array_of(primitive)[1..]
 }
 
 fn box_of(primitive: Primitive) -> &'static [u8]
@@ -301,7 +297,8 @@ fn is_boxed(nullable: bool, position: Position) -> bool
     nullable || position == Position::Element
 }
 
-// What is printed of a type at a position; nothing if it has no descriptor.
+// What is printed of a type at a position; nothing if it has no descriptor. `nullable` and `position` are no struct: descriptors' `Placement` is known
+// before the type is read, and a type can be nullable by its own message too.
 pub fn printed_as(meaning: Meaning, nullable: bool, position: Position) -> Option<Printed>
     ensures { PrintsAs meaning nullable position result }
 {

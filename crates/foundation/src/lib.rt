@@ -1,13 +1,27 @@
 // Definitions and laws that every other crate shares: see specs/ and proofs/.
 #![tactic(auto)]
 
-ghost use Rattle.std.specs.Prelude.{◌≡◌, ◌+◌, ◌-◌, ◌^◌, ◌<◌, ◌≤◌, length, take, drop};
+ghost use Rattle.std.specs.Prelude.{◌≡◌, ◌+◌, ◌-◌, ◌^◌, ◌<◌, ◌≤◌, [], length, take, drop, set};
 
 // A part of a slice: of `s`, what stands in `&s[start..end]`.
 #[derive(Clone, Copy)]
 pub struct Span {
     pub start: usize,
     pub end: usize,
+}
+
+impl Span {
+    // The same part where the slice's first element stands at the place `by` of another: both places are that much further on.
+    // Callers show that places fit 64 bits: their slice lies in one that is at hand.
+    pub fn moved(self, by: usize) -> Span
+        requires { (self.start ≤ self.end) × (self.end + by < 2 ^ 64) }
+        ensures { (result.start ≡ self.start + by) × (result.end ≡ self.end + by) }
+    {
+        Span {
+            start: self.start + by,
+            end: self.end + by,
+        }
+    }
 }
 
 // What was read, and the place after it.
@@ -26,6 +40,37 @@ pub struct Located<'a> {
 }
 
 impl<'a> Located<'a> {
+    // All of the decoded bytes, or bytes that are looked at alone.
+    pub fn whole(bytes: &'a [u8]) -> Located<'a>
+        ensures { (result.base ≡ 0) × (result.bytes.now ≡ bytes.now) }
+    {
+        Located { base: 0, bytes }
+    }
+
+    // What stands from a place of all the decoded bytes on.
+    // Callers show that the place lies in them: by what the answer tells that gave it.
+    pub fn rest(bytes: &'a [u8], at: usize) -> Located<'a>
+        requires { at ≤ length bytes.now }
+        ensures { (result.base ≡ at) × (result.bytes.now ≡ drop at bytes.now) }
+    {
+        Located {
+            base: at,
+            bytes: &bytes[at..],
+        }
+    }
+
+    // What stands in a span of all the decoded bytes.
+    // Callers show that the span lies in them: by what the answer tells that gave it, or the note that it was read from.
+    pub fn of(bytes: &'a [u8], span: Span) -> Located<'a>
+        requires { (span.start ≤ span.end) × (span.end ≤ length bytes.now) }
+        ensures { (result.base ≡ span.start) × (result.bytes.now ≡ take (span.end - span.start) (drop span.start bytes.now)) }
+    {
+        Located {
+            base: span.start,
+            bytes: &bytes[span.start..span.end],
+        }
+    }
+
     // What stands in a span of it.
     // Callers show that the span lies in it: messages, and the crates above it, by what the answer tells that gave them the span.
     pub fn part(self, span: Span) -> Located<'a>
@@ -58,6 +103,34 @@ pub struct Context<'a> {
     pub ends: &'a [u32],
     pub notes: &'a [u64],
     pub tables: Tables,
+}
+
+impl<'a> Context<'a> {
+    // Bytes alone: no string of d2, and nothing noted.
+    pub fn of_bytes(payload: &'a [u8]) -> Context<'a>
+        ensures { (result.payload.now ≡ payload.now) × (result.d2.now ≡ []) }
+    {
+        Context {
+            payload,
+            d2: &[],
+            ends: &[],
+            notes: &[],
+            tables: Tables {
+                records: 0,
+                types: 0,
+                first_nullable: None,
+            },
+        }
+    }
+}
+
+// One element of a lent area. A write is clipped: past the area's end it is left out, and nothing changes.
+pub fn put<T: Copy>(area: &mut [T], at: usize, value: T)
+    ensures { area.new ≡ set area.old at value }
+{
+    if at < area.len() {
+        area[at] = value;
+    }
 }
 
 // A number of 32 bits as a place. Rust has no `From<u32>` for `usize`.

@@ -1,6 +1,6 @@
 -- Method descriptors: JVMS 4.3.2 and 4.3.3, without the limit of 255, each ClassName in the JVM's form (document 01, "Descriptors").
 -- Of texts in UTF-8: /, ; and [ are single bytes there, as are the letters, ( and ), and these bytes occur in no other character. So
--- a name keeps to the form by its characters exactly when it does by its bytes (`form-by-characters` in defaults' proofs).
+-- a name keeps to the form by its characters exactly when it does by its bytes (the law `form_by_characters` of defaults).
 -- Assumes nothing.
 use Rattle.std.specs.Prelude.{◌≡◌, ◌≢◌, List, [], ◌∷◌, ◌++◌, ℕ, eqb, if◌then◌else◌}
 use Rattle.foundation.specs.Choices.{concat, All}

@@ -17,7 +17,7 @@ pub struct Sizes {
 }
 
 // Why an input is refused.
-#[derive(Clone, Copy)]
+#[derive(Clone, Copy, Debug, PartialEq, Eq)]
 pub enum Refusal {
     // 1 to 4.
     Fault(Fault),
@@ -35,6 +35,7 @@ pub enum Refusal {
 
 impl Refusal {
     // The refusal's number, and its detail: the unit of 6; of 7, 8, 9, 13, 14 and 17 the place, an offset among the decoded bytes.
+    // A place is made 64 bits wide by `as`: Rust has no `From<usize>` for `u64`.
     #[tactic(auto, unfolding(crate::specs::Refusals::number_of, crate::specs::Refusals::detail_of))]
     pub fn numbered(self) -> (u64, u64)
         ensures { result ≡ (number_of (refusal_cause self), detail_of (refusal_cause self) (refusal_place self)) }

@@ -14,19 +14,18 @@ pub struct Counts {
 }
 
 // The byte at a place of the input, 0 if the piece doesn't hold it.
+// A piece and its base are no `Located`: that says that both together fit 64 bits, and these functions are asked of any base.
 fn byte_in(piece: &[u8], base: usize, at: usize) -> usize
     ensures { (result ≡ byte_in piece.now base at) × (result < 256) }
 {
     if at < base {
         return 0;
     }
-    match piece.get(at - base) {
-        Some(&byte) => usize::from(byte),
-        None => 0,
-    }
+    usize::from(piece.get(at - base).copied().unwrap_or(0))
 }
 
 // What the piece gives of a number in 2 bytes.
+// Here and below a place is asked to be far below 2 ^ 64, so that the sums with it fit. Places of an input are, and a place has no type of its own.
 fn two_in(piece: &[u8], base: usize, at: usize) -> usize
     requires { at < 2 ^ 60 }
     ensures { (result ≡ number_in_piece 2 piece.now base at) × (result < 65536) }
@@ -44,6 +43,7 @@ pub fn four_in(piece: &[u8], base: usize, at: usize) -> usize
 }
 
 // The counts of the input up to this piece, from those up to the piece before, each a number of 4 bytes.
+// `CountsFit` is asked for, and the counts are no `u32`: they are summed piece by piece, and that a sum still has 4 bytes is a fact of the whole input.
 pub(crate) fn counts_in(piece: &[u8], base: usize, before: Counts) -> Counts
     requires { CountsFit before }
     ensures { result ≡ counts_in piece.now base before }
@@ -73,7 +73,8 @@ pub fn signed_at(bytes: &[u8], at: usize) -> i32
     n.cast_signed()
 }
 
-// Units from a place on, as many as are announced and have room.
+// Units from a place on, as many as are announced and have room. They are cast, here and below, as `two_in` and `four_in` tell that they fit: `try_from`
+// would add an arm that no input reaches.
 // Callers show that the place is a sum of counts of 4 bytes each, and that their own array is short.
 pub fn units_at(bytes: &[u8], at: usize, count: usize, units: &mut [u16]) -> usize
     requires { (at < 2 ^ 40) × (length units.old < 2 ^ 20) }

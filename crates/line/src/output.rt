@@ -1,12 +1,14 @@
 // The line that the program prints, written into an area: number and detail in decimal, sheet and text in hex. A write past the area's end is
-// left out, and the place after it counted all the same: `fmt::Write` could tell neither.
+// left out, and the place after it is counted all the same. So `fmt::Write` isn't used: its answers tell no place, and not what was left out.
 ghost use Rattle.std.specs.Prelude.{◌≡◌, false, ◌+◌, ◌^◌, ◌<◌, length};
 ghost use Rattle.std.specs.Fmt.{digit_glyph};
 ghost use Rattle.line.specs.Line.{decimal, hex_of, part_of, line_of};
 ghost use Rattle.line.specs.Wrote.{Wrote};
 
+use foundation::put;
 use itoa::Buffer;
 
+// Here and below a place and a length are asked to be far below 2 ^ 64, so that the place after what is put fits, as for places in input.rt.
 fn put_decimal(area: &mut [u8], at: usize, n: u64) -> usize
     requires { at < 2 ^ 60 }
     ensures { Wrote (decimal n) at result area.old area.new }
@@ -33,13 +35,12 @@ fn put_hex(area: &mut [u8], at: usize, bytes: &[u8]) -> usize
     requires { (at < 2 ^ 60) × (length bytes.now < 2 ^ 60) }
     ensures { Wrote (hex_of bytes.now) at result area.old area.new }
 {
-    let mut place = at;
-    for &byte in bytes {
-        sheet::put(area, place, glyph(byte / 16));
-        sheet::put(area, place + 1, glyph(byte % 16));
-        place += 2;
+    for (i, &byte) in bytes.iter().enumerate() {
+        let place = at + 2 * i;
+        put(area, place, glyph(byte / 16));
+        put(area, place + 1, glyph(byte % 16));
     }
-    place
+    at + 2 * bytes.len()
 }
 
 // A space, and the bytes in hex, or "-" if there are none.
@@ -47,9 +48,9 @@ fn put_part(area: &mut [u8], at: usize, bytes: &[u8]) -> usize
     requires { (at < 2 ^ 59) × (length bytes.now < 2 ^ 60) }
     ensures { Wrote (part_of bytes.now) at result area.old area.new }
 {
-    sheet::put(area, at, b' ');
+    put(area, at, b' ');
     if bytes.is_empty() {
-        sheet::put(area, at + 1, b'-');
+        put(area, at + 1, b'-');
         return at + 2;
     }
     put_hex(area, at + 1, bytes)
@@ -62,10 +63,10 @@ pub fn put_line(area: &mut [u8], number: u64, detail: u64, sheet: &[u8], text: &
     ensures { Wrote (line_of number detail sheet.now text.now) 0 result area.old area.new }
 {
     let after_number = put_decimal(area, 0, number);
-    sheet::put(area, after_number, b' ');
+    put(area, after_number, b' ');
     let after_detail = put_decimal(area, after_number + 1, detail);
     let after_sheet = put_part(area, after_detail, sheet);
     let after_text = put_part(area, after_sheet, text);
-    sheet::put(area, after_text, b'\n');
+    put(area, after_text, b'\n');
     after_text + 1
 }

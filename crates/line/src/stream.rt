@@ -1,9 +1,10 @@
 // The input read from standard input, a file or any other reader. Its beginning is kept, as much as an input within the limits can have; of the
-// rest only the counts are taken. What is said here is said of whatever bytes the reads gave; where a reader's bytes are known, these are they.
+// rest only the counts are taken. What is promised holds of the bytes that the reads gave, whatever they are. Of a reader whose bytes are known, as bytes
+// in memory, it is promised too that the reads gave these bytes.
 ghost use Rattle.std.specs.Prelude.{◌≡◌, ◌+◌, ◌^◌, ◌≤◌, ◌<◌, length, take};
 ghost use Rattle.std.specs.Io.KnownBytes.{Consumes};
 ghost use Rattle.line.specs.told.Pieces.{CountsFit};
-ghost use Rattle.line.specs.told.Taken.{kept_limit, Begun, PieceGiven, PassedGiven, WentGiven, TookGiven};
+ghost use Rattle.line.specs.told.Taken.{Begun, PieceGiven, PassedGiven, WentGiven, TookGiven};
 
 use crate::input::{Counts, counts_in};
 use std::io::Read;
@@ -20,7 +21,7 @@ pub struct Taken {
 }
 
 // Reads until the area is full or the reader's bytes end; a read that fails ends them too. Answers how many bytes stand at the area's beginning:
-// those that the reader has given.
+// those that the reader has given. A loop by hand: each read goes on behind the last, and tells itself how many bytes it gave.
 pub fn read_full<R: Read>(reader: &mut R, area: &mut [u8]) -> usize
     ensures inside { result ≤ length area.new }
     ensures same_length { length area.new ≡ length area.old }
@@ -37,6 +38,7 @@ pub fn read_full<R: Read>(reader: &mut R, area: &mut [u8]) -> usize
 }
 
 // The next piece of the input, read into an area; its counts are taken.
+// 2 ^ 40, here and below, leaves room to add a piece to what was read. A limit is a written number or one of 4 bytes, so far smaller.
 fn take_piece<R: Read>(reader: &mut R, area: &mut [u8], taken: Taken) -> Taken
     requires { CountsFit taken.counts × (taken.total ≤ 2 ^ 40) × (length area.old ≤ 2 ^ 40) }
     ensures { PieceGiven (R.remaining reader.old) (R.remaining reader.new) area.new taken result }
@@ -59,7 +61,7 @@ fn pass_piece<R: Read>(reader: &mut R, room: usize, taken: Taken) -> Taken
     take_piece(reader, &mut buffer[..size], taken)
 }
 
-// Reads on to the input's end, or until `limit` bytes were read in all.
+// Reads on to the input's end, or until `limit` bytes were read in all. A loop by hand: only reading tells how many pieces there are.
 fn pass_rest<R: Read>(reader: &mut R, limit: usize, first: Taken) -> Taken
     requires { Begun first × (limit ≤ 2 ^ 40) }
     ensures { WentGiven (R.remaining reader.old) (R.remaining reader.new) first result }

@@ -9,7 +9,7 @@ use native.Mathlib.Omega.{arith}
 use borrow.Author.Tests.{ltb-true, eqb-true, eqb-false}
 use lib.Dec.{eqb, ltb}
 use lib.ListN.{length, take, drop, get_or, get_elem?, set, length-set, length-take, length-drop}
-use lib.Seq.{get_or-set_same, get_or-set_other, take-set-le, take-take}
+use lib.Seq.{get_or-set_same, get_or-set_other, get_or-drop, get_or-take, take-set-le, take-take}
 use Rattle.foundation.specs.Choices.{if_some}
 use Rattle.foundation.proofs.ChoiceLaws.{if_ind}
 use Rattle.characters.specs.Characters.{utf8, from_utf16}
@@ -19,7 +19,8 @@ use Rattle.names.specs.Names.{strings_from, ends_fit}
 use Rattle.record_names.specs.told.Steps.{extent_of}
 use Rattle.lookup.specs.told.Strings.{codes_in, codes_from, sizes_from, Keeps, SizeOf, SizesOf, StringNoted}
 use Rattle.foundation.specs.declared.Span.{Span}
-use Rattle.std.specs.Prelude.{Some}
+use Rattle.std.specs.Prelude.{Some, None, MatchOption}
+use Rattle.std.specs.List.{HoldsAt, AllWithin}
 use Rattle.std.specs.declared.option.Option as rust
 
 -- What stands before a place stays.
@@ -56,6 +57,23 @@ codes_before words = less words (codes_in words)
   where
     less : (a b : ℕ) → a - b - 32 ≤ a - 32
     less a b = omega arith
+
+-- The size of a string is in the word that is found among the sizes, by its index.
+module _ (units ends notes : List ℕ) (index word : ℕ) {from : ℕ} (e : from ≡ sizes_from (length notes)) where
+  abbrev sizes : List ℕ
+  sizes = take (length notes - from) (drop from notes)
+
+  pub size-found : {r : rust.Option ℕ}
+      → MatchOption r (AllWithin (λ y. Unit {0}) sizes 0 (length sizes)) (λ w. (w % 65536 ≡ index) × (i : ℕ) × (i < length sizes) × HoldsAt (λ y. y ≡ w) sizes i × AllWithin (λ y. Unit {0}) sizes 0 i)
+      → r ≡ Some word → SizesOf units ends notes → SizeOf units ends index (word / 65536)
+  size-found {r = None} m q s =
+      let z : ◌≡◌ {A = ℕ} 0 1 = cc in
+      absurd (omega arith)
+  size-found {r = Some w} (p, i, l, g, o) q s =
+      let same : w ≡ word = cc in
+      let h : i < length notes - from = omega (arith, l, length-take (length notes - from) (drop from notes)) in
+      let at : get_or notes (from + i) 0 ≡ w = sym (get_or-drop from notes i 0) ∙ sym (get_or-take (length notes - from) (drop from notes) i 0 h) ∙ g 0 in
+      rw (← same, ← p, ← at) (s.each (from + i) (omega arith) (omega arith))
 
 -- A string's size at a place among them.
 module _ (units ends notes : List ℕ) (at : ℕ) (p : length notes ≤ at + 32)

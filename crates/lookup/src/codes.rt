@@ -1,5 +1,6 @@
 // A code for each of the first indices: the record that serves it. It is a hint that a look-up tests before it believes it, so that no
 // promise rests on it; without one the record is searched for. The places of codes and sizes in the notes: specs/told/Strings.antt.
+// The notes are words of a fixed number that the caller lends, since there is no heap: so a code is a number in a word, found by its place.
 ghost use Rattle.std.specs.Prelude.{◌≡◌, ◌*◌, ◌≤◌, ◌<◌, length};
 ghost use Rattle.lookup.specs.told.Strings.{codes_in, sizes_from, codes_from, Keeps};
 
@@ -33,6 +34,7 @@ pub(crate) fn code_at(notes: &[u64], index: usize) -> Option<usize> {
     if codes_in(notes.len()) <= index {
         return None;
     }
+    // `as`, here and below: Rust has no `From` between `usize` and `u64`.
     Some((notes[codes_from(notes.len()) + index] % 65536) as usize)
 }
 
@@ -48,7 +50,8 @@ fn record_for(notes: &[u64], count: usize, at: usize, index: u64) -> usize
     }
 }
 
-// Notes the code of each of the first indices that `count` records serve.
+// Notes the code of each of the first indices that `count` records serve. `notes` and `count` are no struct, here and in `resolve`: it would be made
+// for these two calls alone, since a `Context` has both for all that only reads.
 pub fn note_codes(notes: &mut [u64], count: usize)
     ensures { Keeps (codes_from (length notes.old)) notes.old notes.new }
 {

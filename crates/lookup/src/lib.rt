@@ -21,7 +21,7 @@ use crate::codes::code_at;
 use crate::strings::size_at;
 use foundation::{Context, Span, wide};
 use names::name::{Name, Source};
-use names::records::RECORD_WORDS;
+use names::records::{RECORD_WORDS, unpacked};
 use record_names::note::{Words, noted, noted_class};
 use record_names::plain;
 
@@ -73,6 +73,7 @@ fn find_record(context: &Context<'_>, index: u32) -> Option<usize>
 }
 
 // A string of d2, by where its strings end.
+// The ends stand beside the units, in a slice of their own, as the C interface lends both.
 pub(crate) fn d2_extent(ends: &[u32], index: u32) -> Option<Span>
     ensures { (units : List ℕ) → ends_fit 0 ends.now (length units) ≡ true → get_elem? (strings_from 0 ends.now units) index ≡ extent_of units result }
 {
@@ -103,13 +104,7 @@ pub(crate) fn place_of(bytes: &[u8], notes: &[u64], at: usize) -> Option<Span>
     if notes.len() / RECORD_WORDS <= at {
         return None;
     }
-    let place = notes[RECORD_WORDS * at];
-    let start = (place % 4294967296) as usize;
-    let end = (place / 4294967296) as usize;
-    if end < start || bytes.len() < end {
-        return None;
-    }
-    Some(Span { start, end })
+    unpacked(notes[RECORD_WORDS * at], bytes.len())
 }
 
 // What is noted of the record that serves an index.

@@ -65,7 +65,8 @@ fn qualified_units(context: &Context<'_>, index: u32) -> Option<Name>
     Some(units_name(whole, size))
 }
 
-// The class name with an index; as `string`, but each of the two places gives another name and has another law.
+// The class name with an index. It has the shape of `string`, but calls two other functions, and other laws speak of their answers: one function
+// for both would be no plainer.
 pub fn qualified_name(context: &Context<'_>, index: u32) -> Option<Name>
     ensures { (records : List Record) → ends_fit 0 context.now.ends.now (length context.now.d2.now) ≡ true → SizesOf context.now.d2.now context.now.ends.now context.now.notes.now → NotesOf context.now.payload.now context.now.notes.now context.now.tables.records records → qualified_name (record { records = records; d2 = d2_string (strings_from 0 context.now.ends.now context.now.d2.now) }) index ≡ ok (name_text context.now.payload.now context.now.d2.now result) }
 {

@@ -16,12 +16,12 @@ fn noted_size(notes: &[u64], index: u32) -> usize
     ensures { (units ends : List ℕ) → SizesOf units ends notes.now → SizeOf units ends index result }
 {
     let wanted = u64::from(index);
-    for word in &notes[sizes_from(notes.len())..] {
-        if *word % 65536 == wanted {
-            return (*word / 65536) as usize;
-        }
-    }
-    0
+    let sizes = &notes[sizes_from(notes.len())..];
+    let Some(word) = sizes.iter().copied().find(|word| *word % 65536 == wanted) else {
+        return 0;
+    };
+    // `as`, here and below: Rust has no `From` between `usize` and numbers of a fixed width.
+    (word / 65536) as usize
 }
 
 // Is a string of d2 that stands here long?
@@ -31,7 +31,7 @@ fn is_long(part: Span) -> bool
     part.start <= part.end && LONG <= part.end - part.start
 }
 
-// The same, by where the string stands; nothing is noted of a short one.
+// The size of the string with an index, which stands at `part`: the one that is noted if it is long, else 0.
 pub(crate) fn size_at(notes: &[u64], index: u32, part: Span) -> usize
     ensures { (units ends : List ℕ) → SizesOf units ends notes.now → SizeOf units ends index result }
 {

@@ -50,13 +50,6 @@ use Rattle.std.specs.declared.result.Result.TheVariants.{Ok, Err}
 use Rattle.schema.specs.told.SchemaTold.{Walked}
 use Rattle.schema.specs.told.MembersTold.{section, ListWalked}
 
--- What an answer holds, and what it cannot.
-pub names_same : {a : Signed} {x y : SignatureNames} → a ≡ Ok x → a ≡ Ok y → x ≡ y
-names_same e f = cc
-
-pub names_never : {a : Signed} {x : WireError} {n r : SignatureNames} → a ≡ Err x → a ≡ Ok n → r ≡ n
-names_never e f = let z : ◌≡◌ {A = ℕ} 0 1 = cc in absurd (omega arith)
-
 -- A constructor: its parameters, then its signature.
 constructor_of : Message → List Parameter → Option Signature → Constructor
 constructor_of m ps g = record { flags = flags_in Constructor-flags m; parameters = ps; signature = g }
@@ -186,15 +179,6 @@ module _ {e : Lent} {msg : List ℕ} {base : ℕ} (a : Signed) {s : State} {own 
   receiver-refused q = record { spends = tt; is = λ c o m k h name f. rw (receiver-is c o m k q) }
 
   module _ {s₁ : State} (q : own ≡ Ok s₁) where
-    pub types-unsigned : {x : WireError} → a ≡ Err x → FunctionTypesTold e msg base a s (Err (stop.Wire x)) S S₁ T T₁
-    types-unsigned {x} g = record {
-      spends = tt;
-      is = λ c o m k h name f.
-          let h' = subst (SignedTold e.payload e.d2 c Function-method_signature m) g h in
-          let there = receiver-is c o m k q in
-          rw (there.2, h' (some name) there.1);
-    }
-
     returned-are : (n : SignatureNames) (c : Scope) (m : Message) → SignedTold e.payload e.d2 c Function-method_signature m (Ok n)
         → WalkedTold (declared_type c Function-receiver_type Function-receiver_type_id m s.types) (type_rows receiver_role) s (Ok s₁) S S₁ T T₁
         → (w : Walked) (S₂ T₂ : List ℕ)
@@ -275,10 +259,6 @@ module _ {e : Lent} {msg : List ℕ} {base : ℕ} {s : State} (name : Name) (aff
   function-takes : Within (function_head_cost + 2) s (past 2 s₁)
   function-takes = within_then p.takes (past-within 2 s₁)
 
-  -- what is left for the parameters
-  pub function-affords : Affords e (parameter_cost * length msg) (past 2 s₁)
-  function-affords = affords-after afford (parameter_cost * length msg) function-takes (omega arith)
-
   module _ {r : ListWalked} {S₂ T₂ : List ℕ}
       (t : ParametersInTold e msg base Function-value_parameter (past 2 s₁) r S₁ S₂ T₁ T₂) where
     parameters-are : (c : Scope) → Scoped e c → (m : Message) → cut (◌from◌ base msg) ≡ ok m → {y : ListWalked} → r ≡ y
@@ -289,10 +269,6 @@ module _ {e : Lent} {msg : List ℕ} {base : ℕ} {s : State} (name : Name) (aff
 
     parameters-take : {s₂ : State} {count : ℕ} → r ≡ Ok (section s₂ count) → Within (function_head_cost + 2 + parameter_cost * length msg) s s₂
     parameters-take w = within_then function-takes (listed-within {n = parameter_cost * length msg} t.spends w)
-
-    -- what is left for the types
-    pub types-afford : {s₂ : State} {count : ℕ} → r ≡ Ok (section s₂ count) → Affords e 0 s₂
-    types-afford w = affords-after afford 0 (parameters-take w) (omega arith)
 
     module _ (i : (c : Scope) → Scoped e c → (m : Message) → cut (◌from◌ base msg) ≡ ok m → (l : ℕ)
         → name_in c Function-name m l ≡ ok (some (named_text e.payload e.d2 name), l)) where

@@ -6,7 +6,7 @@ use mathlib.Core.Option.{Option, none, some}
 use Prim.Native.Nat.{ℕ, zero, suc, ◌+◌, ◌-◌, ◌*◌, ◌≤◌}
 use native.Mathlib.Omega.{arith}
 use lib.ListN.{length, take, drop, get_or, length-take}
-use lib.Seq.{sets, take-append_seam, length-take-le}
+use lib.Seq.{sets, take-append_seam}
 use Rattle.foundation.specs.Choices.{map_option}
 use Rattle.foundation.specs.Results.{ok, ◌from◌}
 use Rattle.foundation.proofs.OverlayLaws.{sets_front}
@@ -20,9 +20,8 @@ use Rattle.sheet.proofs.PutLaws.{put-sheet, put-text, put-types, put-left, rows_
 use Rattle.schema.specs.Reading.{Read, Scope}
 use Rattle.schema.specs.Members.{constructor_in, function_in}
 use Rattle.schema.specs.told.SchemaTold.{Lent, Scoped, EntryAt, Stands, PickedTold}
-use Rattle.schema.specs.told.MembersTold.{Affords, Within, PickedWithin, member_cost, closed_cost, MemberTold}
-use Rattle.schema.proofs.CountLaws.{within_both, affords-less, affords-after, picked_within}
-use Rattle.schema.specs.declared.Stop.{Stop}
+use Rattle.schema.specs.told.MembersTold.{Within, member_cost, closed_cost, MemberTold}
+use Rattle.schema.proofs.CountLaws.{within_both, picked_within}
 use Rattle.schema.proofs.StandsLaws.{stands-entry}
 use Rattle.erasure.specs.told.ErasureTold.{PutSized}
 use Rattle.std.specs.Prelude as std
@@ -33,7 +32,7 @@ use Rattle.members.specs.told.ClosedTold.{Declared, callable_in, callable_rows, 
 use Rattle.members.specs.declared.closed.Callable.{Callable}
 use Rattle.members.specs.declared.closed.Callable.TheVariants as callable
 use Rattle.descriptors.proofs.JoinLaws.{part-answer, written-within}
-use Rattle.std.specs.declared.result.Result.TheVariants.{Ok, Err}
+use Rattle.std.specs.declared.result.Result.TheVariants.{Ok}
 use Rattle.schema.specs.told.SchemaTold.{Picked}
 
 pub of_constructor_lem : {e : Lent} {start end at : ℕ} {r : std.Option ℕ} {A A₁ : List ℕ} → ConstructorDefault e start end at r A A₁
@@ -137,21 +136,9 @@ module _ {D : Type 0} (read : Scope → Message → Read (Option D)) (parts : D 
           subst (λ (x : Option (List ℕ)). PutRows (row 7 (ref x ∷ []) ∷ []) s.types s s' S S' T T') (sym t.1) (p t.0 T (sym t.2.size) f);
     }
 
--- What is closed.
-module _ {e : Lent} {msg : List ℕ} {base : ℕ} {s : State} (st : Stands e.payload msg base) (h : Affords e (closed_cost (length msg)) s) where
-  pub member-room : Affords e (member_cost (length msg)) s × (base + length msg ≤ length e.payload)
-  member-room = (affords-less h (member_cost (length msg)) (omega arith), st.inside)
-
-  pub closing-room : {r : Picked} {s₁ : State} → PickedWithin (member_cost (length msg)) s r → r ≡ Ok (Some s₁)
-      → Affords e (close_cost (length msg)) s₁ × Stands e.payload msg base
-  closing-room p w = (affords-after h (close_cost (length msg)) (picked_within {n = member_cost (length msg)} p w) (omega arith), st)
-
--- One that is skipped or refused, and so is not closed.
+-- One that is skipped, and so is not closed.
 module _ {D : Type 0} (read : Scope → Message → Read (Option D)) (rows closed : D → List Row) {n n' : ℕ} {e : Lent} {msg : List ℕ} {base : ℕ}
     {s : State} {r : Picked} {S S₁ T T₁ : List ℕ} (t : MemberTold read rows n e msg base s r S S₁ T T₁) where
-  pub closed_refused : {stop : Stop} → r ≡ Err stop → MemberTold read closed n' e msg base s (Err stop) S S₁ T T₁
-  closed_refused w = record { spends = tt; is = λ c o m k. subst (λ (y : Picked). PickedTold (read c m s.types) rows s y S S₁ T T₁) w (t.is c o m k) }
-
   pub closed_dropped : r ≡ Ok None → MemberTold read closed n' e msg base s (Ok None) S S₁ T T₁
   closed_dropped w = record { spends = tt; is = λ c o m k. subst (λ (y : Picked). PickedTold (read c m s.types) rows s y S S₁ T T₁) w (t.is c o m k) }
 
@@ -189,7 +176,3 @@ pub default-so : {e : Lent} {start end at : ℕ} {r : std.Option ℕ} {A A₁ : 
     → DefaultOf (callable_in x) (callable_parts x) e start end at r A A₁ → DefaultOf (callable_in k) (callable_parts k) e start end at r A A₁
 default-so {e} {start} {end} {at} {r} {A} {A₁} x q =
     subst (λ (y : Callable). DefaultOf (callable_in y) (callable_parts y) e start end at r A A₁) (sym q)
-
--- what was written aside, of an area of k bytes
-pub aside_fits : (n k : ℕ) (l : List ℕ) → length l ≡ k → n ≤ k → n ≡ length (take n l)
-aside_fits n k l e h = sym (length-take-le n l (omega arith))

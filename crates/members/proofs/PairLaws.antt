@@ -88,14 +88,6 @@ module _ (p : TypePair) {e : Lent} {msg : List ℕ} {base : ℕ} {s : State} {ow
       subst (λ (w : Walked). WalkedTold (declared_type c p.first.inline p.first.indexed m s.types) (type_rows (role_number p.first.role)) s w S S₁ T T₁)
       q (t.is c o m k)
 
-  pub pair-refused : {stop : Stop} → own ≡ Err stop → PairTold p e msg base s (Err stop) S S₁ T T₁
-  pair-refused {stop} q = record {
-    spends = tt;
-    is = λ c o m k.
-        both-refused (declared_type c p.first.inline p.first.indexed m) (declared_type c p.second.inline p.second.indexed m)
-        (type_rows (role_number p.first.role)) (type_rows (role_number p.second.role)) s (Err stop) S S₁ T T₁ refl (own_is c o m k q);
-  }
-
   pub pair_then : {s₁ : State} → own ≡ Ok s₁ → {w : Walked} {S₂ T₂ : List ℕ}
       → OptionalTold e msg base p.second.inline p.second.indexed (role_number p.second.role) s₁ w S₁ S₂ T₁ T₂
       → PairTold p e msg base s w S S₂ T T₂

@@ -29,8 +29,8 @@ use Rattle.schema.specs.Types.{declared_type}
 use Rattle.schema.specs.Members.{flags_in, field_in, signature_in, of_signature, receiver_in, accessor_is_default, property_in}
 use Rattle.declaration_rows.specs.Rows.{return_role, receiver_role, type_rows, property_rows}
 use Rattle.declaration_rows.specs.told.Written.{RecordRoom, cell_limit, signature_by, property_cells}
-use Rattle.schema.specs.told.SchemaTold.{Lent, Scoped, Ready, stop_refused, WalkedSpends, WalkedTold}
-use Rattle.schema.specs.told.MembersTold.{Affords, Within, member_cost, MemberTold}
+use Rattle.schema.specs.told.SchemaTold.{Lent, Scoped, stop_refused, WalkedSpends, WalkedTold}
+use Rattle.schema.specs.told.MembersTold.{Within, member_cost, MemberTold}
 use Rattle.type_references.specs.told.OptionalTold.{OptionalTold}
 use Rattle.members.specs.told.SignaturesTold.{AccessorTold, PropertySignedTold, AccessorsDue}
 use Rattle.members.specs.told.PropertiesTold.{record_cost, PropertyRecordTold, NamedPropertyTold}
@@ -42,12 +42,11 @@ use Rattle.members.specs.declared.signatures.PropertyNames.{PropertyNames}
 use Rattle.members.specs.told.SignaturesTold.{PropertySigned}
 use Rattle.declaration_rows.proofs.WrittenLaws.{Small, property-small}
 use Rattle.declaration_rows.proofs.RecordLaws.{property-put}
-use Rattle.schema.proofs.CountLaws.{within_both, spends-within, affords-after, affords-ready}
-use Rattle.schema.proofs.TypeLaws.{ready-after}
+use Rattle.schema.proofs.CountLaws.{within_both, spends-within}
 use Rattle.std.specs.declared.option.Option.TheVariants.{Some}
 use Rattle.std.specs.declared.result.Result.{Result}
 use Rattle.std.specs.declared.result.Result.TheVariants.{Ok, Err}
-use Rattle.schema.specs.told.SchemaTold.{Walked, Picked}
+use Rattle.schema.specs.told.SchemaTold.{Walked}
 
 -- What the cells of a record take at most: a number its width, a name what a cell may take.
 abbrev cost_of : List Cell → ℕ
@@ -81,11 +80,6 @@ row_cost k cs n small l {s} {s'} {S} {S'} {T} {T'} p =
       counts = omega (arith, put-sheet h, put-text h, put-types h, cells_cost cs s.text small);
       types = omega (arith, put-types h);
     }
-
--- A property's record can be afforded, and then its types.
-pub property_ready : {e : Lent} (n : ℕ) {s s₁ s₂ : State} {x : Walked} → Affords e (member_cost n) s → Within record_cost s s₁
-    → WalkedSpends s₁ x → x ≡ Ok s₂ → Ready e s₂
-property_ready n {s₁ = s₁} h p q e = ready-after (affords-ready (affords-after h 0 p (omega arith))) (subst (WalkedSpends s₁) e q)
 
 -- A property's record by what was looked up for it.
 module _ (e : Lent) (msg : List ℕ) (base : ℕ) (name : Name) (n : PropertyNames) {s s' : State} {S S' T T' : List ℕ} (room : RecordRoom (2 ^ 61) e.payload e.d2 s) where
@@ -287,11 +281,4 @@ module _ {e : Lent} {msg : List ℕ} {base : ℕ} {s : State} (name : Name)
   property-unsigned {error} g = record {
     spends = tt;
     is = λ c o m k. property-broken c m s.types (named c o m k s.types) error (subst (PropertySignedTold e.payload e.d2 c m) g (signed c o m k));
-  }
-
-  pub property-named : {n : PropertyNames} → x ≡ Ok n → {r : Picked} {S S' T T' : List ℕ}
-      → NamedPropertyTold e msg base name n s r S S' T T' → MemberTold property_in property_rows (member_cost (length msg)) e msg base s r S S' T T'
-  property-named g told = record {
-    spends = told.spends;
-    is = λ c o m k. told.is c o m k (named c o m k) (subst (PropertySignedTold e.payload e.d2 c m) g (signed c o m k));
   }

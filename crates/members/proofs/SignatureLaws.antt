@@ -15,7 +15,7 @@ use Rattle.messages.specs.told.Asked.{EmbeddedIs, EmbeddedTold}
 use Rattle.wire.specs.declared.WireError.{WireError}
 use Rattle.names.specs.told.Name.{name_text}
 use Rattle.schema.specs.Reading.{pure, ◌>>=◌, Scope, name_in}
-use Rattle.schema.specs.Members.{signature_of, signature_in, field_of, field_in, of_signature}
+use Rattle.schema.specs.Members.{signature_of, signature_in, field_of, field_in}
 use Rattle.declaration_rows.specs.Declarations.{signed}
 use Rattle.declaration_rows.specs.told.Written.{signature_by}
 use Rattle.members.specs.told.SignaturesTold.{NamesTold, SignedTold, AccessorTold, ThreeTold, PropertySignedTold}
@@ -107,22 +107,8 @@ module _ (payload units : List ℕ) (c : Scope) where
   accessor-told number m (Ok n) h = λ l. signature-by number m n h l
   accessor-told number m (Err error) h = λ l. h none l
 
-  pub unsigned-field : (n : SignatureNames) → n.name ≡ None → (l : ℕ) → of_signature (field_in c) none l ≡ ok (signature_by payload units n, l)
-  unsigned-field n h l = rw (h)
-
-  pub unsigned-accessor : (number : ℕ) (n : SignatureNames) → n.name ≡ None → AccessorTold payload units c none number (Ok n)
-  unsigned-accessor number n h l = rw (h)
-
   module _ {base : ℕ} {msg : List ℕ} {m : Message} (k : cut (◌from◌ base msg) ≡ ok m) {x : Result (rust.Option Span) WireError}
       (t : EmbeddedTold base msg Property-property_signature x) where
-    pub property-inline : {a b : ℕ} → x ≡ Ok (Some (span a b)) → {n : PropertyNames}
-        → ((m : Message) → cut (◌from◌ (base + a) (take (b - a) (drop a msg))) ≡ ok m → ThreeTold payload units c (some m) n)
-        → PropertySignedTold payload units c m (Ok n)
-    property-inline g h = let i = here k t g in (some i.0, i.2, h i.0 i.1)
-
     pub property-nothing : x ≡ Ok None → (n : PropertyNames) → ThreeTold payload units c none n
         → PropertySignedTold payload units c m (Ok n)
     property-nothing g n h = (none, here k t g, h)
-
-    pub property-refused : {error : WireError} → x ≡ Err error → PropertySignedTold payload units c m (Err error)
-    property-refused g = here k t g

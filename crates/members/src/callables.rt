@@ -10,19 +10,19 @@ ghost use Rattle.members.specs.told.CallablesTold.{function_head_cost, FunctionH
 
 use crate::parameters::parameters_in;
 use crate::signatures::{Signed, names_of, signature_in};
-use declaration_rows::{Role, SignatureNames, put_constructor, put_count, put_function};
+use declaration_rows::{SignatureNames, put_constructor, put_count, put_function};
+use descriptors::slots::{FUNCTION_RECEIVER, FUNCTION_RETURN};
 use fields::{
     CONSTRUCTOR_CONSTRUCTOR_SIGNATURE, CONSTRUCTOR_FLAGS, CONSTRUCTOR_VALUE_PARAMETER,
-    FUNCTION_FLAGS, FUNCTION_METHOD_SIGNATURE, FUNCTION_NAME, FUNCTION_RECEIVER_TYPE,
-    FUNCTION_RECEIVER_TYPE_ID, FUNCTION_RETURN_TYPE, FUNCTION_RETURN_TYPE_ID,
-    FUNCTION_VALUE_PARAMETER, OMITTED_FLAGS,
+    FUNCTION_FLAGS, FUNCTION_METHOD_SIGNATURE, FUNCTION_NAME, FUNCTION_VALUE_PARAMETER,
+    OMITTED_FLAGS,
 };
 use foundation::{Context, Located};
 use names::name::Name;
+use schema::Stop;
 use schema::flags::flags_in;
 use schema::name::name_in;
 use schema::receiver::has_receiver;
-use schema::{Stop, TypeSlot};
 use sheet::Output;
 use type_references::declared_type;
 
@@ -66,7 +66,7 @@ fn function_head(
         name: own.name.or(Some(name)),
         descriptor: own.descriptor,
     };
-    let receiver = has_receiver(msg, FUNCTION_RECEIVER_TYPE, FUNCTION_RECEIVER_TYPE_ID);
+    let receiver = has_receiver(msg, FUNCTION_RECEIVER);
     put_function(context, Some(name), flags, names, receiver, out);
 }
 
@@ -81,19 +81,9 @@ fn function_types(
     ensures same_areas { SameAreas out.old out.new }
     ensures written { Writes (FunctionTypesTold (lent context.now) msg.entry.bytes.now msg.entry.base signed) out.old (walked result out.new) out.new }
 {
-    let received = TypeSlot {
-        inline: FUNCTION_RECEIVER_TYPE,
-        indexed: FUNCTION_RECEIVER_TYPE_ID,
-        role: Role::Receiver,
-    };
-    declared_type(msg, received, context, out)?;
+    declared_type(msg, FUNCTION_RECEIVER, context, out)?;
     signed?;
-    let returned = TypeSlot {
-        inline: FUNCTION_RETURN_TYPE,
-        indexed: FUNCTION_RETURN_TYPE_ID,
-        role: Role::Return,
-    };
-    declared_type(msg, returned, context, out)
+    declared_type(msg, FUNCTION_RETURN, context, out)
 }
 
 // A function. One without a name is skipped before anything inside it is read. Its signature is looked up first, since it stands in its

@@ -29,13 +29,14 @@ fn put_aside(aside: &[u8], out: &mut Output<'_>)
 }
 
 // What a default descriptor is of.
+// An enum by value: a closure or a trait would say the contracts of its readers and of its writers once more as its own.
 #[derive(Clone, Copy)]
 pub(crate) enum Callable {
     Constructor,
     Function,
 }
 
-// Its rows, without the record that closes it.
+// The rows of a constructor or function, without the record that closes it.
 fn callable_in(
     callable: Callable,
     msg: Located<'_>,
@@ -53,7 +54,7 @@ fn callable_in(
     }
 }
 
-// Its default descriptor.
+// The default descriptor of a constructor or function.
 fn default_of(
     callable: Callable,
     msg: Located<'_>,
@@ -70,7 +71,7 @@ fn default_of(
     }
 }
 
-// Kind 7 of it. A descriptor is written aside first: if there is none, nothing may be written to the text.
+// Kind 7 of a constructor or function. A descriptor is written aside first: if there is none, nothing may be written to the text.
 fn close(callable: Callable, msg: Located<'_>, context: &Context<'_>, out: &mut Output<'_>)
     requires { Affords (lent context.now) (close_cost (length msg.bytes.now)) out.old.state × Stands context.now.payload.now msg.bytes.now msg.base }
     ensures same_areas { SameAreas out.old out.new }

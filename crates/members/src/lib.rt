@@ -3,6 +3,9 @@
 // declaration_rows' specs/Rows.antt, descriptors' specs/Defaults.antt; what the readers tell: schema's specs/told/MembersTold.antt.
 #![tactic(auto)]
 
+// `msg`, `context` and `out` are no struct: each call would make one anew, since the message changes, and each function take it apart.
+// A message that is only read has to lie in the payload, the first half of `Stands`. All of it is for what finds types again by place (closed.rt).
+
 mod signatures; // signatures.rt: the JVM signatures of members
 mod pairs; // pairs.rt: two types of one declaration
 mod parameters; // parameters.rt: value parameters

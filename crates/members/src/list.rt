@@ -18,6 +18,7 @@ use schema::{Section, Stop};
 use sheet::Output;
 
 // A kind of member that a body has a list of.
+// An enum by value: a closure or a trait would say the contract of the readers once more as its own.
 #[derive(Clone, Copy)]
 pub enum Member {
     Constructor,
@@ -65,6 +66,7 @@ fn members_at(
     ensures ends { EndsAt result out.new.state }
     ensures written { Writes (ListAtTold (member_in list.member) (member_rows list.member) (2 ^ 25 * length msg.entry.bytes.now) (lent context.now) msg.entry.bytes.now msg.entry.base list.number) out.old result out.new }
 {
+    // No `enumerate`: only those that are kept are counted.
     let mut count: usize = 0;
     for body in bodies_from(msg, list.number, 0) {
         let kept = member_in(list.member, msg.part(body), context, out)?;

@@ -14,14 +14,14 @@ ghost use Rattle.members.specs.told.ParametersTold.{section_told, ParameterTold,
 
 use crate::pairs::{TypePair, type_pair};
 use declaration_rows::{Role, put_parameter};
+use descriptors::slots::PARAMETER;
 use fields::{
-    OMITTED_SMALL_FLAGS, VALUE_PARAMETER_FLAGS, VALUE_PARAMETER_NAME, VALUE_PARAMETER_TYPE,
-    VALUE_PARAMETER_TYPE_ID, VALUE_PARAMETER_VARARG_ELEMENT_TYPE,
-    VALUE_PARAMETER_VARARG_ELEMENT_TYPE_ID,
+    OMITTED_SMALL_FLAGS, VALUE_PARAMETER_FLAGS, VALUE_PARAMETER_NAME,
+    VALUE_PARAMETER_VARARG_ELEMENT_TYPE, VALUE_PARAMETER_VARARG_ELEMENT_TYPE_ID,
 };
 use foundation::{Context, Located};
 use messages::{bodies_from, check_messages};
-use schema::flags::flags_in;
+use schema::flags::{bit_of, flags_in};
 use schema::name::name_in;
 use schema::{Stop, TypeSlot};
 use sheet::Output;
@@ -31,7 +31,7 @@ fn declares_default(msg: Located<'_>) -> bool
     ensures { (m : Message) → cut (told_part msg.entry) ≡ ok m → bit_of 1 (small_flags_in ValueParameter-flags m) ≡ result }
 {
     let flags = flags_in(msg, VALUE_PARAMETER_FLAGS, OMITTED_SMALL_FLAGS);
-    flags / 2 % 2 == 1
+    bit_of(flags, 1)
 }
 
 // A parameter, with a name or without.
@@ -44,11 +44,7 @@ fn parameter_in(msg: Located<'_>, context: &Context<'_>, out: &mut Output<'_>) -
     let default = declares_default(msg);
     put_parameter(context, name, default, out);
     let pair = TypePair {
-        first: TypeSlot {
-            inline: VALUE_PARAMETER_TYPE,
-            indexed: VALUE_PARAMETER_TYPE_ID,
-            role: Role::Parameter,
-        },
+        first: PARAMETER,
         second: TypeSlot {
             inline: VALUE_PARAMETER_VARARG_ELEMENT_TYPE,
             indexed: VALUE_PARAMETER_VARARG_ELEMENT_TYPE_ID,
@@ -70,6 +66,7 @@ fn parameters_at(
     ensures same_areas { SameAreas out.old out.new }
     ensures written { Writes (ParametersAtTold (lent context.now) msg.entry.bytes.now msg.entry.base number) out.old (section_told result out.new) out.new }
 {
+    // No `enumerate`: how many there are is the answer, and nobody asks for the place of one.
     let mut count: usize = 0;
     for parameter in bodies_from(msg, number, 0) {
         parameter_in(msg.part(parameter), context, out)?;

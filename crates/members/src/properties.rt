@@ -21,19 +21,26 @@ use fields::{
 };
 use foundation::{Context, Located};
 use names::name::Name;
-use schema::flags::flags_in;
+use schema::flags::{bit_of, flags_in};
 use schema::name::name_in;
 use schema::receiver::has_receiver;
 use schema::{Stop, TypeSlot};
 use sheet::Output;
 use type_references::declared_type;
 
+// Where the type of a property's receiver stands.
+const PROPERTY_RECEIVER: TypeSlot = TypeSlot {
+    inline: PROPERTY_RECEIVER_TYPE,
+    indexed: PROPERTY_RECEIVER_TYPE_ID,
+    role: Role::Receiver,
+};
+
 // An accessor is default unless bit 6 of its flags says otherwise.
 fn is_default(msg: Located<'_>, number: u32) -> bool
     ensures { (m : Message) → cut (told_part msg.entry) ≡ ok m → accessor_is_default number m ≡ result }
 {
     let flags = flags_in(msg, number, OMITTED_SMALL_FLAGS);
-    flags / 64 % 2 != 1
+    !bit_of(flags, 6)
 }
 
 // A property's own name and those of its signatures.
@@ -43,7 +50,7 @@ struct Named {
     names: PropertyNames,
 }
 
-// Kind 4.
+// A property's record, of kind 4.
 fn put_record(msg: Located<'_>, context: &Context<'_>, own: Named, out: &mut Output<'_>)
     requires { RecordRoom (2 ^ 61) context.now.payload.now context.now.d2.now out.old.state }
     ensures same_areas { SameAreas out.old out.new }
@@ -51,7 +58,7 @@ fn put_record(msg: Located<'_>, context: &Context<'_>, own: Named, out: &mut Out
 {
     let flags = PropertyFlags {
         word: flags_in(msg, PROPERTY_FLAGS, OMITTED_FLAGS),
-        receiver: has_receiver(msg, PROPERTY_RECEIVER_TYPE, PROPERTY_RECEIVER_TYPE_ID),
+        receiver: has_receiver(msg, PROPERTY_RECEIVER),
         getter: is_default(msg, PROPERTY_GETTER_FLAGS),
         setter: is_default(msg, PROPERTY_SETTER_FLAGS),
     };
@@ -81,12 +88,7 @@ fn named_property(
     ensures written { Writes (NamedPropertyTold (lent context.now) msg.entry.bytes.now msg.entry.base own.name own.names) out.old (picked result out.new) out.new }
 {
     put_record(msg, context, own, out);
-    let receiver = TypeSlot {
-        inline: PROPERTY_RECEIVER_TYPE,
-        indexed: PROPERTY_RECEIVER_TYPE_ID,
-        role: Role::Receiver,
-    };
-    declared_type(msg, receiver, context, out)?;
+    declared_type(msg, PROPERTY_RECEIVER, context, out)?;
     check_accessors(own.names)?;
     let returned = TypeSlot {
         inline: PROPERTY_RETURN_TYPE,

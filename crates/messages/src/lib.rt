@@ -1,5 +1,6 @@
-// Messages: a part of the decoded bytes that is cut into fields, and what it says of a field. A function that asks a message tells what the
-// definitions say where it can be cut, and is safe on any. The definitions: wire's specs/Messages.antt; how the answers tell them: specs/told/Asked.antt.
+// Messages. A message is a part of the decoded bytes that can be cut into fields. Functions here cut a message, or look up a field in it. What a
+// look-up answers is promised for a message that can be cut; it is safe on any bytes. The definitions: wire's specs/Messages.antt; how the
+// answers tell them: specs/told/Asked.antt.
 #![tactic(auto)]
 
 ghost use Rattle.std.specs.Prelude.{◌≡◌, ℕ, ◌-◌, ◌<◌, length, get_or, None, ⊤};
@@ -17,7 +18,7 @@ pub mod reader; // reader.rt: a reader over a message
 use foundation::{Located, Span};
 use wire::{Field, WireError, WireValue, fields_from};
 
-// Cuts what is left of a message from a place on.
+// Reads every field of a message from a place on, and answers the first refusal.
 fn check_from(s: Located<'_>, at: usize) -> Result<(), WireError>
     ensures { CheckedTold (cut (rest_of s.entry.base s.entry.bytes.now at)) result }
 {
@@ -27,7 +28,7 @@ fn check_from(s: Located<'_>, at: usize) -> Result<(), WireError>
     Ok(())
 }
 
-// Cuts a whole message.
+// Tests that a whole message can be cut into fields. Else the answer is the first refusal.
 pub fn check(s: Located<'_>) -> Result<(), WireError>
     ensures { CheckedTold (cut (told_part s.entry)) result }
 {
@@ -49,13 +50,14 @@ pub fn find(s: Located<'_>, number: u32) -> Option<WireValue>
     None
 }
 
-// Keeps the value of a field for each of the numbers that it has and that no earlier field had.
+// A field that was read: where its number is asked for and no earlier field had that number, its value is the one that was found.
+// `iter_mut().zip(numbers)` was tried, and isn't proved: std says nothing of an area's elements once a borrow by an adapter of `iter_mut` is over.
 fn keep_first<const N: usize>(found: &mut [Option<WireValue>; N], numbers: [u32; N], field: Field)
     ensures { (i : ℕ) → i < N → get_or found.new i None ≡ found_or (get_or found.old i None) (get_or numbers.entry i 0) field.number field.value }
 {
-    for i in 0..N {
-        if found[i].is_none() && numbers[i] == field.number {
-            found[i] = Some(field.value);
+    for (i, kept) in found.iter_mut().enumerate() {
+        if kept.is_none() && numbers[i] == field.number {
+            *kept = Some(field.value);
         }
     }
 }
@@ -74,21 +76,21 @@ pub fn find_each<const N: usize>(s: Located<'_>, numbers: [u32; N]) -> [Option<W
     found
 }
 
-// What was found, as a number.
+// What was found, if it is a varint.
 pub fn number_in(found: Option<WireValue>) -> Option<u64>
     ensures { result ≡ number_in found }
 {
     found?.varint()
 }
 
-// The same as an index. A number above 2^32 - 1 is no index.
+// What was found, as an index. A number above 2^32 - 1 is no index.
 pub fn index_in(found: Option<WireValue>) -> Option<u32>
     ensures { index_told result ≡ index_in found }
 {
     u32::try_from(number_in(found)?).ok()
 }
 
-// What was found, as bytes.
+// What was found, if it is length-delimited: where its bytes stand.
 pub fn piece_in(found: Option<WireValue>) -> Option<Span>
     ensures { result ≡ piece_in found }
 {
@@ -114,7 +116,7 @@ pub fn index(s: Located<'_>, number: u32) -> Option<u32>
     index_in(find(s, number))
 }
 
-// The place of the message in the first occurrence of a field, if the field is there, once the message is cut.
+// The message that a field's first occurrence holds, if the field is there: where its bytes stand. It is refused where it can't be cut.
 pub fn message(s: Located<'_>, number: u32) -> Result<Option<Span>, WireError>
     ensures { EmbeddedTold s.entry.base s.entry.bytes.now number result }
 {
@@ -181,7 +183,7 @@ pub fn bodies_from<'a>(s: Located<'a>, number: u32, at: usize) -> Bodies<'a>
     Bodies { s, number, at }
 }
 
-// Cuts every message of a list, before the first is read.
+// Tests that each of a list's messages can be cut, before the first of them is read. Else the answer is the first refusal.
 pub fn check_messages(s: Located<'_>, number: u32) -> Result<(), WireError>
     ensures { (m : Message) → cut (told_part s.entry) ≡ ok m → CheckedTold (messages number m) result }
 {

@@ -1,5 +1,4 @@
-// A reader over a payload: the lent bytes and the offset of the next one. Its methods leave the work to functions on a slice and a place. The
-// definitions of what they tell: specs/told/Reader.antt.
+// A reader over a payload: the lent bytes and the offset of the next one. How its answers tell the definitions: specs/told/Reader.antt.
 ghost use Rattle.std.specs.Prelude.{◌≡◌, drop};
 ghost use Rattle.foundation.specs.Results.{◌from◌};
 ghost use Rattle.wire.specs.Wire.{read_delimited};
@@ -8,6 +7,7 @@ ghost use Rattle.messages.specs.told.Reader.{DelimitedRead, SplitTold};
 use foundation::{Located, Span};
 use wire::{WireError, delimited_at};
 
+// The specification names this reader, its two fields and `remainder`: docs/DECISIONS.md keeps the form, although one function would do.
 #[derive(Clone, Copy)]
 struct WireReader<'a> {
     data: &'a [u8],
@@ -18,11 +18,7 @@ struct WireReader<'a> {
 fn rest_at(s: &[u8], at: usize) -> &[u8]
     ensures { result.now ≡ drop at s.now }
 {
-    if at <= s.len() {
-        return &s[at..];
-    }
-    let end = s.len();
-    &s[end..]
+    s.get(at..).unwrap_or(&[])
 }
 
 impl<'a> WireReader<'a> {
@@ -43,11 +39,7 @@ impl<'a> WireReader<'a> {
     fn delimited(&mut self) -> Result<Span, WireError>
         ensures { (self.new.«data» ≡ self.old.«data») × DelimitedRead self.old.«data».now self.old.offset result self.new.offset }
     {
-        let data = Located {
-            base: 0,
-            bytes: self.data,
-        };
-        let body = delimited_at(data, self.offset)?;
+        let body = delimited_at(Located::whole(self.data), self.offset)?;
         self.offset = body.end;
         Ok(body)
     }

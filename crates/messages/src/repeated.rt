@@ -11,7 +11,8 @@ ghost use Rattle.messages.specs.told.Repeated.{pushed, pushed_to, first_two_of, 
 use foundation::Located;
 use wire::{WireError, WireValue, fields_from, varint_at};
 
-// The first two numbers of a list, mod 2^32, as far as it has them.
+// The first two numbers of a list, mod 2^32, as far as it has them. The three states are those between which numbers are pushed. A step of a walk over
+// records is taken at `Both` alone; an `Option` of a pair for it would be a second type beside this one.
 #[derive(Clone, Copy)]
 pub enum Two {
     Neither,
@@ -22,6 +23,7 @@ pub enum Two {
 fn push(two: Two, value: u64) -> Two
     ensures { result ≡ pushed two value }
 {
+    // The higher bits are taken off first: Rattle asks of a cast that its value fits.
     let low = (value % 4294967296) as u32;
     match two {
         Two::Neither => Two::One { first: low },
@@ -30,7 +32,7 @@ fn push(two: Two, value: u64) -> Two
     }
 }
 
-// Adds the numbers of a packed run.
+// Adds the numbers of a packed run. A loop by hand: `wire` has no iterator over varints, and one for this place alone would be longer than the loop.
 fn push_packed(run: Located<'_>, two: Two) -> Result<Two, WireError>
     ensures { pushed_to two (packed (told_part run.entry)) ≡ two_told result }
 {

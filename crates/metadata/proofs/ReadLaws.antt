@@ -48,11 +48,9 @@ use Rattle.passes.specs.told.AreaTold.{InLimits, start}
 use Rattle.passes.specs.told.TaskTold.{no_lists, sizes_of, RoomTold, TaskToldBy, TaskTold}
 use Rattle.passes.specs.told.PassTold.{PassedTold, reading_of, reading_by}
 use Rattle.passes.specs.declared.Task.{Task}
-use Rattle.passes.specs.declared.Task.TheVariants as task
 use Rattle.passes.specs.declared.Asked.{Asked}
 use Rattle.passes.specs.declared.Reply.{Reply}
 use Rattle.metadata.specs.Read.{reading, read}
-use Rattle.passes.proofs.TaskLaws.{reply_room}
 
 -- of a choice that gives none
 if_none_lem : (t : Bool) (c : Cause) (x : Option Cause) → (if t then some c else x) ≡ none → (t ≡ false) × (x ≡ none)
@@ -120,12 +118,6 @@ module _ (asked : Asked) (d1 d2 ends : List ℕ) (r : Result Reply Refusal) (S S
   kind-carries c h =
       let body : reading_by (kind_number asked.kind) d1 d2 ends ≡ reading_of (kind_number asked.kind) d1 d2 ends = rw c in
       subst (λ (x : Res (Declarations × ℕ)). TaskTold asked x r S S' T T') (sym body) h
-
--- Where a room is asked for, it is told whatever areas are lent.
-pub room_anywhere : (asked : Asked) (x : Res (Declarations × ℕ)) (r : Result Reply Refusal) (A A' B B' S T : List ℕ) → asked.task ≡ task.Room
-    → TaskTold asked x r A A' B B' → TaskTold asked x r S S T T
-room_anywhere asked x r A A' B B' S T e h =
-    reply_room asked x S T r e (subst (λ (t : Task). TaskToldBy t (kind_number asked.kind) x r A A' B B') e h).0
 
 -- The head alone, with the count of no aliases.
 abbrev alone : ℕ → List Row
@@ -214,6 +206,7 @@ pass-room asked x room S S' T T' t h f g = (subst (λ (z : Result Reply PassErro
 pub notes-enough : (units bytes notes : ℕ) {n : ℕ} → n ≡ notes → units ≤ bytes → 3 * bytes ≤ 2 * codes_from notes → 3 * units ≤ 2 * codes_from n
 notes-enough units bytes notes e h k = rw e (omega arith)
 
--- The answer of a reply.
-pub answer-is : (a : definition.Answer) (r : Result Reply Refusal) (o : Result Sizes Refusal) (S T : List ℕ) → a ≡ told (sizes_of r) S T → o ≡ sizes_of r → a ≡ told o S T
-answer-is a r o S T e f = e ∙ ap (λ (x : Result Sizes Refusal). told x S T) (sym f)
+-- The answer of a reply, with both areas as they come back from the pair that they were lent to.
+pub answer-is : (a : definition.Answer) (r : Result Reply Refusal) (o : Result Sizes Refusal) (S T : List ℕ) {S' T' : List ℕ} → S' ≡ S → T' ≡ T
+    → a ≡ told (sizes_of r) S T → o ≡ sizes_of r → a ≡ told o S' T'
+answer-is a r o S T i j e f = rw (i, j) (e ∙ ap (λ (x : Result Sizes Refusal). told x S T) (sym f))

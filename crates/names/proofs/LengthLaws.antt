@@ -77,7 +77,7 @@ turned-bytes DescToClassId t = dollars-bytes t
 
 operated-bytes : (op : ℕ) (t : Text) → length (utf8 (operated op t)) ≤ length (utf8 t)
 operated-bytes op t =
-    omega (arith, ap (λ (u : Text). length (utf8 u)) (operated-is op t), turned-bytes (operation_of op) (dropped op t), part_bytes t (dropped op t) (dropped-part op t))
+    omega (arith, ap (λ (u : Text). length (utf8 u)) (operated-is op t), turned-bytes (operation_of op) (dropped (operation_of op) t), part_bytes t (dropped (operation_of op) t) (dropped-part (operation_of op) t))
 
 pub text-bytes : (r : Record) → IfSome (InBytes (4 * base_length r)) (text_of r)
 text-bytes r =

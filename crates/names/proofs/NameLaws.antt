@@ -8,7 +8,8 @@ use native.Mathlib.Omega.{arith}
 use lib.Dec.{eqb}
 use lib.ListN.{length, take, drop, length-drop}
 use lib.Seq.{take_all}
-use Rattle.std.specs.Prelude.{if◌then◌else◌}
+use Rattle.std.specs.Prelude.{if◌then◌else◌, Some, None}
+use Rattle.std.specs.declared.option.Option as rust
 use Rattle.foundation.specs.Texts.{Text}
 use Rattle.foundation.proofs.ChoiceLaws.{if_ind}
 use Rattle.foundation.specs.declared.Span.{Span}
@@ -90,7 +91,7 @@ slashed-map true f t = map-map (instead 0x2e 0x2f) f t
 slashed-map false f t = refl
 
 pub stepped-is : (n : Name) (t : Text) (slashes : Bool)
-    → slashed_text slashes (stepped_by n t) ≡ sized n.size (map (changed (change_of n slashes)) t)
+    → slashed_text slashes (stepped_by n t) ≡ sized n.size (map (changed (change_of (Some n) slashes)) t)
 unfolding changed
 stepped-is n t slashes =
     let dollars = turns_dollars n.operation in
@@ -127,12 +128,21 @@ source-bytes payload d2 Predefined part o = refl
 source-bytes payload d2 D2 part o = absurd o
 
 -- A name's bytes, by the change that the code made.
-pub name-parts : (payload d2 : List ℕ) (n : Name) (slashes : Bool) {h : Change} → h ≡ change_of n slashes
-    → name_bytes payload d2 n slashes ≡ sized_bytes n.size h (source_text payload d2 n.source n.part)
+pub name-parts : (payload d2 : List ℕ) (n : Name) (slashes : Bool) {h : Change} → h ≡ change_of (Some n) slashes
+    → name_bytes payload d2 (Some n) slashes ≡ sized_bytes n.size h (source_text payload d2 n.source n.part)
 unfolding name_bytes named_text
 name-parts payload d2 n slashes e =
     ap utf8 (stepped-is n (source_text payload d2 n.source n.part) slashes)
     ∙ ap (λ (k : Change). sized_bytes n.size k (source_text payload d2 n.source n.part)) (sym e)
+
+-- a name that may be absent
+pub some-parts : (payload d2 : List ℕ) {o : rust.Option Name} {n : Name} → o ≡ Some n → (slashes : Bool) {h : Change} → h ≡ change_of (Some n) slashes
+    → name_bytes payload d2 o slashes ≡ sized_bytes n.size h (source_text payload d2 n.source n.part)
+some-parts payload d2 {o} {n} q slashes e = ap (λ (x : rust.Option Name). name_bytes payload d2 x slashes) q ∙ name-parts payload d2 n slashes e
+
+pub name-none : (payload d2 : List ℕ) {o : rust.Option Name} → o ≡ None → (slashes : Bool) → name_bytes payload d2 o slashes ≡ []
+unfolding name_bytes
+name-none payload d2 q slashes = rw q
 
 -- by whether a size is noted
 module _ (size : ℕ) (h : Change) {o t : Text} (e : o ≡ t) where

@@ -80,7 +80,7 @@ module _ (payload d2 : List ℕ) (n : Name) (k : ℕ) (f : length payload ≤ k)
   printed-most slashes t l =
       if_ind (InBytes (4 * k)) slashes (λ e. omega (arith, substituted-bytes 0x2e 0x2f t refl)) λ e. l
 
-  pub name-most : (slashes : Bool) → length (name_bytes payload d2 n slashes) ≤ 4 * k
+  pub name-most : (slashes : Bool) → length (name_bytes payload d2 (Some n) slashes) ≤ 4 * k
   unfolding name_bytes named_text
   name-most slashes =
       let t = source_text payload d2 n.source n.part in

@@ -5,7 +5,6 @@ use mathlib.Core.Bool.{Bool, true, false}
 use mathlib.Core.List.{List, [], ◌∷◌, ◌++◌, append-nil}
 use mathlib.Core.Option.{Option, none, some}
 use Prim.Native.Nat.{ℕ, ◌-◌}
-use native.Mathlib.Omega.{arith}
 use borrow.Author.Tests.{eqb-true}
 use lib.Dec.{eqb, ltb}
 use lib.ListN.{take, drop, get_elem?}
@@ -21,6 +20,7 @@ use Rattle.characters.proofs.StepLaws.{Joins, split_joins}
 use Rattle.foundation.proofs.EveryLaws.{all-at, some_map, some_then, some_weaken}
 use Rattle.names.specs.Records.{Record, predefined_text, base_text, replace_of, dotted, dollars_dotted, all_but_last, without_ends, operated, stepped, text_of, decides}
 use Rattle.names.specs.told.Name.{operation_of, turned, dropped}
+use Rattle.names.specs.declared.name.Operation.{Operation}
 use Rattle.names.specs.declared.name.Operation.TheVariants.{Nothing, InternalToClassId, DescToClassId}
 use Rattle.names.specs.Names.{Names, record_at, string, without_last, unwrapped, qualified_name, strings_from, d2_string}
 
@@ -77,21 +77,23 @@ ends-part (a ∷ b ∷ t) =
     let e = ends_with b t in
     record { before = a ∷ []; after = e.0 ∷ []; whole = ap (λ (u : Text). a ∷ u) e.1 }
 
-pub dropped-part : (op : ℕ) (t : Text) → PartOf t (dropped op t)
-dropped-part op t = if_ind (PartOf t) (eqb op 2) (λ e. ends-part t) λ e. record { before = []; after = []; whole = append-nil t }
+pub dropped-part : (op : Operation) (t : Text) → PartOf t (dropped op t)
+dropped-part Nothing t = record { before = []; after = []; whole = append-nil t }
+dropped-part InternalToClassId t = record { before = []; after = []; whole = append-nil t }
+dropped-part DescToClassId t = ends-part t
+
+abbrev operation_by : Bool → Bool → Operation
+operation_by a b = if a then InternalToClassId else if b then DescToClassId else Nothing
 
 -- An operation drops and then turns.
-pub operated-is : (op : ℕ) (t : Text) → operated op t ≡ turned (operation_of op) (dropped op t)
+pub operated-is : (op : ℕ) (t : Text) → operated op t ≡ turned (operation_of op) (dropped (operation_of op) t)
 unfolding operated turned
-operated-is op t = go (eqb op 1) refl (eqb op 2) refl
+operated-is op t = go (eqb op 1) (eqb op 2)
   where
-    go : (a : Bool) → eqb op 1 ≡ a → (b : Bool) → eqb op 2 ≡ b
-        → (if a then dotted t else if b then dollars_dotted (without_ends t) else t)
-        ≡ turned (if a then InternalToClassId else if b then DescToClassId else Nothing) (if b then without_ends t else t)
-    go true e true f = absurd (omega (arith, eqb-true op 1 e, eqb-true op 2 f))
-    go true e false f = refl
-    go false e true f = refl
-    go false e false f = refl
+    go : (a b : Bool) → (if a then dotted t else if b then dollars_dotted (without_ends t) else t) ≡ turned (operation_by a b) (dropped (operation_by a b) t)
+    go true b = refl
+    go false true = refl
+    go false false = refl
 
 -- A record's text, by its base and the three steps.
 pub base_ind : (P : Text → Type 0) (r : Record) → ((i : ℕ) → r.string ≡ none → IfSome P (predefined_text i))

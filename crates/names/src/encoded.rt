@@ -7,6 +7,7 @@ ghost use Rattle.characters.specs.told.CharactersTold.{Character, utf8_at, utf16
 ghost use Rattle.characters.specs.told.Plain.{is_ascii, shown};
 ghost use Rattle.names.specs.told.Encoded.{Decoding, bytes_decode, units_decode};
 
+use crate::name::Change;
 use characters::ascii::{ascii_bytes, ascii_units, copy_bytes, copy_units};
 use characters::measure::utf8_size;
 use characters::{utf8_at, utf16_at};
@@ -34,12 +35,14 @@ pub trait Encoded: Copy {
     fn is_plain(self) -> bool
         ensures { result ≡ is_ascii (units self) };
 
-    // Characters below 128, written where there is room for all of them. None is tested.
-    fn copy_plain(self, dots: bool, slashes: bool, area: &mut [u8], at: usize)
+    // Characters below 128, written where there is room for all of them, with a change's dots and slashes. None is tested.
+    // That they are below 128 and fit depends on this call and its area, so it is required, and no invariant of a text.
+    fn copy_plain(self, change: Change, area: &mut [u8], at: usize)
         requires { (is_ascii (units self) ≡ true) × (at + length (units self) ≤ length area.old) }
-        ensures { area.new ≡ sets area.old at (map (shown dots slashes) (units self)) };
+        ensures { area.new ≡ sets area.old at (map (shown change.dots change.slashes) (units self)) };
 
     // How many bytes UTF-8 gives the text, where no character needs to be read to tell.
+    // That this fits 64 bits is required: a caller knows it of the one text that it writes, and no type of texts has a limit.
     fn size_at_once(self) -> Option<usize>
         requires { length (utf8 (decoded (units self))) < 2 ^ 64 }
         ensures { IfSome result (λ size. size ≡ length (utf8 (decoded (units self)))) };
@@ -68,8 +71,8 @@ impl Encoded for &[u8] {
         ascii_bytes(self)
     }
 
-    fn copy_plain(self, dots: bool, slashes: bool, area: &mut [u8], at: usize) {
-        copy_bytes(self, dots, slashes, area, at)
+    fn copy_plain(self, change: Change, area: &mut [u8], at: usize) {
+        copy_bytes(self, change.dots, change.slashes, area, at)
     }
 
     fn size_at_once(self) -> Option<usize> {
@@ -102,8 +105,8 @@ impl Encoded for &[u16] {
         ascii_units(self)
     }
 
-    fn copy_plain(self, dots: bool, slashes: bool, area: &mut [u8], at: usize) {
-        copy_units(self, dots, slashes, area, at)
+    fn copy_plain(self, change: Change, area: &mut [u8], at: usize) {
+        copy_units(self, change.dots, change.slashes, area, at)
     }
 
     fn size_at_once(self) -> Option<usize> {

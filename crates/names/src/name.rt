@@ -6,7 +6,7 @@ ghost use Rattle.names.specs.told.Name.{operation_of, operation_number};
 ghost use Rattle.names.specs.Records.{predefined_text};
 ghost use Rattle.names.specs.told.Stream.{listed_text, base_of, change_of, with_dollars, changed};
 
-use foundation::Span;
+use foundation::{Span, wide};
 
 // What the characters of a name are a part of: the payload, the predefined list, or d2.
 #[derive(Clone, Copy)]
@@ -26,6 +26,7 @@ pub enum Operation {
 
 impl Operation {
     // By its number in a record. One that is neither 1 nor 2 does nothing.
+    // No `From<u64>`: no plainer, since most numbers are no operation, and a caller sees at `of` that its number is looked up.
     pub fn of(number: u64) -> Operation
         ensures { result ≡ operation_of number }
     {
@@ -48,24 +49,25 @@ pub struct Name {
     pub source: Source,
     // the part of it
     pub part: Span,
-    // Every character `from` becomes `to`. Both 0: none is replaced.
+    // Every character `from` becomes `to`. Two numbers here and where they are handed on: a struct of them would be made for `instead` alone.
+    // Both are 0 where none is replaced: 0 becomes 0 by the same rule at every character, where an Option would be asked at each.
     pub from: u32,
     pub to: u32,
     pub operation: Operation,
     // A class name: / and $ become dots.
     pub qualified: bool,
-    // How many bytes of UTF-8 the characters take after `from` became `to`, where it is noted; 0: it is not. No Option: the notes pack it
-    // into a word with others.
+    // How many bytes of UTF-8 the characters take after `from` became `to`; 0, or more than 131,072, where that isn't noted.
+    // No Option: `is_measured` is one test that also keeps out what a note can't hold; with an Option both would be asked.
     pub size: usize,
 }
 
-// The predefined strings one after the other. They are no array of texts, since a name is a part of its source: the two words that are noted
-// of a record have room for two places and none for the number of a string, and this list is written as it stands.
-pub const PREDEFINED: [u8; 878] =
+// All predefined strings in one text, one after the other.
+// No array of texts: a name tells its text by two places, and the two words noted of a record have no room for a string's number too.
+pub static PREDEFINED: [u8; 878] =
     *b"kotlin/Anykotlin/Nothingkotlin/Unitkotlin/Throwablekotlin/Numberkotlin/Bytekotlin/Doublekotlin/Floatkotlin/Intkotlin/Longkotlin/Shortkotlin/Booleankotlin/Charkotlin/CharSequencekotlin/Stringkotlin/Comparablekotlin/Enumkotlin/Arraykotlin/ByteArraykotlin/DoubleArraykotlin/FloatArraykotlin/IntArraykotlin/LongArraykotlin/ShortArraykotlin/BooleanArraykotlin/CharArraykotlin/Cloneablekotlin/Annotationkotlin/collections/Iterablekotlin/collections/MutableIterablekotlin/collections/Collectionkotlin/collections/MutableCollectionkotlin/collections/Listkotlin/collections/MutableListkotlin/collections/Setkotlin/collections/MutableSetkotlin/collections/Mapkotlin/collections/MutableMapkotlin/collections/Map.Entrykotlin/collections/MutableMap.MutableEntrykotlin/collections/Iteratorkotlin/collections/MutableIteratorkotlin/collections/ListIteratorkotlin/collections/MutableListIterator";
 
 // Where each of them starts, and where the last ends.
-const STARTS: [u16; 45] = [
+static STARTS: [u16; 45] = [
     0, 10, 24, 35, 51, 64, 75, 88, 100, 110, 121, 133, 147, 158, 177, 190, 207, 218, 230, 246, 264,
     281, 296, 312, 329, 348, 364, 380, 397, 424, 458, 487, 523, 546, 576, 598, 627, 649, 678, 706,
     748, 775, 809, 840, 878,
@@ -78,11 +80,10 @@ pub fn predefined(index: u32) -> Option<Span>
     if 44 <= index {
         return None;
     }
-    let i = index as usize;
-    let starts = STARTS;
+    let i = wide(index);
     Some(Span {
-        start: usize::from(starts[i]),
-        end: usize::from(starts[i + 1]),
+        start: usize::from(STARTS[i]),
+        end: usize::from(STARTS[i + 1]),
     })
 }
 
@@ -104,6 +105,7 @@ pub fn part_of<T>(s: &[T], part: Span) -> &[T]
 }
 
 // What a name is made of, if not of units of d2: a part of the list or of the payload.
+// The list is lent too, and `PREDEFINED` isn't named here: the specification names this form, one of two slices, each with its lifetime.
 pub fn base_text<'p, 'l: 'p>(
     payload: &'p [u8],
     list: &'l [u8],
@@ -119,6 +121,7 @@ pub fn base_text<'p, 'l: 'p>(
 }
 
 // What is done to each character of a name, in this order.
+// The writers of a text take `change, area, at`. No struct of them: the change stays the same in a text, and each writer has another area or place.
 #[derive(Clone, Copy)]
 pub struct Change {
     pub from: u32,
@@ -131,9 +134,19 @@ pub struct Change {
     pub slashes: bool,
 }
 
-pub fn change_of(name: Name, slashes: bool) -> Change
+// What is done to the characters of a name. Where there is no name, nothing but what `slashes` asks for.
+pub fn change_of(name: Option<Name>, slashes: bool) -> Change
     ensures { result ≡ change_of name slashes }
 {
+    let Some(name) = name else {
+        return Change {
+            from: 0,
+            to: 0,
+            dollars: false,
+            dots: false,
+            slashes,
+        };
+    };
     Change {
         from: name.from,
         to: name.to,

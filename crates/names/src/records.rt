@@ -1,6 +1,6 @@
 // The records of the name table, read from their messages, and their index. The definitions: specs/Records.antt, specs/told/Index.antt; how
 // the answers tell them: specs/told/RecordTold.antt.
-ghost use Rattle.std.specs.Prelude.{◌≡◌, ℕ, ◌+◌, ◌*◌, ◌<◌, length, set};
+ghost use Rattle.std.specs.Prelude.{◌≡◌, ◌+◌, ◌*◌, ◌<◌, length, set};
 ghost use Rattle.foundation.specs.told.Located.{told_part};
 ghost use Rattle.foundation.specs.Results.{ok};
 ghost use Rattle.wire.specs.Wire.{cut, Message};
@@ -9,7 +9,7 @@ ghost use Rattle.messages.specs.told.Asked.{FoundTold, index_told};
 ghost use Rattle.wire.specs.told.WireTold.{rest_of};
 ghost use Rattle.names.specs.declared.records.IndexError.TheVariants.{Wire};
 ghost use Rattle.names.specs.Records.{served, two_of};
-ghost use Rattle.names.specs.told.Index.{packed_places, NotedTold, IndexTold};
+ghost use Rattle.names.specs.told.Index.{packed_places, UnpackedTold, NotedTold, IndexTold};
 ghost use Rattle.names.specs.told.RecordTold.{operation_in, both_numbers, RecordTold};
 
 use fields::{
@@ -53,6 +53,7 @@ pub struct Record {
     // its place in the slice that was read
     pub string: Option<Span>,
     pub predefined: Option<u32>,
+    // its number as it came: what it does is `Operation::of` it, which tells fewer numbers apart
     pub operation: u64,
     // the step is taken if both numbers are there
     pub substring: Two,
@@ -85,7 +86,7 @@ pub fn record_in(message: Located<'_>) -> Record
 }
 
 // Why there is no index: the lent notes have no room for it, or the messages are refused.
-#[derive(Clone, Copy)]
+#[derive(Clone, Copy, Debug, PartialEq, Eq)]
 pub enum IndexError {
     NoRoom,
     Wire(WireError),
@@ -99,18 +100,36 @@ impl From<WireError> for IndexError {
     }
 }
 
+// A place among the decoded bytes has 32 bits in a note.
+const PLACES: u64 = 4294967296;
+
 // Two places in one number.
 pub fn packed(start: u32, end: u32) -> u64
     ensures { result ≡ packed_places start end }
 {
-    start as u64 + 4294967296 * end as u64
+    u64::from(start) + PLACES * u64::from(end)
+}
+
+// The part that two places in one number name, if it lies in so many bytes.
+pub fn unpacked(places: u64, size: usize) -> Option<Span>
+    ensures { UnpackedTold places size result }
+{
+    // `as`, here and in `note_records`: both halves are below 2^32, and Rust has no `From` between `usize` and `u32` or `u64`.
+    let start = (places % PLACES) as usize;
+    let end = (places / PLACES) as usize;
+    if end < start || size < end {
+        return None;
+    }
+    Some(Span { start, end })
 }
 
 // What is noted of a record takes so many words: where it stands, a word that is free, and the first index past those that it serves. Once it
 // is worked out (`lookup::resolve`) the first two say what it builds.
+// Words and no struct: the caller lends a fixed number of them for records, entries and sizes alike, since there is no heap.
 pub const RECORD_WORDS: usize = 3;
 
 // The words of record `count`, which ends where the index `next` begins.
+// This and `note_records` aren't one with schema's `put_entry` and `note_entries`: those sum up no index, and one of both would take more.
 fn put_entry(notes: &mut [u64], count: usize, start: u32, end: u32, next: u64)
     requires { 3 * count + 2 < length notes.old }
     ensures { notes.new ≡ set (set notes.old (3 * count) (packed_places start end)) (3 * count + 2) next }
@@ -130,19 +149,17 @@ fn note_records(bytes: &[u8], at: usize, notes: &mut [u64]) -> Result<usize, Ind
     }
     let room = notes.len() / RECORD_WORDS;
     let mut total: u64 = 0;
+    // Counted by hand: the number of records is the answer, and the index of an `enumerate` ends with the loop.
     let mut count: usize = 0;
-    let table = Located { base: 0, bytes };
+    let table = Located::whole(bytes);
     for record in bodies_from(table, STRING_TABLE_TYPES_RECORD, at) {
-        let message = Located {
-            base: record.start,
-            bytes: &bytes[record.start..record.end],
-        };
+        let message = Located::of(bytes, record);
         check(message)?;
         if room <= count {
             return Err(IndexError::NoRoom);
         }
         let range = served(index(message, RECORD_RANGE));
-        total += range as u64;
+        total += u64::from(range);
         put_entry(notes, count, record.start as u32, record.end as u32, total);
         count += 1;
     }
@@ -158,10 +175,7 @@ pub fn index_records(bytes: &[u8], at: usize, notes: &mut [u64]) -> Result<usize
         return Err(IndexError::NoRoom);
     }
     let count = note_records(bytes, at, notes)?;
-    let table = Located {
-        base: at,
-        bytes: &bytes[at..],
-    };
+    let table = Located::rest(bytes, at);
     check_varints(table, STRING_TABLE_TYPES_LOCAL_NAME)?;
     Ok(count)
 }

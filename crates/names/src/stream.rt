@@ -1,9 +1,8 @@
 // Names written: straight from their source into the text area, character by character.
-ghost use Rattle.std.specs.Prelude.{◌≡◌, true, false, ◌+◌, ◌^◌, ◌≤◌, ◌<◌, map, length};
+ghost use Rattle.std.specs.Prelude.{◌≡◌, true, false, ◌+◌, ◌^◌, ◌<◌, map, length};
 ghost use Rattle.std.proofs.lemmas.List.Edits.{sets};
-ghost use Rattle.characters.specs.Characters.{from_utf8, utf8};
-ghost use Rattle.characters.specs.told.Places.{part_from};
-ghost use Rattle.names.specs.told.Name.{predefined_list, source_text, fitted, is_measured};
+ghost use Rattle.characters.specs.Characters.{utf8};
+ghost use Rattle.names.specs.told.Name.{source_text, fitted, is_measured};
 ghost use Rattle.names.specs.told.Stream.{changed, changed_bytes, KeepsWidth, fitted_of, sized_bytes, name_bytes, PutText, NoneReplaced};
 
 use crate::encoded::Encoded;
@@ -11,10 +10,12 @@ use crate::name::{Change, Name, PREDEFINED, Source, change_of, character_of, par
 use foundation::{Context, Read, Span};
 
 // A text, each character changed, one by one. Answers the place after it.
+// That this place fits 64 bits depends on what one call writes and where, so it is required here and below, and no invariant of a text.
 fn put_characters<E: Encoded>(text: E, change: Change, area: &mut [u8], at: usize) -> usize
     requires { at + length (changed_bytes change (E.decoded (E.units text))) < 2 ^ 64 }
     ensures { PutText (changed_bytes change (E.decoded (E.units text))) at result area.old area.new }
 {
+    // Two places counted on by hand, here and in `put_fitted`: each step tells the next one of both, which is where an iterator would keep them too.
     let mut i = 0;
     let mut to = at;
     while let Some(character) = text.character_at(i) {
@@ -53,8 +54,8 @@ fn replaces_none(change: Change) -> bool
     !change.dollars && change.from == change.to
 }
 
-// A text, each character changed: at once where it is made of characters below 128, none is replaced, and there is room for all of it;
-// where there is room for none, as in measuring, it is only measured, and where there is room for a part, not walked past it.
+// A text, each character changed. It is written at once where its characters are below 128, none is replaced, and there is room for all.
+// Where there is room for none, as in measuring, it is only measured. Where there is room for a part, it is walked no further than that.
 fn put_text<E: Encoded>(text: E, change: Change, area: &mut [u8], at: usize) -> usize
     requires { at + length (changed_bytes change (E.decoded (E.units text))) < 2 ^ 64 }
     ensures { PutText (changed_bytes change (E.decoded (E.units text))) at result area.old area.new }
@@ -65,7 +66,7 @@ fn put_text<E: Encoded>(text: E, change: Change, area: &mut [u8], at: usize) -> 
             return next;
         }
         if next <= area.len() {
-            text.copy_plain(change.dots, change.slashes, area, at);
+            text.copy_plain(change, area, at);
             return next;
         }
     }
@@ -76,14 +77,6 @@ fn put_text<E: Encoded>(text: E, change: Change, area: &mut [u8], at: usize) -> 
         return put_first(text, change, area, at);
     }
     put_characters(text, change, area, at)
-}
-
-// A part of the predefined list. The list stands in no function that writes other names, since each call copies it.
-fn put_listed(part: Span, change: Change, area: &mut [u8], at: usize) -> usize
-    requires { at + length (changed_bytes change (from_utf8 (part_from part.start part.end predefined_list))) < 2 ^ 64 }
-    ensures { PutText (changed_bytes change (from_utf8 (part_from part.start part.end predefined_list))) at result area.old area.new }
-{
-    put_text(part_of(&PREDEFINED, part), change, area, at)
 }
 
 // What is written next of a text whose size is noted, and where it goes on.
@@ -144,21 +137,14 @@ fn put_measured<E: Encoded>(text: E, change: Change, size: usize, area: &mut [u8
     ensures { area.new ≡ sets area.old at (utf8 (fitted size (map (changed change) (E.decoded (E.units text))))) }
 {
     if text.size() == size && replaces_none(change) && at + size <= area.len() && text.is_plain() {
-        text.copy_plain(change.dots, change.slashes, area, at);
+        text.copy_plain(change, area, at);
     } else {
         put_fitted(text, change, size, area, at);
     }
 }
 
-// A measured part of the predefined list.
-fn put_measured_list(part: Span, change: Change, size: usize, area: &mut [u8], at: usize)
-    requires { at + size < 2 ^ 64 }
-    ensures { area.new ≡ sets area.old at (utf8 (fitted size (map (changed change) (from_utf8 (part_from part.start part.end predefined_list))))) }
-{
-    put_measured(part_of(&PREDEFINED, part), change, size, area, at);
-}
-
 // The characters of a name's source, changed, where their size is noted. Where there is room for none, nothing is walked.
+// Bytes and units are of two types, so each arm, here and in `put_walked`, calls the writer itself: no slice stands for both.
 fn put_noted(context: &Context<'_>, name: Name, change: Change, area: &mut [u8], at: usize) -> usize
     requires { (is_measured name.size ≡ true) × (at + name.size < 2 ^ 64) }
     ensures { PutText (sized_bytes name.size change (source_text context.now.payload.now context.now.d2.now name.source name.part)) at result area.old area.new }
@@ -171,7 +157,7 @@ fn put_noted(context: &Context<'_>, name: Name, change: Change, area: &mut [u8],
     }
     match name.source {
         Source::Payload => put_measured(part_of(context.payload, part), change, size, area, at),
-        Source::Predefined => put_measured_list(part, change, size, area, at),
+        Source::Predefined => put_measured(part_of(&PREDEFINED, part), change, size, area, at),
         Source::D2 => put_measured(part_of(context.d2, part), change, size, area, at),
     }
     next
@@ -197,16 +183,16 @@ fn put_walked(
     let part = name.part;
     match name.source {
         Source::Payload => put_text(part_of(context.payload, part), change, area, at),
-        Source::Predefined => put_listed(part, change, area, at),
+        Source::Predefined => put_text(part_of(&PREDEFINED, part), change, area, at),
         Source::D2 => put_text(part_of(context.d2, part), change, area, at),
     }
 }
 
-// A name's text in UTF-8, as far as the area goes. Answers the place after it.
+// A name's text in UTF-8, as far as the area goes, and nothing where there is no name. Answers the place after it.
 // Callers show that this place fits 64 bits: by the limits of payload and d2, and of the place where they write.
 pub fn put_name(
     context: &Context<'_>,
-    name: Name,
+    name: Option<Name>,
     slashes: bool,
     area: &mut [u8],
     at: usize,
@@ -214,7 +200,10 @@ pub fn put_name(
     requires { at + length (name_bytes context.now.payload.now context.now.d2.now name slashes) < 2 ^ 64 }
     ensures { PutText (name_bytes context.now.payload.now context.now.d2.now name slashes) at result area.old area.new }
 {
-    let change = change_of(name, slashes);
+    let Some(name) = name else {
+        return at;
+    };
+    let change = change_of(Some(name), slashes);
     if is_measured(name.size) {
         return put_noted(context, name, change, area, at);
     }

@@ -2,7 +2,7 @@
 // a string or q for a class name. Writes the note and the name's text in UTF-8, in hex.
 #![tactic(auto)]
 
-ghost use Rattle.std.specs.Prelude.{◌≤◌, ◌<◌, length, IfOk};
+ghost use Rattle.std.specs.Prelude.{◌≤◌, ◌<◌, length};
 
 use foundation::{Context, Located, Tables};
 use names::encoded::Encoded;
@@ -20,29 +20,6 @@ fn digit(c: u8) -> u8
     }
 }
 
-// A field of a line ends before a bar or a line's end.
-fn field_end(s: &[u8], at: usize) -> usize
-    requires { at ≤ length s.now }
-    ensures { (at ≤ result) × (result ≤ length s.now) }
-{
-    for i in at..s.len() {
-        if s[i] == b'|' || s[i] == b'\n' {
-            return i;
-        }
-    }
-    s.len()
-}
-
-fn after(s: &[u8], end: usize) -> usize
-    requires { end ≤ length s.now }
-    ensures { (end ≤ result) × (result ≤ length s.now) × (end < length s.now → end < result) }
-{
-    if end < s.len() {
-        return end + 1;
-    }
-    end
-}
-
 // A number in hex, of its last eight digits.
 fn number(s: &[u8]) -> u32 {
     let mut n: u32 = 0;
@@ -52,7 +29,7 @@ fn number(s: &[u8]) -> u32 {
     n
 }
 
-// Numbers of so many hex digits each, as far as the area goes. How many.
+// Reads numbers of so many hex digits each, as far as the area goes. The answer is how many were read.
 fn read_numbers<T: Drop, F: Fn(u32) -> T>(s: &[u8], digits: usize, area: &mut [T], item: F) -> usize
     requires some { 0 < digits }
     requires callable { F.IsAlwaysCallable item }
@@ -73,6 +50,7 @@ fn print_character(rt: &impl Print, code: u32) -> io::Result<()> {
     Ok(())
 }
 
+// A loop by hand: `Encoded` tells the character at a place, and has no iterator over them.
 fn print_text<E: Encoded>(rt: &impl Print, text: E, change: Change) -> io::Result<()> {
     let mut at = 0;
     while let Some(character) = text.character_at(at) {
@@ -86,7 +64,7 @@ fn print_name(rt: &impl Print, context: &Context<'_>, name: Option<Name>) -> io:
     let Some(name) = name else {
         return print!(rt; "absent");
     };
-    let change = names::name::change_of(name, false);
+    let change = names::name::change_of(Some(name), false);
     match name.source {
         Source::D2 => print_text(rt, part_of(context.d2, name.part), change),
         source => {
@@ -96,19 +74,16 @@ fn print_name(rt: &impl Print, context: &Context<'_>, name: Option<Name>) -> io:
     }
 }
 
+// The name with this index: of a class, or a string.
 fn look_up(
     rt: &impl Print,
     table: &[u8],
     units: &[u16],
     ends: &[u32],
     index: u32,
-    kind: u8,
+    of_class: bool,
 ) -> io::Result<()> {
-    let whole = Located {
-        base: 0,
-        bytes: table,
-    };
-    if messages::check(whole).is_err() {
+    if messages::check(Located::whole(table)).is_err() {
         return print!(rt; "refused");
     }
     let mut notes = [0u64; 48];
@@ -127,7 +102,7 @@ fn look_up(
             first_nullable: None,
         },
     };
-    let name = if kind == b'q' {
+    let name = if of_class {
         lookup::qualified::qualified_name(&context, index)
     } else {
         lookup::string(&context, index)
@@ -135,89 +110,45 @@ fn look_up(
     print_name(rt, &context, name)
 }
 
-fn byte_at(s: &[u8], at: usize) -> u8 {
-    if at < s.len() {
-        return s[at];
-    }
-    0
-}
-
-// The rest of a line from the index on. Each answers the place after the line.
-fn with_strings(
-    rt: &impl Print,
-    s: &[u8],
-    at: usize,
-    table: &[u8],
-    units: &[u16],
-    ends: &[u32],
-) -> io::Result<usize>
-    requires { at ≤ length s.now }
-    ensures { IfOk result (λ next. (at ≤ next) × (next ≤ length s.now)) }
-{
-    let end = field_end(s, at);
-    let index = number(&s[at..end]);
-    let kind_at = after(s, end);
-    let kind = byte_at(s, kind_at);
-    look_up(rt, table, units, ends, index, kind)?;
-    let line_end = field_end(s, kind_at);
-    Ok(after(s, line_end))
-}
-
-// From the ends on.
-fn with_units(
-    rt: &impl Print,
-    s: &[u8],
-    at: usize,
-    table: &[u8],
-    units: &[u16],
-) -> io::Result<usize>
-    requires { at ≤ length s.now }
-    ensures { IfOk result (λ next. (at ≤ next) × (next ≤ length s.now)) }
-{
-    let end = field_end(s, at);
-    let mut ends = [0u32; 8];
-    let count = read_numbers(&s[at..end], 2, &mut ends, |n| n);
-    let next = after(s, end);
-    with_strings(rt, s, next, table, units, &ends[..count])
-}
-
-// From the units on.
-fn with_table(rt: &impl Print, s: &[u8], at: usize, table: &[u8]) -> io::Result<usize>
-    requires { at ≤ length s.now }
-    ensures { IfOk result (λ next. (at ≤ next) × (next ≤ length s.now)) }
-{
-    let end = field_end(s, at);
-    let mut units = [0u16; 16];
-    let count = read_numbers(&s[at..end], 4, &mut units, |n| (n % 65536) as u16);
-    let next = after(s, end);
-    with_units(rt, s, next, table, &units[..count])
-}
-
-// From the table on.
-fn look_up_line(rt: &impl Print, s: &[u8], at: usize) -> io::Result<usize>
-    requires { at ≤ length s.now }
-    ensures { IfOk result (λ next. (at ≤ next) × (next ≤ length s.now)) }
-{
-    let end = field_end(s, at);
+// One line: its note, and what it looks up. A field that isn't there is empty.
+fn show_line(rt: &impl Print, line: &[u8]) -> io::Result<()> {
+    let mut fields = line.split(|byte| *byte == b'|');
+    rt.write_all(fields.next().unwrap_or(&[]))?;
+    print!(rt; ": ")?;
     let mut table = [0u8; 64];
-    let count = read_numbers(&s[at..end], 2, &mut table, |n| (n % 256) as u8);
-    let next = after(s, end);
-    with_table(rt, s, next, &table[..count])
+    let mut units = [0u16; 16];
+    let mut ends = [0u32; 8];
+    let size = read_numbers(
+        fields.next().unwrap_or(&[]),
+        2,
+        &mut table,
+        |n| (n % 256) as u8,
+    );
+    let unit_count = read_numbers(
+        fields.next().unwrap_or(&[]),
+        4,
+        &mut units,
+        |n| (n % 65536) as u16,
+    );
+    let end_count = read_numbers(fields.next().unwrap_or(&[]), 2, &mut ends, |n| n);
+    let index = number(fields.next().unwrap_or(&[]));
+    let kind = fields.next().unwrap_or(&[]);
+    look_up(
+        rt,
+        &table[..size],
+        &units[..unit_count],
+        &ends[..end_count],
+        index,
+        kind.starts_with(b"q"),
+    )?;
+    println!(rt)
 }
 
 fn look_up_all(rt: &impl Print, s: &[u8]) -> io::Result<()> {
-    let mut at = 0;
-    while at < s.len() {
-        let note_end = field_end(s, at);
-        rt.write_all(&s[at..note_end])?;
-        print!(rt; ": ")?;
-        let line = after(s, note_end);
-        let next = look_up_line(rt, s, line)?;
-        println!(rt)?;
-        if next <= at {
-            return Ok(());
+    for line in s.split(|byte| *byte == b'\n') {
+        if !line.is_empty() {
+            show_line(rt, line)?;
         }
-        at = next;
     }
     Ok(())
 }

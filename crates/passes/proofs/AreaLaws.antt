@@ -3,18 +3,17 @@
 use mathlib.Core.Path.{◌≡◌, refl, ap, sym, subst, ◌∙◌}
 use mathlib.Core.List.{List, ◌++◌}
 use Prim.Native.Nat.{ℕ, ◌+◌, ◌-◌, ◌≤◌, ◌<◌, min}
-use native.Mathlib.Nat.{zero-add}
+use native.Mathlib.Nat.{zero-add, le_refl}
 use native.Mathlib.Omega.{arith}
 use borrow.Author.Tests.{lt-ltb, le-ltb}
 use lib.Dec.{eqb}
-use lib.ListN.{length, take, drop}
+use lib.ListN.{length, take, drop, length-drop}
 use lib.Seq.{sets, length-sets, take-append_seam}
-use Rattle.foundation.specs.Results.{Res, ok, ◌from◌}
+use Rattle.foundation.specs.Results.{Res, ok}
 use Rattle.foundation.proofs.OverlayLaws.{sets_front}
 use Rattle.foundation.proofs.ResultLaws.{gives-ok}
-use Rattle.wire.specs.Wire.{Message, cut}
-use Rattle.characters.specs.told.Places.{part_from}
-use Rattle.characters.proofs.PartLaws.{part-short, rest-is}
+use Rattle.wire.specs.Wire.{Message}
+use Rattle.characters.proofs.PartLaws.{rest-is}
 use Rattle.names.specs.Names.{Names}
 use Rattle.sheet.specs.Rows.{Row, sheet_from, texts}
 use Rattle.sheet.specs.told.Put.{PutRows}
@@ -24,9 +23,10 @@ use Rattle.schema.specs.told.TypeSizes.{declarations_size}
 use Rattle.declaration_rows.specs.Declarations.{Declarations}
 use Rattle.schema.specs.Reading.{Scope, scope, allowance}
 use Rattle.schema.specs.Members.{after_table}
-use Rattle.schema.specs.told.SchemaTold.{Lent, Scoped, stop_refused}
+use Rattle.schema.specs.told.SchemaTold.{Lent, Scoped, Stands, stop_refused}
 use Rattle.schema.specs.told.MembersTold.{Affords}
 use Rattle.schema.specs.declared.Stop.{Stop}
+use Rattle.schema.proofs.StandsLaws.{part-stands}
 use Rattle.schema.proofs.TypeCount.{body_enters}
 use Rattle.declarations.specs.Payload.{body_of, declaration_rows}
 use Rattle.declarations.specs.told.PayloadTold.{OpenedAt, LentAt}
@@ -41,12 +41,16 @@ use Rattle.passes.specs.Answered.{text_limit, sheet_written, written, answered}
 use Rattle.passes.specs.told.AreaTold.{strings, Limited, lent_reading, start, last_of, MeasuredAt, WrittenOut}
 
 -- The body, as it is lent.
-pub start_affords : (e : Lent) (at : ℕ) {s : State} → Limited e → s ≡ start → Affords e (body_cost (length (part_from at (length e.payload) e.payload))) s
+pub start_affords : (e : Lent) (at : ℕ) {s : State} → Limited e → s ≡ start → Affords e (body_cost (length (drop at e.payload))) s
 start_affords e at k q =
     let l = k.bytes-short in
-    let short = part-short e.payload at (length e.payload) in
-    subst (Affords e (body_cost (length (part_from at (length e.payload) e.payload)))) (sym q)
+    let short = length-drop at e.payload in
+    subst (Affords e (body_cost (length (drop at e.payload)))) (sym q)
     (record { payload-short = k.bytes-short; d2-short = k.d2-short; types = omega arith; room = omega arith })
+
+-- What stands from a place on stands there.
+pub rest_stands : (payload : List ℕ) (at : ℕ) → at ≤ length payload → Stands payload (drop at payload) at
+rest_stands payload at h = subst (λ (bs : List ℕ). Stands payload bs at) (rest-is payload at) (part-stands payload at (length payload) h (le_refl (length payload)))
 
 -- What is lent is the scope's, and what a body gives is what the bytes do.
 module _ (kind : ℕ) (e : Lent) (at : ℕ) (lent_at : LentAt e at) where
@@ -74,13 +78,12 @@ module _ (kind : ℕ) (e : Lent) (at : ℕ) (lent_at : LentAt e at) where
 
   -- the walk of a body from the start, and both areas as they come back from the Output that they were lent to
   pub from_start : Limited e → {s : State} → s ≡ start → (r : Result Sections Stop) (S S₁ T T₁ : List ℕ) {S' T' : List ℕ} → S' ≡ S₁ → T' ≡ T₁
-      → BodyWalked kind e (part_from at (length e.payload) e.payload) at s r S S₁ T T₁
+      → BodyWalked kind e (drop at e.payload) at s r S S₁ T T₁
       → BodyTold kind (lent_reading kind e) start r S S' T T'
   from_start k q r S S₁ T T₁ {S'} {T'} i j t =
-      let cuts = ap (λ (bs : List ℕ). cut (◌from◌ at bs)) (rest-is e.payload at) ∙ o.is.cuts in
       let walked : BodyTold kind (after_table (eqb kind 1) scoped-by o.is.body allowance) start r S S₁ T T₁ =
       subst (λ (x : State). BodyTold kind (after_table (eqb kind 1) scoped-by o.is.body x.types) x r S S₁ T T₁) q
-      (t scoped-by (scoped k) o.is.body cuts) in
+      (t scoped-by (scoped k) o.is.body o.is.cuts) in
       subst (λ (x : Res (Declarations × ℕ)). BodyTold kind x start r S S' T T') (sym by-table) (rw (i, j) walked)
 
   pub measured-is : {b : Sections} {S S' T T' : List ℕ} → BodyTold kind (lent_reading kind e) start (Ok b) S S' T T' → MeasuredAt kind e at b S' T'

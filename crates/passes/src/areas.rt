@@ -5,9 +5,9 @@ ghost use Rattle.inputs.specs.told.OutcomesTold.{told};
 ghost use Rattle.inputs.specs.told.KindTold.{kind_number};
 ghost use Rattle.schema.specs.told.SchemaTold.{lent};
 ghost use Rattle.passes.specs.Answered.{answered};
-ghost use Rattle.passes.specs.told.AreaTold.{Limited, lent_reading, last_of, MeasuredAt, WrittenOut};
+ghost use Rattle.passes.specs.told.AreaTold.{Limited, lent_reading, last_of, MeasuredAt, WrittenOut, AreasKept, OnAreas};
 
-use crate::{Measured, sizes_at, walk};
+use crate::{AreaPair, Measured, sizes_at, walk};
 use foundation::Context;
 use inputs::Kind;
 use inputs::outcome::{Refusal, Sizes};
@@ -17,25 +17,20 @@ use sheet::put_all;
 const TEXT_LIMIT: usize = 65534;
 
 // What was measured fits both areas: copied from the scratch areas if these hold the whole, else walked again.
-fn write_out(
-    kind: Kind,
-    measured: Measured<'_>,
-    context: &Context<'_>,
-    sheet: &mut [u8],
-    text: &mut [u8],
-)
-    requires { Limited (lent context.now) × ((last_of measured.sections).sheet ≤ length sheet.old) × ((last_of measured.sections).text ≤ length text.old) × MeasuredAt (kind_number kind) (lent context.now) measured.at measured.sections measured.sheet.now measured.text.now }
-    ensures { WrittenOut (kind_number kind) (lent_reading (kind_number kind) (lent context.now)) sheet.old sheet.new text.old text.new }
+fn write_out(kind: Kind, measured: Measured<'_>, context: &Context<'_>, areas: &mut AreaPair<'_>)
+    requires { Limited (lent context.now) × ((last_of measured.sections).sheet ≤ length areas.old.sheet.now) × ((last_of measured.sections).text ≤ length areas.old.text.now) × MeasuredAt (kind_number kind) (lent context.now) measured.at measured.sections measured.sheet.now measured.text.now }
+    ensures areas_kept { AreasKept areas.old areas.new }
+    ensures written { OnAreas (WrittenOut (kind_number kind) (lent_reading (kind_number kind) (lent context.now))) areas.old areas.new }
 {
     let end = measured.sections.aliases.state;
     let size = end.sheet;
     let length = end.text;
     if size <= measured.sheet.len() && length <= measured.text.len() {
-        put_all(sheet, 0, &measured.sheet[..size]);
-        put_all(text, 0, &measured.text[..length]);
+        put_all(areas.sheet, 0, &measured.sheet[..size]);
+        put_all(areas.text, 0, &measured.text[..length]);
         return;
     }
-    let _ = walk(kind, measured.at, context, sheet, text);
+    let _ = walk(kind, measured.at, context, areas);
 }
 
 // 11, 12, or both areas written.
@@ -43,21 +38,21 @@ pub(crate) fn write_in(
     kind: Kind,
     measured: Measured<'_>,
     context: &Context<'_>,
-    sheet: &mut [u8],
-    text: &mut [u8],
+    areas: &mut AreaPair<'_>,
 ) -> Result<Sizes, Refusal>
     requires { Limited (lent context.now) × MeasuredAt (kind_number kind) (lent context.now) measured.at measured.sections measured.sheet.now measured.text.now }
-    ensures { answered sheet.old text.old (kind_number kind) (lent_reading (kind_number kind) (lent context.now)) ≡ told result sheet.new text.new }
+    ensures areas_kept { AreasKept areas.old areas.new }
+    ensures written { answered areas.old.sheet.now areas.old.text.now (kind_number kind) (lent_reading (kind_number kind) (lent context.now)) ≡ told result areas.new.sheet.now areas.new.text.now }
 {
     let end = measured.sections.aliases.state;
     let size = end.sheet;
     let length = end.text;
-    if TEXT_LIMIT < length || text.len() < length {
+    if TEXT_LIMIT < length || areas.text.len() < length {
         return Err(Refusal::TextTooLong);
     }
-    if sheet.len() < size {
+    if areas.sheet.len() < size {
         return Err(Refusal::SheetTooLong);
     }
-    write_out(kind, measured, context, sheet, text);
+    write_out(kind, measured, context, areas);
     Ok(sizes_at(end))
 }

@@ -11,7 +11,7 @@ ghost use Rattle.declarations.specs.Payload.{payload};
 ghost use Rattle.declarations.specs.told.PayloadTold.{LentAt, LentRoom};
 ghost use Rattle.declarations.specs.told.BodyTold.{BodyTold};
 ghost use Rattle.passes.specs.told.AreaTold as definition;
-ghost use Rattle.passes.specs.told.AreaTold.{strings, InLimits, Limited, lent_reading, last_of};
+ghost use Rattle.passes.specs.told.AreaTold.{strings, InLimits, Limited, lent_reading, last_of, AreasKept, OnAreas};
 ghost use Rattle.passes.specs.told.TaskTold.{no_lists, sizes_at, TaskTold};
 ghost use Rattle.inputs.specs.declared.outcome.Refusal.TheVariants as refusal;
 ghost use Rattle.passes.specs.declared.PassError.TheVariants.{Refused};
@@ -30,7 +30,16 @@ use sheet::{Output, State};
 
 mod areas; // areas.rt: what was measured, written into both areas
 
+// Two areas that are written into: the caller's, or the scratch areas of the first pass.
+// `Output` of sheet has two as well; it doesn't hold an `AreaPair`, since each writer below would then reach them through one field more.
+#[derive(Drop)]
+pub struct AreaPair<'a> {
+    pub sheet: &'a mut [u8],
+    pub text: &'a mut [u8],
+}
+
 // What the first pass has found: where the body begins, how far it is written after each list, and what the scratch areas then hold.
+// It has two slices and no `&AreaPair`: tried, and the proof of `write_out` didn't close, as the check knows no loan of a part through such a `&` in a struct.
 #[derive(Clone, Copy)]
 pub(crate) struct Measured<'a> {
     pub at: usize,
@@ -39,8 +48,22 @@ pub(crate) struct Measured<'a> {
     pub text: &'a [u8],
 }
 
-// Why there is no reply: d1 is refused, or the decoded bytes or their notes have no room in the frame.
-#[derive(Clone, Copy)]
+impl<'a> Measured<'a> {
+    // A function of its own, since the check knows no loan of both areas through the `&mut` that `read_in` has.
+    fn of(at: usize, sections: Sections, scratch: &'a AreaPair<'_>) -> Measured<'a>
+        ensures { (result.at ≡ at) × (result.sections ≡ sections) × (result.sheet.now ≡ scratch.now.sheet.now) × (result.text.now ≡ scratch.now.text.now) }
+    {
+        Measured {
+            at,
+            sections,
+            sheet: scratch.sheet,
+            text: scratch.text,
+        }
+    }
+}
+
+// Why there is no reply: the input is refused, or the decoded bytes or their notes have no room in the frame.
+#[derive(Clone, Copy, Debug, PartialEq, Eq)]
 pub enum PassError {
     NoRoom,
     Refused(Refusal),
@@ -86,8 +109,9 @@ impl From<DecodeError> for PassError {
     }
 }
 
-// What is to be done with an input: its sheet and text written, or the room that they take told. It goes by value through the frames; `read_in`
-// alone looks at it, and `head_alone` of metadata, which needs no frame.
+// What is to be done with an input: its sheet and text written, or the room that they take told.
+// An enum by value and no closure: a closure would be a type parameter of each frame, so that each frame would be made twice.
+// Two functions look at it: `read_in`, and `alone` of metadata, which needs no frame.
 #[derive(Clone, Copy)]
 pub enum Task {
     Read,
@@ -163,23 +187,21 @@ fn told_room(sections: Sections) -> Reply
 }
 
 // The body of the decoded bytes, from the start of two areas.
+// `Limited`, here, below and in areas.rt, is no invariant of `Context`: what reads one name or one entry asks for no limits, and is lent a `Context` too.
 fn walk(
     kind: Kind,
     at: usize,
     context: &Context<'_>,
-    sheet: &mut [u8],
-    text: &mut [u8],
+    areas: &mut AreaPair<'_>,
 ) -> Result<Sections, Stop>
     requires { Limited (lent context.now) × LentAt (lent context.now) at }
-    ensures { BodyTold (kind_number kind) (lent_reading (kind_number kind) (lent context.now)) definition.start result sheet.old sheet.new text.old text.new }
+    ensures areas_kept { AreasKept areas.old areas.new }
+    ensures written { OnAreas (BodyTold (kind_number kind) (lent_reading (kind_number kind) (lent context.now)) definition.start result) areas.old areas.new }
 {
-    let body = Located {
-        base: at,
-        bytes: &context.payload[at..],
-    };
+    let body = Located::rest(context.payload, at);
     let mut out = Output {
-        sheet,
-        text,
+        sheet: areas.sheet,
+        text: areas.text,
         state: start(),
     };
     body_in(kind, body, context, &mut out)
@@ -191,24 +213,18 @@ fn read_in(
     asked: Asked,
     at: usize,
     context: &Context<'_>,
-    scratch_sheet: &mut [u8],
-    scratch_text: &mut [u8],
-    sheet: &mut [u8],
-    text: &mut [u8],
+    scratch: &mut AreaPair<'_>,
+    areas: &mut AreaPair<'_>,
 ) -> Result<Reply, Refusal>
     requires { Limited (lent context.now) × LentAt (lent context.now) at }
-    ensures { TaskTold asked (lent_reading (kind_number asked.kind) (lent context.now)) result sheet.old sheet.new text.old text.new }
+    ensures areas_kept { AreasKept areas.old areas.new }
+    ensures written { OnAreas (TaskTold asked (lent_reading (kind_number asked.kind) (lent context.now)) result) areas.old areas.new }
 {
-    let sections = walk(asked.kind, at, context, scratch_sheet, scratch_text)?;
+    let sections = walk(asked.kind, at, context, scratch)?;
     match asked.task {
         Task::Read => {
-            let measured = Measured {
-                at,
-                sections,
-                sheet: scratch_sheet,
-                text: scratch_text,
-            };
-            let sizes = write_in(asked.kind, measured, context, sheet, text)?;
+            let measured = Measured::of(at, sections, scratch);
+            let sizes = write_in(asked.kind, measured, context, areas)?;
             Ok(without_lists(sizes))
         }
         Task::Room => Ok(told_room(sections)),
@@ -219,62 +235,41 @@ fn read_in(
 fn open_in(
     asked: Asked,
     bytes: &[u8],
-    d2: &[u16],
-    ends: &[u32],
+    units: &Units<'_>,
     notes: &mut [u64],
-    scratch_sheet: &mut [u8],
-    scratch_text: &mut [u8],
-    sheet: &mut [u8],
-    text: &mut [u8],
+    scratch: &mut AreaPair<'_>,
+    areas: &mut AreaPair<'_>,
 ) -> Result<Reply, PassError>
-    requires { InLimits bytes.now d2.now ends.now }
-    ensures { PassedTold asked (payload (kind_number asked.kind) (strings d2.now ends.now) bytes.now) (LentRoom bytes.now notes.new) result sheet.old sheet.new text.old text.new }
+    requires { InLimits bytes.now units.now.d2.now units.now.ends.now }
+    ensures areas_kept { AreasKept areas.old areas.new }
+    ensures written { OnAreas (PassedTold asked (payload (kind_number asked.kind) (strings units.now.d2.now units.now.ends.now) bytes.now) (LentRoom bytes.now notes.new) result) areas.old areas.new }
 {
-    let opened = open_lent(bytes, d2, ends, notes)?;
+    let opened = open_lent(bytes, units, notes)?;
     let context = Context {
         payload: bytes,
-        d2,
-        ends,
+        d2: units.d2,
+        ends: units.ends,
         notes,
         tables: opened.tables,
     };
-    let reply = read_in(
-        asked,
-        opened.at,
-        &context,
-        scratch_sheet,
-        scratch_text,
-        sheet,
-        text,
-    )?;
+    let reply = read_in(asked, opened.at, &context, scratch, areas)?;
     Ok(reply)
 }
 
 // d1 of a kind that carries declarations, within its limit.
-// Callers show `InLimits`: metadata from the answer of `fault_of`, which has found no fault.
+// Callers show `InLimits`: metadata from the answer of `fault_of`, which has found no fault. It is no invariant of `Units`: `fault_of` is asked of any input.
 pub fn decode_in(
     asked: Asked,
     units: &Units<'_>,
     bytes: &mut [u8],
     notes: &mut [u64],
-    scratch_sheet: &mut [u8],
-    scratch_text: &mut [u8],
-    sheet: &mut [u8],
-    text: &mut [u8],
+    scratch: &mut AreaPair<'_>,
+    areas: &mut AreaPair<'_>,
 ) -> Result<Reply, PassError>
     requires { InLimits units.now.d1.now units.now.d2.now units.now.ends.now }
-    ensures { PassedTold asked (reading_of (kind_number asked.kind) units.now.d1.now units.now.d2.now units.now.ends.now) (FrameRoom units.now.d1.now bytes.new notes.new) result sheet.old sheet.new text.old text.new }
+    ensures areas_kept { AreasKept areas.old areas.new }
+    ensures written { OnAreas (PassedTold asked (reading_of (kind_number asked.kind) units.now.d1.now units.now.d2.now units.now.ends.now) (FrameRoom units.now.d1.now bytes.new notes.new) result) areas.old areas.new }
 {
     let length = decode(units.d1, bytes)?;
-    open_in(
-        asked,
-        &bytes[..length],
-        units.d2,
-        units.ends,
-        notes,
-        scratch_sheet,
-        scratch_text,
-        sheet,
-        text,
-    )
+    open_in(asked, &bytes[..length], units, notes, scratch, areas)
 }

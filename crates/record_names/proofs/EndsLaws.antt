@@ -19,6 +19,8 @@ use Rattle.characters.proofs.SplitLaws.{Boundary, boundary_start, boundary-next,
 use Rattle.characters.proofs.PartLaws.{rest-is}
 use Rattle.names.specs.Records.{all_but_last, without_ends, substituted, replace_of, operated}
 use Rattle.names.specs.told.Name.{operation_of, turned, dropped}
+use Rattle.names.specs.declared.name.Operation.{Operation}
+use Rattle.names.specs.declared.name.Operation.TheVariants.{Nothing, InternalToClassId, DescToClassId}
 use Rattle.names.proofs.StepLaws.{operated-is}
 use Rattle.record_names.specs.told.Ends.{LastTold, EndsTold}
 use Rattle.record_names.specs.told.Steps.{with_steps, turned_steps}
@@ -51,25 +53,23 @@ module _ (f : ℕ → ℕ) where
   ends-map (a ∷ []) = refl
   ends-map (a ∷ b ∷ t) = last-map (b ∷ t)
 
-  dropped-map : (op : ℕ) (t : Text) → dropped op (map f t) ≡ map f (dropped op t)
-  dropped-map op t = go (eqb op 2)
-    where
-      go : (b : Bool) → (if b then without_ends (map f t) else map f t) ≡ map f (if b then without_ends t else t)
-      go true = ends-map t
-      go false = refl
+  dropped-map : (op : Operation) (t : Text) → dropped op (map f t) ≡ map f (dropped op t)
+  dropped-map Nothing t = refl
+  dropped-map InternalToClassId t = refl
+  dropped-map DescToClassId t = ends-map t
 
 -- So what an operation drops can be dropped before the replacement.
-pub steps_dropped : (replaced : Option (ℕ × ℕ)) (op : ℕ) (t : Text) → with_steps replaced op t ≡ turned_steps replaced op (dropped op t)
+pub steps_dropped : (replaced : Option (ℕ × ℕ)) (op : ℕ) (t : Text) → with_steps replaced op t ≡ turned_steps replaced (operation_of op) (dropped (operation_of op) t)
 unfolding replace_of
 steps_dropped none op t = ap some (operated-is op t)
 steps_dropped (some n) op t = go (is_scalar n.0) (is_scalar n.1)
   where
     go : (a b : Bool)
         → map_option (operated op) (if a && b then some (substituted n.0 n.1 t) else none)
-        ≡ map_option (turned (operation_of op)) (if a && b then some (substituted n.0 n.1 (dropped op t)) else none)
+        ≡ map_option (turned (operation_of op)) (if a && b then some (substituted n.0 n.1 (dropped (operation_of op) t)) else none)
     go true true =
         ap some
-        (operated-is op (substituted n.0 n.1 t) ∙ ap (turned (operation_of op)) (dropped-map (λ c. if eqb c n.0 then n.1 else c) op t))
+        (operated-is op (substituted n.0 n.1 t) ∙ ap (turned (operation_of op)) (dropped-map (λ c. if eqb c n.0 then n.1 else c) (operation_of op) t))
     go true false = refl
     go false b = refl
 

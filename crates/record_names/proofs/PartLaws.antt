@@ -30,9 +30,10 @@ use Rattle.names.specs.Records.{base_text, text_of, predefined_text, substituted
 use Rattle.names.specs.told.Name.{predefined_list, operation_of, turned, dropped, OfBytes, source_text, named_text, name_text}
 use Rattle.names.specs.told.RecordTold.{both_numbers, record_told}
 use Rattle.names.specs.told.Stream.{listed_text, base_of}
-use Rattle.record_names.specs.told.Steps.{within, SubstringTold, base_in, text_in, BaseTold, StepTold, LeftTold, with_steps, turned_steps}
+use Rattle.record_names.specs.told.Steps.{SubstringTold, base_in, text_in, BaseTold, StepTold, LeftTold, with_steps, turned_steps}
 use Rattle.names.specs.declared.name.Name.{Name}
-use Rattle.names.specs.declared.name.Source.TheVariants.{Payload, Predefined}
+use Rattle.names.specs.declared.name.Source.{Source}
+use Rattle.names.specs.declared.name.Source.TheVariants.{Payload, Predefined, D2}
 use Rattle.names.specs.declared.name.Operation.{Operation}
 use Rattle.names.specs.declared.records.Record.{Record}
 use Rattle.record_names.specs.told.Ends.{EndsTold}
@@ -41,8 +42,21 @@ use Rattle.foundation.specs.declared.Span.{Span}
 use Rattle.std.specs.declared.option.Option as rust
 use Rattle.std.specs.Option as options
 use Rattle.std.specs.Char.{InScalarRange, OutOfScalarRange}
-use Rattle.record_names.specs.declared.steps.Base.{Base}
+use Rattle.record_names.specs.declared.base.Base.{Base}
 use Rattle.names.proofs.NameLaws.{source-bytes}
+
+-- A part of what begins at `from`, as a part of the whole.
+abbrev pub within : ℕ → Span → Span
+within from p = record { start = from + p.start; end = from + p.end }
+
+abbrev span : ℕ → ℕ → Span
+span a b = record { start = a; end = b }
+
+pub moved_is : (from : ℕ) (p r : Span) → (r.start ≡ p.start + from) × (r.end ≡ p.end + from) → r ≡ within from p
+moved_is from p r e =
+    let s : r.start ≡ from + p.start = omega (arith, e.0) in
+    let t : r.end ≡ from + p.end = omega (arith, e.1) in
+    ap (λ (x : ℕ). span x r.end) s ∙ ap (span (from + p.start)) t
 
 -- Tests of numbers.
 pub scalar-is : (r : rust.Option ℕ) (c : ℕ) → MatchOption r (OutOfScalarRange c) (λ x. InScalarRange c) → options.is_some r ≡ is_scalar c
@@ -99,37 +113,40 @@ module _ (s : List ℕ) (first last : ℕ) where
                 inside = (omega arith, sub-end);
               }
 
+-- What is made of bytes.
+pub of_bytes : (s : Source) → (s ≡ D2 → ⊥) → OfBytes s
+of_bytes Payload h = tt
+of_bytes Predefined h = tt
+of_bytes D2 h = absurd (h refl)
+
 -- What a record's text is made of.
 module _ (from : ℕ) (index : rust.Option ℕ) {string : rust.Option Span} where
-  pub base-string : {p : Span} → string ≡ Some p → BaseTold from string index (Some record { source = Payload; part = within from p })
+  pub base-string : {p : Span} → string ≡ Some p → BaseTold from string index (Some record { source = Payload; part = within from p; no_units = λ e. subst OfBytes e tt })
   unfolding source_text
-  base-string {p} g = record {
-    bytes = tt;
-    is = λ payload d2 end h.
-        let i = subst (PieceInside (part_from from end payload)) g h in
-        rw g (ap (λ (l : List ℕ). some (from_utf8 l)) (part-part payload from end p.start p.end i.0 i.1));
-  }
+  base-string {p} g payload d2 end h =
+      let i = subst (PieceInside (part_from from end payload)) g h in
+      rw g (ap (λ (l : List ℕ). some (from_utf8 l)) (part-part payload from end p.start p.end i.0 i.1))
 
   module _ (g : string ≡ None) where
     module _ {n : ℕ} (i : index ≡ Some n) (r : rust.Option Span) (e : listed_text r ≡ predefined_text n) where
-      pub base-listed : {p : Span} → r ≡ Some p → BaseTold from string index (Some record { source = Predefined; part = p })
+      pub base-listed : {p : Span} → r ≡ Some p → BaseTold from string index (Some record { source = Predefined; part = p; no_units = λ e. subst OfBytes e tt })
       unfolding source_text
-      base-listed q = record { bytes = tt; is = λ payload d2 end h. rw (g, i, ← e, q) }
+      base-listed q payload d2 end h = rw (g, i, ← e, q)
 
 -- A substring of what it is made of, and what is between its first and its last character.
-module _ (payload s : List ℕ) (base : Base) (o : OfBytes base.source) (e : s ≡ part_from base.part.start base.part.end (base_of base.source payload predefined_list)) where
+module _ (payload s : List ℕ) (base : Base) (e : s ≡ part_from base.part.start base.part.end (base_of base.source payload predefined_list)) where
   -- the base itself, and a part of it
   abbrev whole : List ℕ
   whole = base_of base.source payload predefined_list
 
   text-at : (d2 : List ℕ) (p : Span) → source_text payload d2 base.source p ≡ from_utf8 (part_from p.start p.end whole)
-  text-at d2 p = source-bytes payload d2 base.source p o
+  text-at d2 p = source-bytes payload d2 base.source p (of_bytes base.source base.no_units)
 
   all-of : (d2 : List ℕ) → base_in payload d2 base ≡ from_utf8 s
   all-of d2 = text-at d2 base.part ∙ ap from_utf8 (sym e)
 
   abbrev pub inner : Span → Base
-  inner p = record { source = base.source; part = within base.part.start p }
+  inner p = record { source = base.source; part = within base.part.start p; no_units = base.no_units }
 
   inner-is : (p : Span) → p.start ≤ p.end → p.end ≤ length s → (d2 : List ℕ) → base_in payload d2 (inner p) ≡ from_utf8 (part_from p.start p.end s)
   inner-is p h i d2 =
@@ -139,16 +156,16 @@ module _ (payload s : List ℕ) (base : Base) (o : OfBytes base.source) (e : s �
 
   module _ (first last : ℕ) where
     pub part_none : SubstringTold s first last None → StepTold payload (substring_of first last) base None
-    part_none t = record { bytes = tt; is = λ d2. rw (all-of d2) t.is }
+    part_none t d2 = rw (all-of d2) t.is
 
     pub part-some : {p : Span} → SubstringTold s first last (Some p) → StepTold payload (substring_of first last) base (Some (inner p))
-    part-some {p} t = record { bytes = o; is = λ d2. rw (all-of d2) (t.is ∙ ap some (sym (inner-is p t.inside.0 t.inside.1 d2))) }
+    part-some {p} t d2 = rw (all-of d2) (t.is ∙ ap some (sym (inner-is p t.inside.0 t.inside.1 d2)))
 
   pub inner-same : EndsTold s None → LeftTold payload base without_ends base
-  inner-same t = record { bytes = o; is = λ d2. rw (all-of d2) t }
+  inner-same t d2 = rw (all-of d2) t
 
   pub inner_cut : {p : Span} → EndsTold s (Some p) → LeftTold payload base without_ends (inner p)
-  inner_cut {p} t = record { bytes = o; is = λ d2. rw (all-of d2) (t.0 ∙ sym (inner-is p t.1 t.2 d2)) }
+  inner_cut {p} t d2 = rw (all-of d2) (t.0 ∙ sym (inner-is p t.1 t.2 d2))
 
 -- Replacement, and what an operation turns into dots.
 pub same-substituted : (t : Text) → substituted 0 0 t ≡ t
@@ -164,23 +181,23 @@ not-both Neither h = refl
 not-both (One a) h = refl
 not-both (Both a b) h = absurd (h a b refl)
 
-module _ (payload d2 : List ℕ) (base : Base) (op : ℕ) {k : Operation} (e : k ≡ operation_of op) where
+module _ (payload d2 : List ℕ) (base : Base) (op : Operation) where
   abbrev steps_of : ℕ → ℕ → Name
-  steps_of from to = record { source = base.source; part = base.part; from = from; to = to; operation = k; qualified = false; size = 0 }
+  steps_of from to = record { source = base.source; part = base.part; from = from; to = to; operation = op; qualified = false; size = 0 }
 
-  named-is : (from to : ℕ) → named_text payload d2 (steps_of from to) ≡ turned (operation_of op) (substituted from to (base_in payload d2 base))
+  named-is : (from to : ℕ) → named_text payload d2 (steps_of from to) ≡ turned op (substituted from to (base_in payload d2 base))
   unfolding named_text
-  named-is from to = ap (λ (o : Operation). turned o (substituted from to (base_in payload d2 base))) e
+  named-is from to = refl
 
   pub steps-none : (two : Two) → both_numbers two ≡ none → name_text payload d2 (Some (steps_of 0 0)) ≡ turned_steps (both_numbers two) op (base_in payload d2 base)
-  steps-none two q = rw q (ap some (named-is 0 0 ∙ ap (turned (operation_of op)) (same-substituted (base_in payload d2 base))))
+  steps-none two q = rw q (ap some (named-is 0 0 ∙ ap (turned op) (same-substituted (base_in payload d2 base))))
 
   pub steps-both : {two : Two} {a b : ℕ} → two ≡ Both a b → is_scalar a ≡ true → is_scalar b ≡ true
       → name_text payload d2 (Some (steps_of a b)) ≡ turned_steps (both_numbers two) op (base_in payload d2 base)
   unfolding replace_of
   steps-both {two} {a} {b} q s t = rw (q, s, t) (ap some (named-is a b))
 
-pub steps-absent : (op : ℕ) {two : Two} {a b : ℕ} → two ≡ Both a b → is_scalar a && is_scalar b ≡ false → (t : Text) → none ≡ turned_steps (both_numbers two) op t
+pub steps-absent : (op : Operation) {two : Two} {a b : ℕ} → two ≡ Both a b → is_scalar a && is_scalar b ≡ false → (t : Text) → none ≡ turned_steps (both_numbers two) op t
 unfolding replace_of
 steps-absent op q f t = rw (q, f)
 
@@ -196,32 +213,32 @@ text-is r = go (base_text r)
     go none = refl
     go (some t) = refl
 
-module _ (payload : List ℕ) (from : ℕ) (read : Record) {x : rust.Option Base} (t : BaseTold from read.string read.predefined x)
+module _ (payload : List ℕ) (from : ℕ) (read : Record) (x : rust.Option Base) (t : BaseTold from read.string read.predefined x)
     (d2 : List ℕ) (end : ℕ) (h : PieceInside (part_from from end payload) read.string) where
   abbrev told : definition.Record
   told = record_told from (part_from from end payload) read
 
   base-is : base_text told ≡ text_in payload d2 x
   unfolding base_text
-  base-is = t.is payload d2 end h
+  base-is = t payload d2 end h
 
   pub record-nothing : x ≡ None → none ≡ text_of told
   record-nothing g = rw (text-is told, base-is, g)
 
-  module _ {base : Base} (g : x ≡ Some base) {y : rust.Option Base}
+  module _ {base : Base} (g : x ≡ Some base) (y : rust.Option Base)
       (u : StepTold payload (stepped substring_of (both_numbers read.substring)) base y) where
     part-is : if_some (base_text told) none (stepped substring_of told.substring) ≡ text_in payload d2 y
-    part-is = ap (λ (o : Option Text). if_some o none (stepped substring_of told.substring)) (base-is ∙ ap (text_in payload d2) g) ∙ u.is d2
+    part-is = ap (λ (o : Option Text). if_some o none (stepped substring_of told.substring)) (base-is ∙ ap (text_in payload d2) g) ∙ u d2
 
     pub record-cut : y ≡ None → none ≡ text_of told
     record-cut q = rw (text-is told, part-is, q)
 
-    pub record-built : {part left : Base} → y ≡ Some part → LeftTold payload part (dropped read.operation) left → (n : rust.Option Name)
-        → name_text payload d2 n ≡ turned_steps (both_numbers read.replaced) read.operation (base_in payload d2 left)
+    pub record-built : {part : Base} (left : Base) → y ≡ Some part → {k : Operation} → k ≡ operation_of read.operation → LeftTold payload part (dropped k) left → (n : rust.Option Name)
+        → name_text payload d2 n ≡ turned_steps (both_numbers read.replaced) k (base_in payload d2 left)
         → name_text payload d2 n ≡ text_of told
-    record-built {part} {left} q l n e =
-        let steps : Text → Option Text = turned_steps told.replaced told.operation in
+    record-built {part} left q {k} o l n e =
         e
-        ∙ ap steps (sym (l.is d2))
+        ∙ ap (turned_steps told.replaced k) (sym (l d2))
+        ∙ ap (λ (i : Operation). turned_steps told.replaced i (dropped i (base_in payload d2 part))) o
         ∙ sym (steps_dropped told.replaced told.operation (base_in payload d2 part))
         ∙ sym (text-is told ∙ ap (λ (o : Option Text). if_some o none (with_steps told.replaced told.operation)) (part-is ∙ ap (text_in payload d2) q))

@@ -64,13 +64,13 @@ module _ (bytes : List ℕ) (n : Name) (b : OfBytes n.source) where
   abbrev pub unstepped : Name
   unstepped = record { source = n.source; part = n.part; from = n.from; to = n.to; operation = Nothing; qualified = false; size = 0 }
 
-  unstepped_size : length (name_bytes bytes [] unstepped false) ≡ length (utf8 (substituted n.from n.to (source_text bytes [] n.source n.part)))
+  unstepped_size : length (name_bytes bytes [] (Some unstepped) false) ≡ length (utf8 (substituted n.from n.to (source_text bytes [] n.source n.part)))
   unfolding name_bytes named_text turned
   unstepped_size = refl
 
-  pub size_is : (size : ℕ) → size ≡ 0 + length (name_bytes bytes [] unstepped false) → size ≡ part_size bytes n n.part
+  pub size_is : (size : ℕ) → size ≡ 0 + length (name_bytes bytes [] (Some unstepped) false) → size ≡ part_size bytes n n.part
   size_is size e =
-      let z : 0 + length (name_bytes bytes [] unstepped false) ≡ length (name_bytes bytes [] unstepped false) = omega arith in
+      let z : 0 + length (name_bytes bytes [] (Some unstepped) false) ≡ length (name_bytes bytes [] (Some unstepped) false) = omega arith in
       e ∙ z ∙ unstepped_size ∙ ap (λ (t : Text). length (utf8 (substituted n.from n.to t))) (source-bytes bytes [] n.source n.part b)
 
 -- The clipped name is the same name.

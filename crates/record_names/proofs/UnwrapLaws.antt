@@ -24,7 +24,7 @@ use Rattle.names.specs.Records.{substituted, dotted, dollars_dotted}
 use Rattle.names.specs.Names.{without_last, unwrapped}
 use Rattle.names.specs.told.Name.{predefined_list, turned, source_text, named_text}
 use Rattle.names.specs.told.Stream.{base_of}
-use Rattle.record_names.specs.told.Steps.{within, BytesName}
+use Rattle.record_names.specs.told.Steps.{BytesName}
 use Rattle.record_names.specs.told.Ends.{LastTold}
 use Rattle.record_names.specs.told.ClassNames.{size_with, UnwrapTold, qualified_part, ClassTold}
 use Rattle.names.specs.declared.name.Name.{Name}
@@ -35,6 +35,7 @@ use Rattle.std.specs.declared.option.Option as rust
 use Rattle.foundation.specs.declared.Span.{Span}
 use Rattle.names.proofs.NameLaws.{source-bytes}
 use Rattle.record_names.proofs.EndsLaws.{first-text, single-text, whole-text, place_inside}
+use Rattle.record_names.proofs.PartLaws.{within}
 
 -- A text by its last character.
 without_snoc : (c : ℕ) (t : Text) (a : ℕ) → without_last c (t ++ (a ∷ [])) ≡ (if eqb a c then some t else none)

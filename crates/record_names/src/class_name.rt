@@ -5,12 +5,12 @@ ghost use Rattle.record_names.specs.told.Steps.{BytesName};
 ghost use Rattle.record_names.specs.told.ClassNames.{UnwrapTold, qualified_part, ClassTold};
 
 use crate::ends::last_of;
-use crate::within;
 use characters::utf8_at;
 use foundation::Span;
 use names::name::{Name, PREDEFINED, base_text, instead};
 
 // The part between a leading L and a trailing ; of some bytes' text, every character `from` become `to`.
+// Two numbers, as in `Name` and for `instead`: a struct of both would be made at each of the two calls.
 fn unwrapped_part(s: &[u8], from: u32, to: u32) -> Option<Span>
     ensures { UnwrapTold s.now from to result }
 {
@@ -49,5 +49,5 @@ pub(crate) fn qualified_bytes(payload: &[u8], name: Name) -> Name
     let Some(part) = unwrapped_part(s, name.from, name.to) else {
         return qualified_part(name, name.part);
     };
-    qualified_part(name, within(name.part.start, part))
+    qualified_part(name, part.moved(name.part.start))
 }

@@ -15,6 +15,7 @@ pub(crate) struct Last {
 pub(crate) fn last_of(s: &[u8]) -> Option<Last>
     ensures { LastTold s.now result }
 {
+    // A place counted on by hand: the answer is the place that the last step began at, which an iterator would have to tell besides.
     let mut at = 0;
     while let Some(character) = utf8_at(s, at) {
         if s.len() <= character.next {

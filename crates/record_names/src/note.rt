@@ -11,18 +11,19 @@ const PLACE: u64 = 65536;
 const CHARACTER: u64 = 2097152;
 
 // What is noted of a record: `place` has 16 bits for each of four places, `steps` the rest.
+// Packed words and no name: the notes are words of a fixed number that the caller lends, since there is no heap.
 #[derive(Clone, Copy)]
 pub struct Words {
     pub place: u64,
     pub steps: u64,
 }
 
-// Of a record that doesn't decide, and of one that decides and has no text.
+// The words of a record that doesn't decide, and of one that decides and has no text. The low two bits of `steps` are the kind: 0 and 1.
 pub(crate) const UNDECIDED: Words = Words { place: 0, steps: 0 };
 
 pub(crate) const NO_TEXT: Words = Words { place: 0, steps: 1 };
 
-// The two low bits of a record's name.
+// The kind in the words of a name: 3 where it is a part of the predefined list, 2 where it is one of the payload.
 fn source_kind(source: Source) -> u64
     ensures { result ≡ source_kind source }
 {
@@ -32,15 +33,18 @@ fn source_kind(source: Source) -> u64
     }
 }
 
-// The place of a part, and the part of a place.
-fn place_of(part: Span) -> u64
+// A part packed into 32 bits: its start is in the low 16, its end in the 16 above.
+// Not `names::records::packed`, which gives a place 32 bits: one word holds four places here.
+// `as`, here and below: Rust has no `From` between `usize` and `u64`, nor from `u64` to `u32`; what is cut off a word fits.
+fn noted_place(part: Span) -> u64
     requires { (part.start < 65536) × (part.end < 65536) }
     ensures { result ≡ part.start + 65536 * part.end }
 {
     part.start as u64 + PLACE * (part.end as u64)
 }
 
-fn part_of(place: u64) -> Span
+// The part that the low 32 bits of a number pack.
+fn noted_part(place: u64) -> Span
     ensures { result ≡ noted_part place }
 {
     Span {
@@ -49,12 +53,14 @@ fn part_of(place: u64) -> Span
     }
 }
 
-// A record's name with its size, and the part of its source that is left of it as a class name.
+// Packs a record's name with its size, and the part that its class name is made of. `place` has the name's part in its low 32 bits and the
+// class name's part in the 32 above. `steps` has, from its low bits on, the kind (2 bits), the operation (2), `from` and `to` (21 each) and
+// the size (18).
 pub(crate) fn words_of(name: Name, class: Span) -> Words
     requires { NameFits name × (class.start < 65536) × (class.end < 65536) }
     ensures { WordsTold name class result }
 {
-    let place = place_of(name.part) + PLACE * PLACE * place_of(class);
+    let place = noted_place(name.part) + PLACE * PLACE * noted_place(class);
     let characters = u64::from(name.from)
         + CHARACTER * (u64::from(name.to) + CHARACTER * (name.size as u64));
     let low = source_kind(name.source) + 4 * u64::from(name.operation.number());
@@ -64,6 +70,7 @@ pub(crate) fn words_of(name: Name, class: Span) -> Words
     }
 }
 
+// The source of a name, by the kind in its words.
 fn source_of(kind: u64) -> Source
     ensures { result ≡ source_of kind }
 {
@@ -74,14 +81,14 @@ fn source_of(kind: u64) -> Source
     }
 }
 
-// The name that words of kind 2 or 3 say.
+// The name that `words_of` packed into words; their kind is 2 or 3.
 fn noted_name(words: Words) -> Name
     ensures { result ≡ noted_name words.place words.steps }
 {
     let Words { place, steps } = words;
     Name {
         source: source_of(steps % 4),
-        part: part_of(place),
+        part: noted_part(place),
         from: (steps / 4 / 4 % CHARACTER) as u32,
         to: (steps / 4 / 4 / CHARACTER % CHARACTER) as u32,
         operation: Operation::of(steps / 4 % 4),
@@ -90,7 +97,7 @@ fn noted_name(words: Words) -> Name
     }
 }
 
-// What the record builds whose words these are, if it decides: a name, or none if its text can't be built.
+// What is noted of a record by its words: whether it decides, and then its name, or none if its text can't be built.
 #[tactic(auto, unfolding(crate::specs::told::Note::noted))]
 pub fn noted(words: Words) -> Option<Option<Name>>
     ensures { result ≡ noted words.place words.steps }
@@ -102,7 +109,7 @@ pub fn noted(words: Words) -> Option<Option<Name>>
     }
 }
 
-// The size of a class name's text: without L and ; it has two bytes less. It begins later than the name then.
+// The size of a class name's text. Where the class name starts later in its source than the name, L and ; are left out: two bytes less.
 pub fn class_size(size: usize, start: usize, first: usize) -> usize
     ensures { result ≡ class_size size start first }
 {
@@ -124,13 +131,14 @@ fn class_of(name: Name, part: Span) -> Name
     }
 }
 
-// Its class name.
+// What is noted of a record's class name by the record's words: whether the record decides, and then the class name, or none if its text can't
+// be built.
 pub fn noted_class(words: Words) -> Option<Option<Name>>
     ensures { result ≡ noted_class words.place words.steps }
 {
     let Some(name) = noted(words)? else {
         return Some(None);
     };
-    let part = part_of(words.place / PLACE / PLACE);
+    let part = noted_part(words.place / PLACE / PLACE);
     Some(Some(class_of(name, part)))
 }

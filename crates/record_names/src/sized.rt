@@ -6,7 +6,7 @@ ghost use Rattle.record_names.specs.told.Sized.{limit_of, ClipTold, SizeTold};
 
 use crate::class_name::qualified_bytes;
 use crate::note::{NO_TEXT, UNDECIDED, Words, words_of};
-use foundation::{Context, Span, Tables};
+use foundation::{Context, Span};
 use names::name::{Name, Operation, PREDEFINED, Source};
 use names::stream::put_name;
 
@@ -47,18 +47,8 @@ fn size_of(bytes: &[u8], name: Name) -> usize
         ..name
     };
     // A record's name is made of bytes, so that nothing else is looked into.
-    let context = Context {
-        payload: bytes,
-        d2: &[],
-        ends: &[],
-        notes: &[],
-        tables: Tables {
-            records: 0,
-            types: 0,
-            first_nullable: None,
-        },
-    };
-    let size = put_name(&context, unstepped, false, &mut [], 0);
+    let context = Context::of_bytes(bytes);
+    let size = put_name(&context, Some(unstepped), false, &mut [], 0);
     if 131072 < size {
         return 0;
     }

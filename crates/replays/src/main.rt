@@ -1,6 +1,7 @@
 // Reads inputs one after the other, each with its length in 4 bytes in front, and writes a line for each.
 #![tactic(auto)]
 
+use line::input::four_in;
 use line::stream::read_full;
 use std::io;
 use std::io::Read;
@@ -11,7 +12,7 @@ fn replay<R: Read>(rt: &impl Print, input: &mut R) -> io::Result<bool> {
     if read_full(input, &mut head) < head.len() {
         return Ok(false);
     }
-    let size = u32::from_le_bytes(head) as usize;
+    let size = four_in(&head, 0, 0);
     let mut area = [0u8; 262190];
     let length = answer_lines::answer_input(input, size, &mut area);
     rt.write_all(&area[..length])?;

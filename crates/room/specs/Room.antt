@@ -1,4 +1,4 @@
--- The room that the sheet and text of an input take, told without areas to write into; document 02, requests 3 and 10.
+-- The room that the sheet and text of an input take, told without areas to write into.
 -- Assumes nothing.
 use Rattle.std.specs.Prelude.{List, [], ◌∷◌, map, ℕ, ◌+◌, ◌-◌, length}
 use Rattle.foundation.specs.Results.{Cause, Res, ok, refused}
@@ -31,7 +31,7 @@ record_kinds = 1 ∷ 2 ∷ 3 ∷ 4 ∷ 5 ∷ 6 ∷ 7 ∷ 8 ∷ 9 ∷ []
 abbrev pub record_counts : List Row → List ℕ
 record_counts rows = map (λ k. count_kind k rows) record_kinds
 
--- The lists by which document 02, request 10, counts text, in its order: properties, functions, constructors, aliases, and the head as a list of one.
+-- The lists by which text is counted, in this order: properties, functions, constructors, aliases, and the head as a list of one.
 -- The rows of a list are its records and all they own: parameters, types, default descriptors. Kind 9 is of no list, and has no text.
 abbrev pub lists_of : ℕ → Declarations → List (List Row)
 lists_of kind d =

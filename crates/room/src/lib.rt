@@ -7,9 +7,9 @@ ghost use Rattle.promises.specs.Promises.{longest_sheet};
 ghost use Rattle.room.specs.Room as definition;
 ghost use Rattle.room.specs.told.RoomTold.{others_bytes, parameters_left, TextsRise, texts_between, tells_room};
 
-use declarations::body::Sections;
 use inputs::outcome::{Refusal, Sizes};
 use metadata::measure;
+use passes::Reply;
 
 // How many records of each kind, 1 to 9; `counts` are those of kind 9.
 #[derive(Clone, Copy)]
@@ -45,10 +45,11 @@ pub struct RoomAnswer {
 
 // The parameters' records. Every kind has a width of its own, so that they take what all the others leave of the sheet: 23 bytes are the head's and
 // kind 9's, 24 a constructor's with its kind 7, 29 a function's with its, 40 a property's, 13 an alias's, 10 a type's, 6 a parameter's.
-fn parameters_in(sizes: Sizes, sections: Sections) -> usize
-    requires { (others_bytes sizes sections ≤ sizes.sheet) × (sizes.sheet ≤ longest_sheet) }
-    ensures { result ≡ parameters_left sizes sections }
+fn parameters_in(reply: Reply) -> usize
+    requires { (others_bytes reply.sizes reply.sections ≤ reply.sizes.sheet) × (reply.sizes.sheet ≤ longest_sheet) }
+    ensures { result ≡ parameters_left reply.sizes reply.sections }
 {
+    let Reply { sizes, sections } = reply;
     let closed = 24 * sections.constructors.count + 29 * sections.functions.count;
     let others = 23
         + closed
@@ -59,10 +60,11 @@ fn parameters_in(sizes: Sizes, sections: Sections) -> usize
 }
 
 // The text of each list: what stands between where the text before it ends and where its own does. The aliases' ends where the whole text does.
-fn texts_in(text: usize, sections: Sections) -> ListTexts
-    requires { TextsRise text sections }
-    ensures { result ≡ texts_between text sections }
+fn texts_in(reply: Reply) -> ListTexts
+    requires { TextsRise reply.sizes.text reply.sections }
+    ensures { result ≡ texts_between reply.sizes.text reply.sections }
 {
+    let Reply { sizes, sections } = reply;
     let head = sections.head.text;
     let constructors = sections.constructors.state.text;
     let functions = sections.functions.state.text;
@@ -71,13 +73,13 @@ fn texts_in(text: usize, sections: Sections) -> ListTexts
         properties: properties - functions,
         functions: functions - constructors,
         constructors: constructors - head,
-        aliases: text - properties,
+        aliases: sizes.text - properties,
         head,
     }
 }
 
 // Tells of one class, from k, mv, d1's units, d2's units and where its strings end, what its reading takes; or the refusal that reading gives
-// short of 11 and 12.
+// short of 11 and 12. The parameters are those of the C call, as those of metadata's `read`.
 pub fn room(
     k: i32,
     version: [i32; 3],
@@ -88,10 +90,9 @@ pub fn room(
     ensures { definition.room (input k version d1.now d2.now ends.now) ≡ tells_room result }
 {
     let reply = measure(k, version, d1, d2, ends)?;
-    let sizes = reply.sizes;
-    let sections = reply.sections;
-    let parameters = parameters_in(sizes, sections);
-    let texts = texts_in(sizes.text, sections);
+    let parameters = parameters_in(reply);
+    let texts = texts_in(reply);
+    let Reply { sizes, sections } = reply;
     let constructors = sections.constructors.count;
     let functions = sections.functions.count;
     Ok(RoomAnswer {

@@ -3,11 +3,9 @@
 use mathlib.Core.Path.{◌≡◌, refl, ap, sym, subst, ◌∙◌}
 use mathlib.Core.List.{List, [], ◌∷◌, ◌++◌, append-nil}
 use mathlib.Core.Option.{none, some}
-use Prim.Native.Nat.{ℕ, suc, ◌≤◌, ◌<◌}
+use Prim.Native.Nat.{ℕ, suc}
 use native.Mathlib.Omega.{arith}
-use borrow.Author.Tests.{ne_eqb, le-leb, lt-leb, ltb-true, ltb-false}
-use lib.Dec.{ltb}
-use mathlib.Core.Bool.{Bool, true, false}
+use borrow.Author.Tests.{ne_eqb}
 use lib.ListN.{length}
 use Rattle.foundation.specs.Choices.{map_option}
 use Rattle.foundation.specs.Results.{ok, ◌from◌}
@@ -17,7 +15,7 @@ use Rattle.wire.specs.Messages.{index, bytes_of}
 use Rattle.messages.specs.told.Asked.{FoundTold, number_told, number_in, piece_in, piece_told, PieceInside, BytesTold, index_told, index_in}
 use Rattle.messages.proofs.FindLaws.{number_is, index_is, piece_is}
 use Rattle.sheet.specs.Rows.{Row, row}
-use Rattle.declaration_rows.specs.Declarations.{invariant, star, Argument, projected, blank, types_of, count_of}
+use Rattle.declaration_rows.specs.Declarations.{star, Argument, projected, blank, types_of, count_of}
 use Rattle.declaration_rows.specs.Rows.{argument_role, type_cells, types_rows}
 use Rattle.schema.specs.Reading.{pure, ◌>>=◌, enter, Scope}
 use Rattle.schema.specs.Types.{Walk, type_in, projection_of, projection_in, argument_in}
@@ -100,19 +98,7 @@ star-same projection.Out h = absurd (omega arith)
 star-same projection.Invariant h = absurd (omega arith)
 star-same projection.Star h = refl
 
--- A number that is one of the four, and another.
-module _ (f : Option WireValue) {x : Option ℕ} (e : x ≡ number_in f) {n : ℕ} (g : x ≡ Some n) where
-  pub projection-small : {p : ℕ} → n ≡ p → p < 4 → p ≡ projection_of (number_told (number_in f))
-  projection-small q h = sym q ∙ rw (← e, g, le-leb n star (omega arith))
-
-  pub projection-other : (n ≡ 0 → ⊥) → (n ≡ 1 → ⊥) → (n ≡ star → ⊥) → invariant ≡ projection_of (number_told (number_in f))
-  projection-other u v w = go (ltb n 4) refl
-    where
-      go : (t : Bool) → ltb n 4 ≡ t → invariant ≡ projection_of (number_told (number_in f))
-      go true k = let h : n < 4 = ltb-true n 4 k in projection-small (omega arith) (omega arith)
-      go false k = let h : 4 ≤ n = ltb-false n 4 k in rw (← e, g, lt-leb n star (omega arith))
-
--- The same from what was found of its three fields.
+-- What an argument's own fields tell, from what was found of the three.
 module _ (base : ℕ) (msg : List ℕ) {one two three : Option WireValue} (a : FoundTold base msg Type-Argument-projection one)
     (b : FoundTold base msg Type-Argument-type two) (c : FoundTold base msg Type-Argument-type_id three)
     (p : Projection) (e : projection_number p ≡ projection_of (number_told (number_in one))) where

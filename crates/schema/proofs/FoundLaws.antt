@@ -56,6 +56,14 @@ given-found payload c start end m at d deep nullable o l b e =
       sym (first-same it.2),
     )
 
+-- A part that is moved, by its places.
+pub found-moved : {p : Span} {left : ℕ} (base a b : ℕ) → (p.start ≡ a + base) × (p.end ≡ b + base)
+    → record { part = p; reached = record { nullable = false; left = left } } ≡ found_type (base + a) (base + b) false left
+found-moved {p} base a b (e, f) =
+    let e' : base + a ≡ p.start = omega (arith, e) in
+    let f' : base + b ≡ p.end = omega (arith, f) in
+    rw (e', f')
+
 -- The type at an index.
 module _ (payload notes : List ℕ) (tables : Tables) (i left : ℕ) where
   pub entry-none-left : left ≡ 0 → EntryFound payload notes tables i left None

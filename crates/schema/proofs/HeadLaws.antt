@@ -9,8 +9,8 @@ use native.Mathlib.Omega.{arith}
 use lib.Dec.{eqb}
 use lib.ListN.{length}
 use Rattle.std.specs.declared.option.Option as rust
-use Rattle.std.specs.Option.{option_flatten}
-use Rattle.std.specs.Prelude.{unwrap_or}
+use Rattle.std.specs.Option.{option_flatten, option_or}
+use Rattle.std.specs.Prelude.{unwrap_or, MatchOption}
 use Rattle.std.specs.declared.option.Option.TheVariants.{Some, None}
 use Rattle.foundation.specs.Choices.{if_some}
 use Rattle.foundation.specs.Results.{ok, Part, ◌from◌}
@@ -25,7 +25,7 @@ use Rattle.wire.specs.declared.Field as code
 use Rattle.foundation.specs.declared.Read.{Read}
 use Rattle.std.specs.Prelude.{Ok, Err}
 use Rattle.wire.proofs.WalkLaws.{Leads, leads-start, leads-next, leads-never, leads-end, values-found, values-passed}
-use Rattle.messages.proofs.FindLaws.{as_number, as_piece}
+use Rattle.messages.proofs.FindLaws.{as_number, as_piece, flag-nothing, flag_is}
 use Rattle.schema.specs.told.HeadTold.{is_body, any_of, NameKnown, FlagKnown, ArgumentsKnown, Known, HeadTold}
 use Rattle.schema.specs.declared.head.Seen.{Seen}
 use Rattle.schema.specs.declared.head.TypeHead.{TypeHead}
@@ -34,6 +34,12 @@ use Rattle.foundation.specs.declared.Span.{Span}
 not_body : (p : rust.Option Span) → is_body p ≡ false → p ≡ None
 not_body (Some p) e = let z : ◌≡◌ {A = ℕ} 0 1 = cc in absurd (omega arith)
 not_body None e = refl
+
+-- A flag by the number of its field, if it has one: P is what a test tells of the number.
+pub flag-tested : (k : ℕ) (m : Message) (r : rust.Option ℕ) {b : Bool} (P : ℕ → Type 0) → varint_of k m ≡ number_told r → MatchOption r (b ≡ false) P
+    → ((v : ℕ) → P v → b ≡ not (eqb v 0)) → flag k m ≡ b
+flag-tested k m (Some v) P e h t = flag_is k m e refl ∙ sym (t v h)
+flag-tested k m None P e h t = flag-nothing k m e refl ∙ sym h
 
 -- What a message says of field k, if its first field has another number, and of a field that is its first.
 module _ (k : ℕ) {n : ℕ} (v : Value) (m : Message) (h : n ≡ k → ⊥) where
@@ -73,17 +79,16 @@ module _ (k base : ℕ) (s : List ℕ) (v : WireValue) (m : Message) where
       there (Some p) h = refl
       there None h = let z : ◌≡◌ {A = ℕ} 0 1 = cc in absurd (omega arith)
 
--- One part of what is known: after a field with another number, after one that no longer counts, of one that was not seen, at the end.
+-- One part of what is known: after a field with another number, after one with its own, at the end.
 module _ (m : Message) where
   name-other : {n : ℕ} (v : Value) (rest : Message) (x : rust.Option (rust.Option ℕ)) → (n ≡ Type-class_name → ⊥) → NameKnown x m (field n v ∷ rest) → NameKnown x m rest
   name-other v rest (Some x) h e = e
   name-other v rest None h e = e ∙ index-passed Type-class_name v rest h
 
-  name-kept : (a b : Message) {x : rust.Option (rust.Option ℕ)} {y : rust.Option ℕ} → x ≡ Some y → NameKnown x m a → NameKnown x m b
-  name-kept a b {x} h e = subst (λ (z : rust.Option (rust.Option ℕ)). NameKnown z m b) (sym h) (subst (λ (z : rust.Option (rust.Option ℕ)). NameKnown z m a) h e)
-
-  name-left : (a : Message) {x : rust.Option (rust.Option ℕ)} → x ≡ None → NameKnown x m a → index Type-class_name m ≡ index Type-class_name a
-  name-left a h e = subst (λ (z : rust.Option (rust.Option ℕ)). NameKnown z m a) h e
+  name-with : (a b : Message) (x : rust.Option (rust.Option ℕ)) (y : rust.Option ℕ) → index Type-class_name a ≡ index_told y → NameKnown x m a
+      → NameKnown (option_or x (Some y)) m b
+  name-with a b (Some z) y h e = e
+  name-with a b None y h e = e ∙ h
 
   name-end : (x : rust.Option (rust.Option ℕ)) → NameKnown x m [] → index Type-class_name m ≡ index_told (option_flatten x)
   unfolding index varint_of values
@@ -94,11 +99,9 @@ module _ (m : Message) where
   flag-other v rest (Some x) h e = e
   flag-other v rest None h e = e ∙ flag-passed Type-nullable v rest h
 
-  flag-kept : (a b : Message) {x : rust.Option Bool} {y : Bool} → x ≡ Some y → FlagKnown x m a → FlagKnown x m b
-  flag-kept a b {x} h e = subst (λ (z : rust.Option Bool). FlagKnown z m b) (sym h) (subst (λ (z : rust.Option Bool). FlagKnown z m a) h e)
-
-  flag-left : (a : Message) {x : rust.Option Bool} → x ≡ None → FlagKnown x m a → flag Type-nullable m ≡ flag Type-nullable a
-  flag-left a h e = subst (λ (z : rust.Option Bool). FlagKnown z m a) h e
+  flag-with : (a b : Message) (x : rust.Option Bool) (y : Bool) → flag Type-nullable a ≡ y → FlagKnown x m a → FlagKnown (option_or x (Some y)) m b
+  flag-with a b (Some z) y h e = e
+  flag-with a b None y h e = e ∙ h
 
   flag-end : (x : rust.Option Bool) → FlagKnown x m [] → flag Type-nullable m ≡ unwrap_or x false
   unfolding flag varint_of values
@@ -127,10 +130,6 @@ pub never_false : {A : Type 0} → true ≡ false → A
 never_false e = let z : ◌≡◌ {A = ℕ} 0 1 = cc in absurd (omega arith)
 
 -- What is known after one more field.
-pub known-number : (x : Seen) (v : WireValue) (base : ℕ) (s : List ℕ) (m rest : Message) {n k : ℕ} → n ≡ k
-    → Known x m (field n (value_of base s v) ∷ rest) → Known x m (field k (value_of base s v) ∷ rest)
-known-number x v base s m rest e = subst (λ (i : ℕ). Known x m (field i (value_of base s v) ∷ rest)) e
-
 module _ (x : Seen) (v : WireValue) (base : ℕ) (s : List ℕ) (m rest : Message) where
   pub known-other : {n : ℕ} → (n ≡ Type-argument → ⊥) → (n ≡ Type-nullable → ⊥) → (n ≡ Type-class_name → ⊥)
       → Known x m (field n (value_of base s v) ∷ rest) → Known x m rest
@@ -147,20 +146,14 @@ module _ (x : Seen) (v : WireValue) (base : ℕ) (s : List ℕ) (m rest : Messag
     named-arguments : ArgumentsKnown x.arguments m rest
     named-arguments = arguments-other m (value_of base s v) rest x.arguments (λ e. omega arith) k.arguments
 
-    pub known-named : {y : rust.Option ℕ} → x.name ≡ Some y → Known x m rest
-    known-named h = record {
-      name = name-kept m (field Type-class_name (value_of base s v) ∷ rest) rest h k.name;
-      nullable = named-nullable;
-      arguments = named-arguments;
-    }
-
-    pub known-name : x.name ≡ None → (y : rust.Option ℕ)
-        → ((k : ℕ) (m : Message) → varint_of k m ≡ number_told (value_number v) → index k m ≡ index_told y)
-        → Known (record { name = Some y; nullable = x.nullable; arguments = x.arguments }) m rest
-    known-name h y t =
+    pub known-name : (y : rust.Option ℕ) → ((k : ℕ) (m : Message) → varint_of k m ≡ number_told (value_number v) → index k m ≡ index_told y)
+        → {name : rust.Option (rust.Option ℕ)} → name ≡ option_or x.name (Some y)
+        → Known (record { name = name; nullable = x.nullable; arguments = x.arguments }) m rest
+    known-name y t {name} e =
         let here = field Type-class_name (value_of base s v) ∷ rest in
+        let first = t Type-class_name here (varint-first Type-class_name base s v rest) in
         record {
-          name = name-left m here h k.name ∙ t Type-class_name here (varint-first Type-class_name base s v rest);
+          name = subst (λ (z : rust.Option (rust.Option ℕ)). NameKnown z m rest) (sym e) (name-with m here rest x.name y first k.name);
           nullable = named-nullable;
           arguments = named-arguments;
         }
@@ -172,21 +165,15 @@ module _ (x : Seen) (v : WireValue) (base : ℕ) (s : List ℕ) (m rest : Messag
     flagged-arguments : ArgumentsKnown x.arguments m rest
     flagged-arguments = arguments-other m (value_of base s v) rest x.arguments (λ e. omega arith) k.arguments
 
-    pub known-flagged : {y : Bool} → x.nullable ≡ Some y → Known x m rest
-    known-flagged h = record {
-      name = flagged-name;
-      nullable = flag-kept m (field Type-nullable (value_of base s v) ∷ rest) rest h k.nullable;
-      arguments = flagged-arguments;
-    }
-
-    pub known-flag : x.nullable ≡ None → (y : Bool)
-        → ((k : ℕ) (m : Message) → varint_of k m ≡ number_told (value_number v) → flag k m ≡ y)
-        → Known (record { name = x.name; nullable = Some y; arguments = x.arguments }) m rest
-    known-flag h y t =
+    pub known-flag : (y : Bool) → ((k : ℕ) (m : Message) → varint_of k m ≡ number_told (value_number v) → flag k m ≡ y)
+        → {nullable : rust.Option Bool} → nullable ≡ option_or x.nullable (Some y)
+        → Known (record { name = x.name; nullable = nullable; arguments = x.arguments }) m rest
+    known-flag y t {nullable} e =
         let here = field Type-nullable (value_of base s v) ∷ rest in
+        let first = t Type-nullable here (varint-first Type-nullable base s v rest) in
         record {
           name = flagged-name;
-          nullable = flag-left m here h k.nullable ∙ t Type-nullable here (varint-first Type-nullable base s v rest);
+          nullable = subst (λ (z : rust.Option Bool). FlagKnown z m rest) (sym e) (flag-with m here rest x.nullable y first k.nullable);
           arguments = flagged-arguments;
         }
 

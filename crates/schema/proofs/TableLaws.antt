@@ -5,10 +5,10 @@ use mathlib.Core.Logic.{◌⊎◌, inl, inr}
 use mathlib.Core.List.{List, [], ◌∷◌, ◌++◌, append-nil}
 use mathlib.Core.Option.{some}
 use Prim.Native.Nat.{ℕ, suc, ◌+◌, ◌-◌, ◌^◌, ◌≤◌, ◌<◌}
-use native.Mathlib.Nat.{zero-add}
+use native.Mathlib.Nat.{zero-add, add_comm}
 use native.Mathlib.Omega.{arith}
-use lib.ListN.{length, take, drop, set, get_or, get_elem?, length-append, length-set, length-take, length-drop}
-use lib.Seq.{get_or-set_same, get_or-set_other, take_all}
+use lib.ListN.{length, take, drop, set, get_or, get_elem?, length-append, length-set, length-take}
+use lib.Seq.{get_or-set_same, get_or-set_other, drop-drop}
 use Rattle.std.specs.declared.result.Result.{Result}
 use Rattle.std.specs.declared.result.Result.TheVariants.{Ok, Err}
 use Rattle.foundation.specs.Results.{ok, Part, ◌from◌}
@@ -16,11 +16,10 @@ use Rattle.fields.specs.Fields.{TypeTable-type, TypeTable-first_nullable}
 use Rattle.wire.specs.Wire.{Message, cut}
 use Rattle.wire.specs.Messages.{index, cut_all, messages}
 use Rattle.wire.specs.told.WireTold.{wire_refused, rest_of, part_between}
-use Rattle.messages.specs.told.Asked.{CheckedTold, index_told, bodies, NextBodyTold, EmbeddedIs, EmbeddedInside, EmbeddedTold}
+use Rattle.messages.specs.told.Asked.{CheckedTold, index_told, bodies, NextBodyTold, EmbeddedIs, EmbeddedTold}
 use Rattle.wire.specs.declared.WireError.{WireError}
-use Rattle.messages.proofs.BodyLaws.{checked_at, part-is}
+use Rattle.messages.proofs.BodyLaws.{part-is}
 use Rattle.characters.specs.told.Places.{part_from}
-use Rattle.characters.proofs.PartLaws.{part-part}
 use Rattle.names.specs.told.Index.{packed_places, start_of, end_of}
 use Rattle.names.proofs.NoteLaws.{packed_start, packed-end, elem_snoc, after, after_none, after_one, after-refused}
 use Rattle.lookup.proofs.LookupLaws.{part_longer}
@@ -118,13 +117,12 @@ module _ (bytes : List ℕ) (start : ℕ) (notes : List ℕ) (count at : ℕ) (i
     pub body-in : (a ≤ b) × (b ≤ length bytes) × (at < b)
     body-in = (next.inside.0, next.inside.1, next.later)
 
-    pub noting-refused : (c : Result Unit WireError) → CheckedTold (cut (◌from◌ a (part_from a b bytes))) c → {error : WireError} → c ≡ Err error
+    pub noting-refused : (c : Result Unit WireError) → CheckedTold (cut (part_between 0 bytes a b)) c → {error : WireError} → c ≡ Err error
         → (m : Message) → cut (rest_of 0 bytes start) ≡ ok m → EntriesTold bytes m notes (Err (Wire error))
     noting-refused c k {error} q m w =
         let n = i m w in
         let v = next.is n.rest n.cuts in
-        let f : cut (part_between 0 bytes a b) ≡ wire_refused error =
-        subst (CheckedTold (cut (part_between 0 bytes a b))) q (checked_at bytes a b c k) in
+        let f : cut (part_between 0 bytes a b) ≡ wire_refused error = subst (CheckedTold (cut (part_between 0 bytes a b))) q k in
         n.whole
         ∙ ap (λ (ps : List Part). after n.before (cut_all ps)) v.2
         ∙ after-refused n.before (part_between 0 bytes a b) (bodies TypeTable-type v.0) error f
@@ -140,9 +138,9 @@ module _ (bytes : List ℕ) (start : ℕ) (notes : List ℕ) (count at : ℕ) (i
     pub no_place : length notes ≤ count → (m : Message) → cut (rest_of 0 bytes start) ≡ ok m → EntriesTold bytes m notes (Err NoRoom)
     no_place h m w room = omega (arith, one_more_lem m w, room.long)
 
-    module _ (c : Result Unit WireError) (k : CheckedTold (cut (◌from◌ a (part_from a b bytes))) c) (q : c ≡ Ok tt) where
+    module _ (c : Result Unit WireError) (k : CheckedTold (cut (part_between 0 bytes a b)) c) (q : c ≡ Ok tt) where
       inner : (x : Message) × (cut (part_between 0 bytes a b) ≡ ok x)
-      inner = subst (CheckedTold (cut (part_between 0 bytes a b))) q (checked_at bytes a b c k)
+      inner = subst (CheckedTold (cut (part_between 0 bytes a b))) q k
 
       pub noting-next : count < length notes → a < 2 ^ 32 → {notes' : List ℕ} → notes' ≡ set notes count (packed_places a b)
           → Noting bytes start notes' (count + 1) b
@@ -185,23 +183,18 @@ module _ (payload : List ℕ) (start end : ℕ) (h : start ≤ end) (m : Message
   table-unnoted {why = NoRoom} g = told g
   table-unnoted {why = Wire error} g = told g
 
--- the table in a field
-pub table-place : (payload : List ℕ) (at n : ℕ) {x : Result (rust.Option Span) WireError} → EmbeddedTold at (take (length payload - at) (drop at payload)) n x
-    → {a b : ℕ} → x ≡ Ok (Some (span a b)) → (a ≤ b) × (b ≤ length payload - at)
-table-place payload at n t g =
-    let i = subst (EmbeddedInside (take (length payload - at) (drop at payload))) g t.inside in
-    (i.0, omega (arith, length-take (length payload - at) (drop at payload)))
+-- A part of what stands from a place on is a part of the whole.
+part-rest : (l : List ℕ) (at a b : ℕ) → part_from a b (drop at l) ≡ part_from (at + a) (at + b) l
+part-rest l at a b =
+    let e : b - a ≡ at + b - (at + a) = omega arith in
+    ap (take (b - a)) (drop-drop a at l) ∙ ap (λ (k : ℕ). take k (drop (at + a) l)) e
 
+-- the table in a field
 module _ (payload : List ℕ) (at n : ℕ) (notes : List ℕ) where
   module _ (m : Message) (w : cut (◌from◌ at (drop at payload)) ≡ ok m) {x : Result (rust.Option Span) WireError}
-      (t : EmbeddedTold at (take (length payload - at) (drop at payload)) n x) where
-    body_is : cut (◌from◌ at (take (length payload - at) (drop at payload))) ≡ ok m
-    body_is =
-        let all : length (drop at payload) ≤ length payload - at = rw length-drop (omega arith) in
-        ap (λ (bs : List ℕ). cut (◌from◌ at bs)) (take_all (length payload - at) (drop at payload) all) ∙ w
-
-    found : {y : Result (rust.Option Span) WireError} → x ≡ y → EmbeddedIs at (take (length payload - at) (drop at payload)) n m y
-    found g = subst (EmbeddedIs at (take (length payload - at) (drop at payload)) n m) g (t.is m body_is)
+      (t : EmbeddedTold at (drop at payload) n x) where
+    found : {y : Result (rust.Option Span) WireError} → x ≡ y → EmbeddedIs at (drop at payload) n m y
+    found g = subst (EmbeddedIs at (drop at payload) n m) g (t.is m w)
 
     pub index_none : x ≡ Ok None → TypeIndexTold payload at n m notes (Ok (type_index 0 None))
     unfolding type_table_in
@@ -213,9 +206,7 @@ module _ (payload : List ℕ) (at n : ℕ) (notes : List ℕ) where
 
     module _ {a b : ℕ} (g : x ≡ Ok (Some (span a b))) where
       table-cuts : cut (◌from◌ (at + a) (part_from (at + a) (at + b) payload)) ≡ ok (found g).0
-      table-cuts =
-          let i = subst (EmbeddedInside (take (length payload - at) (drop at payload))) g t.inside in
-          ap (λ (bs : List ℕ). cut (◌from◌ (at + a) bs)) (sym (part-part payload at (length payload) a b i.0 i.1)) ∙ (found g).1
+      table-cuts = ap (λ (bs : List ℕ). cut (◌from◌ (at + a) bs)) (sym (part-rest payload at a b)) ∙ (found g).1
 
       index-told : (r : Result TypeIndex IndexError) → TableTold payload (found g).0 notes r → TypeIndexTold payload at n m notes r
       unfolding type_table_in
@@ -224,6 +215,8 @@ module _ (payload : List ℕ) (at n : ℕ) (notes : List ℕ) where
       index-told (Err NoRoom) h = λ room. h (room.entries (found g).0 (found g).2)
       index-told (Err (Wire error)) h = λ l. rw ((found g).2, h)
 
-      pub index-inline : (r : Result TypeIndex IndexError) → ((m : Message) → cut (◌from◌ (at + a) (part_from (at + a) (at + b) payload)) ≡ ok m → TableTold payload m notes r)
+      pub index-inline : (r : Result TypeIndex IndexError) → {p : Span} → (p.start ≡ a + at) × (p.end ≡ b + at)
+          → ((m : Message) → cut (◌from◌ p.start (part_from p.start p.end payload)) ≡ ok m → TableTold payload m notes r)
           → TypeIndexTold payload at n m notes r
-      index-inline r h = index-told r (h (found g).0 table-cuts)
+      index-inline r {p} (e, f) h =
+          index-told r (h (found g).0 (rw (e ∙ add_comm a at, f ∙ add_comm b at) table-cuts))

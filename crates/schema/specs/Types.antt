@@ -64,7 +64,7 @@ parse_at walk s d m =
     pure (record { nullable = flag Type-nullable m; name = name; arguments = types_of ts }))
 
 -- At most k types nested in one another. Each takes one of those that may be entered, so that k is no limit where no more are left:
--- the law `type-next`.
+-- the law `type_next`.
 unfoldable pub type_at : ℕ → Scope → Walk
 type_at zero s d m left = refused too_many_types 0
 type_at (suc k) s d m left = parse_at (type_at k s) s d m left

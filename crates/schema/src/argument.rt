@@ -12,10 +12,10 @@ use wire::WireValue;
 // How a type stands in another. A type that is no argument is invariant.
 #[derive(Clone, Copy)]
 pub enum Projection {
-    In,
-    Out,
-    Invariant,
-    Star,
+    In = 0,
+    Out = 1,
+    Invariant = 2,
+    Star = 3,
 }
 
 impl Projection {
@@ -23,12 +23,7 @@ impl Projection {
     pub fn number(self) -> u8
         ensures { result ≡ projection_number self }
     {
-        match self {
-            Projection::In => 0,
-            Projection::Out => 1,
-            Projection::Invariant => 2,
-            Projection::Star => 3,
-        }
+        self as u8
     }
 }
 
@@ -42,7 +37,7 @@ pub enum ArgumentHead {
     Nothing,
 }
 
-// What is none of the four numbers is invariant.
+// What is none of the four numbers is invariant. No `From`: the field may be absent too.
 fn projection_of(found: Option<WireValue>) -> Projection
     ensures { projection_number result ≡ projection_of (number_told (number_in found)) }
 {

@@ -1,7 +1,7 @@
 // A type's own fields by one walk of its message. What is told: specs/told/HeadTold.antt.
-ghost use Rattle.std.specs.Prelude.{◌≡◌, false, List, [], ◌∷◌, ℕ};
+ghost use Rattle.std.specs.Prelude.{◌≡◌, List, [], ◌∷◌, ℕ};
 ghost use Rattle.foundation.specs.told.Located.{told_part};
-ghost use Rattle.foundation.specs.Results.{ok, ◌from◌};
+ghost use Rattle.foundation.specs.Results.{ok};
 ghost use Rattle.fields.specs.Fields.{Type-argument, Type-nullable, Type-class_name};
 ghost use Rattle.wire.specs.Wire.{field, Message, cut};
 ghost use Rattle.wire.specs.Messages.{varint_of, index, flag};
@@ -22,7 +22,7 @@ pub struct TypeHead {
     pub arguments: bool,
 }
 
-// The same of the fields before a place: what its class name and its flag say once they were seen. Of each the first counts.
+// What the fields before a place say. Of a class name and of a flag the first counts; `None` is one that was not seen.
 #[derive(Clone, Copy)]
 struct Seen {
     name: Option<Option<u32>>,
@@ -39,22 +39,16 @@ fn index_of(value: WireValue) -> Option<u32>
 fn is_set(value: WireValue) -> bool
     ensures { (k : ℕ) (m : Message) → varint_of k m ≡ number_told (value_number value) → flag k m ≡ result }
 {
-    match value.varint() {
-        Some(n) => n != 0,
-        None => false,
-    }
+    value.varint().is_some_and(|n| n != 0)
 }
 
-// A function for each field: each keeps another word of what was seen, and has a contract of its own.
+// A function for each field: each sets another part of what was seen, and has a contract of its own.
 impl Seen {
     fn with_name(self, value: WireValue) -> Seen
         ensures { (base : ℕ) (s : List ℕ) (m rest : Message) → Known self m (field Type-class_name (value_of base s value) ∷ rest) → Known result m rest }
     {
-        if let Some(_) = self.name {
-            return self;
-        }
         Seen {
-            name: Some(index_of(value)),
+            name: self.name.or(Some(index_of(value))),
             ..self
         }
     }
@@ -62,11 +56,8 @@ impl Seen {
     fn with_flag(self, value: WireValue) -> Seen
         ensures { (base : ℕ) (s : List ℕ) (m rest : Message) → Known self m (field Type-nullable (value_of base s value) ∷ rest) → Known result m rest }
     {
-        if let Some(_) = self.nullable {
-            return self;
-        }
         Seen {
-            nullable: Some(is_set(value)),
+            nullable: self.nullable.or(Some(is_set(value))),
             ..self
         }
     }

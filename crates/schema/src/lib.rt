@@ -6,6 +6,7 @@ ghost use Rattle.std.specs.Prelude.{◌≡◌};
 ghost use Rattle.schema.specs.declared.Stop.TheVariants.{Wire};
 
 use declaration_rows::Role;
+use foundation::Span;
 use sheet::State;
 use wire::WireError;
 
@@ -13,9 +14,9 @@ pub mod name; // name.rt: names by the index in a field
 pub mod head; // head.rt: a type's own fields by one walk
 pub mod argument; // argument.rt: an argument's own fields by one walk
 pub mod table; // table.rt: where the entries of the type table stand
-pub mod types; // types.rt: an entry of the type table, a nullable bit
+pub mod types; // types.rt: an entry of the type table, and whether it is nullable by its place
 pub mod places; // places.rt: where the messages of types stand
-pub mod flags; // flags.rt: flags, with those that count where they are omitted
+pub mod flags; // flags.rt: flags in a field, and a bit of them
 pub mod receiver; // receiver.rt: whether a receiver is there
 
 // Look-ups at this depth or deeper yield no type: `max_depth`.
@@ -33,7 +34,7 @@ pub struct TypeSlot {
 }
 
 // Why a reading stops.
-#[derive(Clone, Copy)]
+#[derive(Clone, Copy, Debug, PartialEq, Eq)]
 pub enum Stop {
     Wire(WireError),
     TooManyTypes,
@@ -54,12 +55,16 @@ pub struct Section {
     pub count: usize,
 }
 
-// Where the message of a type stands among the decoded bytes, whether it is nullable by its place in the type table, and what is left of
-// the depth there.
+// How a type is reached: whether it is nullable by its place in the type table, and what is left of the depth there.
 #[derive(Clone, Copy)]
-pub struct FoundType {
-    pub start: usize,
-    pub end: usize,
+pub struct Reached {
     pub nullable: bool,
     pub left: usize,
+}
+
+// Where the message of a type stands among the decoded bytes, and how it is reached.
+#[derive(Clone, Copy)]
+pub struct FoundType {
+    pub part: Span,
+    pub reached: Reached,
 }

@@ -2,11 +2,11 @@
 // reading has accepted is found again, and nothing is refused. What is told: specs/told/PlacesTold.antt.
 ghost use Rattle.std.specs.Prelude.{◌≡◌, false, ◌+◌, ◌^◌, ◌<◌, ◌≤◌, length};
 ghost use Rattle.schema.specs.told.SchemaTold.{Stands};
-ghost use Rattle.schema.specs.told.PlacesTold.{EntryFound, PlaceFound, DeclaredFound, ArgumentFound};
+ghost use Rattle.schema.specs.told.PlacesTold.{found_type, EntryFound, PlaceFound, DeclaredFound, ArgumentFound};
 
 use crate::argument::{ArgumentHead, argument_head};
 use crate::types::{entry_at, is_nullable};
-use crate::{FoundType, MAX_DEPTH, TypeSlot};
+use crate::{FoundType, MAX_DEPTH, Reached, TypeSlot};
 use fields::TYPE_ARGUMENT;
 use foundation::{Context, Located, Span};
 use messages::{bodies_from, bytes, index};
@@ -20,24 +20,28 @@ fn entry_place(index: u32, left: usize, context: &Context<'_>) -> Option<FoundTy
         return None;
     }
     let entry = entry_at(context, index)?;
-    Some(FoundType {
-        start: entry.start,
-        end: entry.end,
+    let reached = Reached {
         nullable: is_nullable(context.tables, index),
         left: left - 1,
+    };
+    Some(FoundType {
+        part: entry,
+        reached,
     })
 }
 
 // The type in a part of a message, which stands at `base`.
 fn inline_place(base: usize, body: Span, left: usize) -> FoundType
     requires { (body.start ≤ body.end) × (base + body.end < 2 ^ 64) }
-    ensures { result ≡ record { start = base + body.start; end = base + body.end; nullable = false; left = left } }
+    ensures { result ≡ found_type (base + body.start) (base + body.end) false left }
 {
-    FoundType {
-        start: base + body.start,
-        end: base + body.end,
+    let reached = Reached {
         nullable: false,
         left,
+    };
+    FoundType {
+        part: body.moved(base),
+        reached,
     }
 }
 
@@ -59,6 +63,7 @@ fn type_place(
 }
 
 // A declaration's own type, in the message that holds it.
+// The payload's limit is no invariant of `Context`: readers of one name or one entry take a `Context` too, and ask for no limit.
 // Callers show that the message stands in the payload and that this is within its limit: descriptors::defaults from its `PartRoom`.
 pub fn declared_place(msg: Located<'_>, slot: TypeSlot, context: &Context<'_>) -> Option<FoundType>
     requires { Stands context.now.payload.now msg.bytes.now msg.base × (length context.now.payload.now ≤ 32768) }

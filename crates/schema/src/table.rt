@@ -2,16 +2,14 @@
 // specs/Types.antt, `type_table_in`; what the answers tell: specs/told/TableTold.antt.
 ghost use Rattle.std.specs.Prelude.{◌≡◌, ◌^◌, ◌≤◌, ◌<◌, length, set, drop};
 ghost use Rattle.foundation.specs.Results.{ok, ◌from◌};
-ghost use Rattle.fields.specs.Fields.{TypeTable-first_nullable};
 ghost use Rattle.wire.specs.Wire.{cut, Message};
-ghost use Rattle.wire.specs.Messages.{as32, index};
 ghost use Rattle.wire.specs.told.WireTold.{rest_of};
 ghost use Rattle.characters.specs.told.Places.{part_from};
 ghost use Rattle.names.specs.told.Index.{packed_places};
 ghost use Rattle.schema.specs.told.TableTold.{EntriesTold, TableTold, TypeIndexTold};
 
 use fields::{TYPE_TABLE_FIRST_NULLABLE, TYPE_TABLE_TYPE};
-use foundation::Located;
+use foundation::{Located, Span};
 use messages::{bodies_from, check, index, message};
 use names::records::{IndexError, packed};
 
@@ -34,39 +32,28 @@ fn note_entries(bytes: &[u8], at: usize, notes: &mut [u64]) -> Result<usize, Ind
     requires { length bytes.now < 2 ^ 32 }
     ensures { (m : Message) → cut (rest_of 0 bytes.now at) ≡ ok m → EntriesTold bytes.now m notes.new result }
 {
+    // Counted by hand, and not by `enumerate`: the count is the answer after the last entry too.
     let mut count: usize = 0;
-    let table = Located { base: 0, bytes };
+    let table = Located::whole(bytes);
     for entry in bodies_from(table, TYPE_TABLE_TYPE, at) {
-        let message = Located {
-            base: entry.start,
-            bytes: &bytes[entry.start..entry.end],
-        };
-        check(message)?;
+        check(table.part(entry))?;
         if notes.len() <= count {
             return Err(IndexError::NoRoom);
         }
+        // `as`: `index_types` has seen that the payload's places fit 32 bits.
         put_entry(notes, count, entry.start as u32, entry.end as u32);
         count += 1;
     }
     Ok(count)
 }
 
-// The type table from a place to another of the decoded bytes.
-fn note_table(
-    payload: &[u8],
-    start: usize,
-    end: usize,
-    notes: &mut [u64],
-) -> Result<TypeIndex, IndexError>
-    requires { (start ≤ end) × (end ≤ length payload.now) × (length payload.now < 2 ^ 32) }
-    ensures { (m : Message) → cut (◌from◌ start (part_from start end payload.now)) ≡ ok m → TableTold payload.now m notes.new result }
+// The type table in a part of the decoded bytes.
+fn note_table(payload: &[u8], table: Span, notes: &mut [u64]) -> Result<TypeIndex, IndexError>
+    requires { (table.start ≤ table.end) × (table.end ≤ length payload.now) × (length payload.now < 2 ^ 32) }
+    ensures { (m : Message) → cut (◌from◌ table.start (part_from table.start table.end payload.now)) ≡ ok m → TableTold payload.now m notes.new result }
 {
-    let count = note_entries(&payload[..end], start, notes)?;
-    let table = Located {
-        base: start,
-        bytes: &payload[start..end],
-    };
-    let first = index(table, TYPE_TABLE_FIRST_NULLABLE);
+    let count = note_entries(&payload[..table.end], table.start, notes)?;
+    let first = index(Located::of(payload, table), TYPE_TABLE_FIRST_NULLABLE);
     Ok(TypeIndex { count, first })
 }
 
@@ -85,15 +72,11 @@ pub fn index_types(
     if 4294967295 < payload.len() {
         return Err(IndexError::NoRoom);
     }
-    let body = Located {
-        base: at,
-        bytes: &payload[at..],
-    };
-    let Some(table) = message(body, number)? else {
+    let Some(table) = message(Located::rest(payload, at), number)? else {
         return Ok(TypeIndex {
             count: 0,
             first: None,
         });
     };
-    note_table(payload, at + table.start, at + table.end, notes)
+    note_table(payload, table.moved(at), notes)
 }

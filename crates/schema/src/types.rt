@@ -5,16 +5,13 @@ ghost use Rattle.schema.specs.told.SchemaTold.{entry_nullable, entries_in};
 ghost use Rattle.schema.specs.told.TypesTold.{EntryTold};
 
 use foundation::{Context, Span, Tables, wide};
-use names::records::RECORD_WORDS;
+use names::records::{RECORD_WORDS, unpacked};
 
 // Is an entry of the type table nullable by its place?
 pub fn is_nullable(tables: Tables, index: u32) -> bool
     ensures { result ≡ entry_nullable tables.first_nullable index }
 {
-    match tables.first_nullable {
-        Some(first) => first <= index,
-        None => false,
-    }
+    tables.first_nullable.is_some_and(|first| first <= index)
 }
 
 // Where an entry of the type table stands, if there is one at the index.
@@ -35,13 +32,5 @@ pub fn entry_at(context: &Context<'_>, index: u32) -> Option<Span>
         return None;
     }
     let place = notes[RECORD_WORDS * records + i];
-    let start = (place % 4294967296) as usize;
-    let end = (place / 4294967296) as usize;
-    if context.payload.len() < end {
-        return None;
-    }
-    if end < start {
-        return None;
-    }
-    Some(Span { start, end })
+    unpacked(place, context.payload.len())
 }

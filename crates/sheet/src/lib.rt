@@ -1,11 +1,14 @@
-// Writing into a lent area. A write is clipped: what stands past the area's end is left out, and nothing else changes, so that an
-// area of length 0 serves to measure. So a place may lie past its area's end, and no slice from the place on can stand for both. `sets l i vs` is l with vs written over it from place i on.
+// Writing into a lent area. What would go past the area's end is left out and changes nothing else, so that an area of length 0 serves to measure.
+// A place may lie past its area's end, where no slice begins: so each function takes the whole area and a place, and no slice from the place on.
+// In the contracts `sets l i vs` is the list l with vs written over it from place i on.
 #![tactic(auto)]
 
-ghost use Rattle.std.specs.Prelude.{◌≡◌, ◌+◌, ◌≤◌, length, set};
+ghost use Rattle.std.specs.Prelude.{◌≡◌, ◌+◌};
 ghost use Rattle.std.proofs.lemmas.List.Edits.{sets};
 ghost use Rattle.foundation.specs.Digits.{little};
 ghost use Rattle.sheet.specs.Rows.{one_if, present_bytes, absent_bytes};
+
+use foundation::put;
 
 // How far a sheet is written: the places after the last record and the last text, and how many types may still be entered.
 #[derive(Clone, Copy)]
@@ -21,15 +24,6 @@ pub struct Output<'a> {
     pub sheet: &'a mut [u8],
     pub text: &'a mut [u8],
     pub state: State,
-}
-
-// One byte.
-pub fn put(area: &mut [u8], at: usize, b: u8)
-    ensures { area.new ≡ set area.old at b }
-{
-    if at < area.len() {
-        area[at] = b;
-    }
 }
 
 // A number in `width` bytes, the lowest first.

@@ -70,7 +70,7 @@ answers sheet text i a e u =
       ),
     )
 
--- and two such answers keep demand 3 if both are accepted: of neither input anything is asked.
+-- and of two such answers default descriptors say what they are to (`Demand`) if both are accepted: of neither input anything is asked.
 pub two_calls : (sheet text sheet' text' : List ℕ) (i j : Input) (a b : definition.Answer) → Answers sheet text i a → Answers sheet' text' j b
     → a.number ≡ 0 → b.number ≡ 0 → Demand i j a b
 two_calls sheet text sheet' text' i j a b p q y z = p.1.1.1.1.1.0 y sheet' text' j b q.0 q.1.1.1.0 z

@@ -22,8 +22,8 @@ told_in a sheet text = record {
   text = text;
 }
 
--- Demand 3 of an accepted answer and any second one: whatever areas and input the second call is given. A call promises of its own input that d2's
--- units are of 16 bits, so that of two calls nothing is asked but that both are accepted.
+-- What default descriptors say (`Demand`), of an accepted answer and any second one: whatever areas and input the second call is given. A call promises of
+-- its own input that d2's units are of 16 bits, so that of two calls nothing is asked but that both are accepted.
 abbrev pub DemandWithAny : Input → definition.Answer → Type 0
 DemandWithAny i a =
     (sheet text : List ℕ) (j : Input) (b : definition.Answer) → read sheet text j ≡ b → Units j.d2 → b.number ≡ 0 → Demand i j a b

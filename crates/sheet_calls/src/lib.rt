@@ -21,6 +21,7 @@ use inputs::outcome::{Refusal, Sizes};
 use metadata::read;
 use room::{RoomAnswer, room};
 
+// A length is made 64 bits wide by `as`, here and below: Rust has no `From<usize>` for `u64`.
 // A reading's answer as number, detail, sheet length, text length and types: 0 and 0 first where it is accepted, three zeros last where it is refused.
 fn reading_answer(outcome: Result<Sizes, Refusal>) -> [u64; 5]
     ensures { (sheet text : List ℕ) → told outcome sheet text ≡ told_in result sheet text }
@@ -42,8 +43,8 @@ fn reading_answer(outcome: Result<Sizes, Refusal>) -> [u64; 5]
 
 // `read`, with the answer's number, detail, sheet length, text length and types in this order. Areas of 413,695 and 65,534 bytes are always enough.
 // The detail of a 7, 8, 9, 13, 14 or 17 is an offset among the decoded bytes. Of an accepted answer (number 0) it ensures what is promised of every sheet
-// and, with any second one, demand 3. Of any answer it ensures that it is that of every input which differs only in strings of d2 that the reading
-// doesn't fall to (`UnusedStrings`). Nothing is asked of what is handed in.
+// and, with any second one, what default descriptors say (`DemandWithAny`). Of any answer it ensures that it is that of every input which differs only in
+// strings of d2 that the reading doesn't fall to (`UnusedStrings`). Nothing is asked of what is handed in.
 #[unsafe(no_mangle)]
 pub extern "C" fn sheet_read(
     k: i32,

@@ -5,7 +5,7 @@ use mathlib.Core.Bool.{Bool, true, false}
 use mathlib.Core.List.{List}
 use mathlib.Core.Option.{Option, none, some}
 use Prim.Native.Nat.{ℕ, zero, suc, ◌+◌, ◌-◌, ◌≤◌, ◌<◌}
-use native.Mathlib.Nat.{zero-add, add_assoc}
+use native.Mathlib.Nat.{zero-add, add_assoc, add_comm}
 use native.Mathlib.Omega.{arith}
 use lib.ListN.{length, take, drop, get_elem?}
 use Rattle.foundation.specs.Choices.{is_some, map_option}
@@ -59,11 +59,20 @@ module _ {base : ℕ} {msg : List ℕ} {f g : ℕ} where
     field-refused q = record { is = λ m k. subst (EmbeddedIs base msg f m) q (t.is m k); inside = tt }
 
     module _ (q : x ≡ Ok None) {y : rust.Option ℕ} (i : (m : Message) → cut (◌from◌ base msg) ≡ ok m → index g m ≡ index_told y) where
-      pub field-absent : y ≡ None → TypeFieldTold base msg f g (Ok None)
+      field-absent : y ≡ None → TypeFieldTold base msg f g (Ok None)
       field-absent h = record { is = λ m k. (subst (EmbeddedIs base msg f m) q (t.is m k), i m k ∙ ap index_told h); inside = tt }
 
-      pub field-by-index : {n : ℕ} → y ≡ Some n → TypeFieldTold base msg f g (Ok (Some (field.ByIndex n)))
+      field-by-index : {n : ℕ} → y ≡ Some n → TypeFieldTold base msg f g (Ok (Some (field.ByIndex n)))
       field-by-index h = record { is = λ m k. (subst (EmbeddedIs base msg f m) q (t.is m k), i m k ∙ ap index_told h); inside = tt }
+
+    -- what std's `map` makes of an index, if there is one
+    pub field-mapped : x ≡ Ok None → (y : rust.Option ℕ) → ((m : Message) → cut (◌from◌ base msg) ≡ ok m → index g m ≡ index_told y)
+        → (z : rust.Option TypeField) (P : ℕ → TypeField → Type 0) → ((n : ℕ) (t : TypeField) → P n t → t ≡ field.ByIndex n)
+        → found.MatchOption y (z ≡ None) (λ n. found.IsSomeAnd z (P n)) → TypeFieldTold base msg f g (Ok z)
+    field-mapped q None i z P h e = subst (λ (u : rust.Option TypeField). TypeFieldTold base msg f g (Ok u)) (sym e) (field-absent q i refl)
+    field-mapped q (Some n) i None P h e = absurd e
+    field-mapped q (Some n) i (Some t) P h e =
+        subst (λ (u : TypeField). TypeFieldTold base msg f g (Ok (Some u))) (sym (h n t e)) (field-by-index q i refl)
 
   module _ {r : Result (rust.Option TypeField) WireError} (t : TypeFieldTold base msg f g r) where
     type-is : {y : Result (rust.Option TypeField) WireError} → r ≡ y → (m : Message) → cut (◌from◌ base msg) ≡ ok m → TypeIs base msg f g m y
@@ -111,7 +120,7 @@ module _ (base : ℕ) (msg : List ℕ) (start end : ℕ) (ordered : start ≤ en
     bytes-here : BytesTold (base + start) (part_from start end msg) Type-Argument-type (Some (span a b))
     bytes-here = inline-bytes (base + start) (part_from start end msg) t g
 
-    pub inline_in : (0 < a) × (a ≤ b) × (start + b ≤ end)
+    inline_in : (0 < a) × (a ≤ b) × (start + b ≤ end)
     inline_in = let i = bytes-here.inside in (i.2, i.0, omega (arith, i.1, part-short msg start end))
 
     typed-here : (m : Message) → cut (◌from◌ (base + start) (part_from start end msg)) ≡ ok m → NoStar (projection_number p) m
@@ -128,8 +137,8 @@ module _ (base : ℕ) (msg : List ℕ) (start end : ℕ) (ordered : start ≤ en
       checked-here : CheckedTold (cut (part_between (base + start) (part_from start end msg) a b)) w
       checked-here = subst (λ (r : Res Message). CheckedTold r w) same-part k
 
-      pub argument-inline : w ≡ Ok tt → ArgumentTold base msg start end (Ok (head.Inline p (span (start + a) (start + b))))
-      argument-inline h =
+      argument-cut : w ≡ Ok tt → ArgumentTold base msg start end (Ok (head.Inline p (span (start + a) (start + b))))
+      argument-cut h =
           let part = part_from start end msg in
           let whole_is = message-cut Type-Argument-type (base + start) part bytes-here refl checked-here h in
           record {
@@ -137,10 +146,26 @@ module _ (base : ℕ) (msg : List ℕ) (start end : ℕ) (ordered : start ≤ en
             inside = (omega (arith, inline_in), omega (arith, inline_in), omega (arith, inline_in));
           }
 
-      pub argument-refused : {error : WireError} → w ≡ Err error → ArgumentTold base msg start end (Err error)
-      argument-refused h =
+      argument-uncut : {error : WireError} → w ≡ Err error → ArgumentTold base msg start end (Err error)
+      argument-uncut h =
           let uncut = message-refused Type-Argument-type (base + start) (part_from start end msg) bytes-here refl checked-here h in
           record { is = λ m c. (uncut.is m c, own_projection (typed-here m c)); inside = tt }
+
+    -- the same part, moved to where the argument stands
+    module _ (i : Span) (s : i.start ≡ a + start) (e : i.end ≡ b + start) (w : Result Unit WireError)
+        (k : CheckedTold (cut (◌from◌ (base + i.start) (part_from i.start i.end msg))) w) where
+      moved-is : i ≡ span (start + a) (start + b)
+      moved-is = ap (λ (n : ℕ). span n i.end) (s ∙ add_comm a start) ∙ ap (λ (n : ℕ). span (start + a) n) (e ∙ add_comm b start)
+
+      moved-checked : CheckedTold (cut (◌from◌ (base + (start + a)) (part_from (start + a) (start + b) msg))) w
+      moved-checked = subst (λ (j : Span). CheckedTold (cut (◌from◌ (base + j.start) (part_from j.start j.end msg))) w) moved-is k
+
+      pub argument-inline : w ≡ Ok tt → ArgumentTold base msg start end (Ok (head.Inline p i))
+      argument-inline h =
+          subst (λ (j : Span). ArgumentTold base msg start end (Ok (head.Inline p j))) (sym moved-is) (argument-cut w moved-checked h)
+
+      pub argument-refused : {error : WireError} → w ≡ Err error → ArgumentTold base msg start end (Err error)
+      argument-refused h = argument-uncut w moved-checked h
 
   pub argument-by-index : {p : Projection} {n : ℕ} → x ≡ head.ByIndex p n → ArgumentTold base msg start end (Ok (head.ByIndex p n))
   argument-by-index g =

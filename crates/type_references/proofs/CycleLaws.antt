@@ -51,6 +51,7 @@ use Rattle.std.specs.declared.result.Result.TheVariants.{Ok, Err}
 use Rattle.foundation.specs.declared.Span.{Span}
 use Rattle.messages.specs.told.Asked.{span}
 use Rattle.schema.specs.told.SchemaTold.{Walked}
+use Rattle.type_references.specs.declared.waiting.Waiting.{Waiting}
 
 -- What falls: one number of the depth left and of the bytes left. A look-up starts with no bytes and takes one of the depth for those of an
 -- entry, which are fewer than the number that a depth counts for.
@@ -105,7 +106,7 @@ module _ (e : Lent) {index : ℕ} {x : Option Span} (t : EntryTold e.payload (en
   entry-fits (nowhere z) = absurd (omega (arith, entry_below e.payload (entries_in e.tables e.notes) e.tables.types index t g))
   entry-fits (no_entry_area z h) = no_area z (entry-alone h)
 
-  pub entry-room : {nest : List ℕ} {left : ℕ} {s : State} → Ready e s → left ≤ 64 → FitsEntry e index s.types (length nest)
+  pub entry-room : {nest : List Waiting} {left : ℕ} {s : State} → Ready e s → left ≤ 64 → FitsEntry e index s.types (length nest)
       → ParseRoom e (take (b - a) (drop a e.payload)) nest a (left - 1) s
   entry-room h k f =
       let i = entry_in e.payload (entries_in e.tables e.notes) e.tables.types index t g in
@@ -133,7 +134,7 @@ module _ {e : Lent} {msg : List ℕ} {base left role projection : ℕ} {nullable
     entered-area (lent_area h z) k = entered-fits h
     entered-area (no_area z h) k = absurd (k z)
 
-    pub entered-room : {nest : List ℕ} → ParseRoom e msg nest base left s → (length nest ≡ 0 → ⊥)
+    pub entered-room : {nest : List Waiting} → ParseRoom e msg nest base left s → (length nest ≡ 0 → ⊥)
         → NestRoom e msg nest base less s₁
     entered-room h k =
         let one = subst (WalkedSpends s) q n.spends in
@@ -170,6 +171,6 @@ module _ {e : Lent} {msg : List ℕ} {base left role projection : ℕ} {nullable
     stops (lent_area h z) k = let one = subst (EnteredOne s) q n.one in absurd (omega (arith, z k, one))
     stops (no_area z h) k = parse-alone h
 
-    pub parse-stops : {nest : List ℕ} → ParseRoom e msg nest base left s → length nest ≡ 0
+    pub parse-stops : {nest : List Waiting} → ParseRoom e msg nest base left s → length nest ≡ 0
         → ParseTold e msg base left role projection nullable s (Ok s₁) S S₁ T T₁
     parse-stops h k = stops h.room k

@@ -145,6 +145,12 @@ module _ (e : Lent) (msg : List ℕ) (base left : ℕ) where
     };
   }
 
+  -- the same count at the same depth
+  pub counted-is : {deeper count n : ℕ} → deeper ≡ left → {x : Result ℕ WireError} → CountedTold e msg base deeper x → x ≡ Ok n → count ≡ n
+      → CountedTold e msg base left (Ok count)
+  counted-is {deeper} {count} d t g h =
+      subst (λ (k : ℕ). CountedTold e msg base k (Ok count)) d (subst (CountedTold e msg base deeper) (g ∙ ap Ok (sym h)) t)
+
   module _ {x : Result Unit WireError} (t : (m : Message) → cut (◌from◌ base msg) ≡ ok m → CheckedTold (messages Type-argument m) x) where
     pub counted-uncut : {error : WireError} → x ≡ Err error → CountedTold e msg base left (Err error)
     counted-uncut g = record { cuts = λ m k. subst (CheckedTold (messages Type-argument m)) g (t m k); kept = tt }

@@ -8,7 +8,7 @@ use Prim.Native.Nat.{ℕ, ◌+◌, ◌-◌, ◌≤◌, ◌<◌}
 use native.Mathlib.Omega.{arith}
 use borrow.Author.Tests.{ltb-true, ltb-false}
 use lib.Dec.{ltb}
-use lib.ListN.{length, take, drop, set, get_or, length-take}
+use lib.ListN.{length, take, drop, set, length-take}
 use borrow.Rule.Slice.PartMut.{put_mid, mid_of, same_len_mid, mid_len, take_put}
 use Rattle.foundation.specs.Results.{Res, ok, refused, Cause, ◌from◌}
 use Rattle.fields.specs.Fields.{Type-argument, Type-Argument-type}
@@ -46,10 +46,7 @@ use Rattle.type_references.specs.told.Pending.{
   Wait,
   waits,
   pending,
-  waiting_code,
-  at_in,
-  end_in,
-  left_in,
+  waiting_at,
   Pends,
   Stacked,
   PendingInside,
@@ -110,13 +107,23 @@ use Rattle.type_references.proofs.StackLaws.{
   stacked-same,
   inside-same,
   push-below,
+  push-here,
   weight-push,
   stacked-push,
-  inside-push,
   weight_pop,
   stacked_pop,
   stacked_empty,
 }
+
+-- The next body in what stands before an end of a message.
+pub next-before : {base : ℕ} (msg : List ℕ) (end : ℕ) {offset at : ℕ} {bytes : List ℕ} {x : rust.Option Span}
+    → (offset ≡ base + 0) × (bytes ≡ take (end - 0) (drop 0 msg)) → NextBodyTold offset bytes Type-argument at x
+    → NextBodyTold base (take end msg) Type-argument at x
+next-before {base} msg end {offset} {at} {bytes} {x} e t =
+    let place : offset ≡ base = omega (arith, e.0) in
+    let size : end - 0 ≡ end = omega arith in
+    let part : bytes ≡ take end msg = e.1 ∙ ap (λ (n : ℕ). take n msg) size in
+    subst (λ (b : ℕ). NextBodyTold b (take end msg) Type-argument at x) place (subst (λ (l : List ℕ). NextBodyTold offset l Type-argument at x) part t)
 
 -- The next argument of those that wait from a place to an end, and the others from its end on.
 pub record Met (base : ℕ) (msg : List ℕ) (end left a b : ℕ) (w : Wait) : Type 0 where
@@ -156,7 +163,7 @@ module _ {base : ℕ} {msg : List ℕ} {at end left : ℕ} {w : Wait} (p : Pends
       }
 
 -- What is told of a reading while some of its arguments wait: those from a place to an end, then those in the lent area.
-pub record Goes (told : Res (List Row × ℕ)) (c : Scope) (base : ℕ) (msg nest : List ℕ) (height at end deep : ℕ) (s₀ s : State) (S₀ S T₀ T : List ℕ) : Type 0 where
+pub record Goes (told : Res (List Row × ℕ)) (c : Scope) (base : ℕ) (msg : List ℕ) (nest : List Waiting) (height at end deep : ℕ) (s₀ s : State) (S₀ S T₀ T : List ℕ) : Type 0 where
   pub wait : Wait
   pub later : List Wait
   pub here : Pends base msg at end deep wait
@@ -164,29 +171,29 @@ pub record Goes (told : Res (List Row × ℕ)) (c : Scope) (base : ℕ) (msg nes
   pub continues : Continues told c (wait ∷ later) s₀ s S₀ S T₀ T
 
 -- The loop: where it stands in the message, what waits in the lent area below `height`, and what was spent and written.
-pub record Looping (e : Lent) (msg : List ℕ) (base left : ℕ) (s₀ : State) (S₀ T₀ : List ℕ) (at end deep height : ℕ) (s : State) (S T nest : List ℕ) : Type 0 where
+pub record Looping (e : Lent) (msg : List ℕ) (base left : ℕ) (s₀ : State) (S₀ T₀ : List ℕ) (at end deep height : ℕ) (s : State) (S T : List ℕ) (nest : List Waiting) : Type 0 where
   pub ordered : at ≤ end
   pub short : end ≤ length msg
   pub shallow : deep ≤ left
   pub room : height + s.types ≤ s₀.types
   pub fewer : (end - at) + weight nest height ≤ length msg
   pub spends : Spends s₀ s
-  pub inside : (i : ℕ) → i < height → PendingInside msg left (get_or nest i 0)
+  pub inside : (i : ℕ) → i < height → PendingInside msg left (waiting_at nest i)
   pub going : (c : Scope) → Scoped e c → (m : Message) → cut (◌from◌ base msg) ≡ ok m → (ms : List Message) → messages Type-argument m ≡ ok ms
       → (d : ℕ) → left ≡ max_depth - d
       → Goes (rows_read argument_rows (kept (argument_in (type_at allowance c) c d) ms s₀.types)) c base msg nest height at end deep s₀ s S₀ S T₀ T
 
 -- The loop after an answer, or the refusal of all arguments.
-abbrev LoopAfter : Lent → List ℕ → ℕ → ℕ → State → List ℕ → List ℕ → ℕ → ℕ → ℕ → ℕ → List ℕ → List ℕ → List ℕ → Walked → Type 0
+abbrev LoopAfter : Lent → List ℕ → ℕ → ℕ → State → List ℕ → List ℕ → ℕ → ℕ → ℕ → ℕ → List ℕ → List ℕ → List Waiting → Walked → Type 0
 LoopAfter e msg base left s₀ S₀ T₀ at end deep height S T nest (Ok s) = Looping e msg base left s₀ S₀ T₀ at end deep height s S T nest
 LoopAfter e msg base left s₀ S₀ T₀ at end deep height S T nest (Err stop) = ArgumentsTold e msg base left s₀ (Err stop) S₀ S T₀ T
 
 -- What falls: the bytes of the message that are left here and of what waits, and one for each.
-abbrev pub turns : List ℕ → ℕ → ℕ → ℕ → ℕ
+abbrev pub turns : List Waiting → ℕ → ℕ → ℕ → ℕ
 turns nest height at end = (end - at + 1) + weight nest height
 
 -- the same after arguments are passed, with what waits as it was
-module _ {told : Res (List Row × ℕ)} {c : Scope} {base : ℕ} {msg nest : List ℕ} {height at end deep : ℕ} {s₀ s : State} {S₀ S T₀ T : List ℕ}
+module _ {told : Res (List Row × ℕ)} {c : Scope} {base : ℕ} {msg : List ℕ} {nest : List Waiting} {height at end deep : ℕ} {s₀ s : State} {S₀ S T₀ T : List ℕ}
     (o : Goes told c base msg nest height at end deep s₀ s S₀ S T₀ T) {a b : ℕ} (n : Met base msg end deep a b o.wait) where
   first-is : pending c (o.wait ∷ o.later) s.types ≡ pending c (waits o.wait.depth (n.first ∷ n.others) ∷ o.later) s.types
   first-is = ap (λ (ms : List Message). pending c (waits o.wait.depth ms ∷ o.later) s.types) n.are
@@ -196,7 +203,7 @@ module _ {told : Res (List Row × ℕ)} {c : Scope} {base : ℕ} {msg nest : Lis
       continues-refused o.continues
       (first-is ∙ pending-refused c o.wait.depth o.later s.types n.first n.others h)
 
-  module _ (nest' : List ℕ) (f : take height nest' ≡ take height nest) where
+  module _ (nest' : List Waiting) (f : take height nest' ≡ take height nest) where
     goes_dropped : argument_in (type_at allowance c) c o.wait.depth n.first s.types ≡ ok (none, s.types)
         → Goes told c base msg nest' height b end deep s₀ s S₀ S T₀ T
     goes_dropped h = record {
@@ -226,29 +233,25 @@ module _ {told : Res (List Row × ℕ)} {c : Scope} {base : ℕ} {msg nest : Lis
         }
 
   -- a type inside: what is left here waits, the type's own arguments come first
-  goes-entered : (nest' : List ℕ) → height < length nest → nest' ≡ set nest height (waiting_code b end deep) → b ≤ 32768 → end ≤ 32768
+  goes-entered : (nest' : List Waiting) → height < length nest → nest' ≡ set nest height (record { at = b; end = end; left = deep })
       → {projection : ℕ} → NoStar projection n.first → {inner : Message} → message Type-Argument-type n.first ≡ ok (some inner)
       → (x y deep' : ℕ) (ms : List Message) → Pends base msg x y deep' (waits (o.wait.depth + 1) ms)
       → (own : List Row) (s' : State) (S' T' : List ℕ) → PutRows own s'.types s s' S S' T T'
       → rows_read (λ t. rows_in argument_role projection (or_nullable false t)) (type_at allowance c o.wait.depth inner s.types)
       ≡ prefixed own (rows_read argument_rows (kept (argument_in (type_at allowance c) c (o.wait.depth + 1)) ms s'.types))
       → Goes told c base msg nest' (height + 1) x y deep' s₀ s' S₀ S' T₀ T'
-  goes-entered nest' room e h k typed i x y deep' ms p own s' S' T' q r = record {
+  goes-entered nest' room e typed i x y deep' ms p own s' S' T' q r = record {
     wait = waits (o.wait.depth + 1) ms;
     later = waits o.wait.depth n.others ∷ o.later;
     here = p;
-    stacked = stacked-push nest height b end deep room e h k base msg (waits o.wait.depth n.others) o.later n.rest o.stacked;
+    stacked = stacked-push nest height (record { at = b; end = end; left = deep }) room e base msg (waits o.wait.depth n.others) o.later n.rest o.stacked;
     continues =
         continues-written o.continues (waits (o.wait.depth + 1) ms ∷ (waits o.wait.depth n.others ∷ o.later)) own s' S' T'
         (first-is ∙ pending-entered c o.wait.depth o.later s.types n.first n.others typed i own ms s'.types r) q;
   }
 
--- what the lent area holds last
-abbrev pub last_of : List ℕ → ℕ → Waiting
-last_of nest height = record { at = at_in (get_or nest height 0); end = end_in (get_or nest height 0); left = left_in (get_or nest height 0) }
-
 module _ {e : Lent} {msg : List ℕ} {base left : ℕ} {s₀ : State} {S₀ T₀ : List ℕ} where
-  pub loop-start : {nest : List ℕ} → Looping e msg base left s₀ S₀ T₀ 0 (length msg) left 0 s₀ S₀ T₀ nest
+  pub loop-start : {nest : List Waiting} → Looping e msg base left s₀ S₀ T₀ 0 (length msg) left 0 s₀ S₀ T₀ nest
   unfolding weight
   loop-start = record {
     ordered = omega arith;
@@ -272,7 +275,7 @@ module _ {e : Lent} {msg : List ℕ} {base left : ℕ} {s₀ : State} {S₀ T₀
     };
   }
 
-  module _ {at end deep height : ℕ} {s : State} {S T nest : List ℕ} (g : Looping e msg base left s₀ S₀ T₀ at end deep height s S T nest) where
+  module _ {at end deep height : ℕ} {s : State} {S T : List ℕ} {nest : List Waiting} (g : Looping e msg base left s₀ S₀ T₀ at end deep height s S T nest) where
     pub loop-ready : Ready e s₀ → Ready e s
     loop-ready h = ready-after h g.spends
 
@@ -291,11 +294,11 @@ module _ {e : Lent} {msg : List ℕ} {base left : ℕ} {s₀ : State} {S₀ T₀
     loop-room (as_types h) = roomy (omega (arith, g.room, mid_len height (length nest) nest (omega arith)))
     loop-room (as_bytes z h) = nowhere z
 
-    pub waits_kept : {tables : Tables} → WaitingRoom tables s₀.types (length msg) (length nest) → (part : List ℕ)
+    pub waits_kept : {tables : Tables} → WaitingRoom tables s₀.types (length msg) (length nest) → (part : List Waiting)
         → take height (put_mid height (length nest - height) nest part) ≡ take height nest
     waits_kept h part = take_put height (length nest - height) nest part (loop-height h)
 
-    pub lent_length : (part : List ℕ) → length part ≡ length (mid_of height (length nest - height) nest)
+    pub lent_length : (part : List Waiting) → length part ≡ length (mid_of height (length nest - height) nest)
         → length (put_mid height (length nest - height) nest part) ≡ length nest
     lent_length part = same_len_mid height (length nest - height) nest part
 
@@ -307,7 +310,7 @@ module _ {e : Lent} {msg : List ℕ} {base left : ℕ} {s₀ : State} {S₀ T₀
       pop-room (as_types h) = omega (arith, g.room, pop-some)
       pop-room (as_bytes z h) = omega (arith, few-wait, pop-some)
 
-      last-inside : PendingInside msg left (get_or nest (height - 1) 0)
+      last-inside : PendingInside msg left (waiting_at nest (height - 1))
       last-inside = g.inside (height - 1) (omega (arith, pop-some))
 
     module _ {x : rust.Option Span} (t : NextBodyTold base (take end msg) Type-argument at x) where
@@ -330,9 +333,9 @@ module _ {e : Lent} {msg : List ℕ} {base left : ℕ} {s₀ : State} {S₀ T₀
               walked-done argument_rows (kept (argument_in (type_at allowance c) c d) ms s₀.types) (continues-done done) done.written;
         }
 
-        module _ (n : height ≡ 0 → ⊥) {r : Waiting} (w : r ≡ last_of nest (height - 1)) where
-          pub loop-pop : Looping e msg base left s₀ S₀ T₀ r.at r.end r.left (height - 1) s S T nest
-          loop-pop = subst (λ (z : Waiting). Looping e msg base left s₀ S₀ T₀ z.at z.end z.left (height - 1) s S T nest) (sym w) (record {
+        module _ (n : height ≡ 0 → ⊥) {a b : ℕ} (f : a ≡ (waiting_at nest (height - 1)).at) (h : b ≡ (waiting_at nest (height - 1)).end) where
+          pub loop-pop : {l : ℕ} → l ≡ (waiting_at nest (height - 1)).left → Looping e msg base left s₀ S₀ T₀ a b l (height - 1) s S T nest
+          loop-pop k = rw (f, h, k) (record {
             ordered = (last-inside n).ordered;
             short = (last-inside n).short;
             shallow = (last-inside n).deep;
@@ -352,9 +355,8 @@ module _ {e : Lent} {msg : List ℕ} {base left : ℕ} {s₀ : State} {S₀ T₀
                 };
           })
 
-          pub pop-falls : turns nest (height - 1) r.at r.end < turns nest height at end
-          pop-falls = subst (λ (z : Waiting). turns nest (height - 1) z.at z.end < turns nest height at end) (sym w)
-              (omega (arith, weight_pop nest height (pop-some n)))
+          pub pop-falls : turns nest (height - 1) a b < turns nest height at end
+          pop-falls = rw (f, h) (omega (arith, weight_pop nest height (pop-some n)))
 
       -- an argument from a to b
       module _ {a b : ℕ} (q : x ≡ Some (span a b)) where
@@ -363,7 +365,7 @@ module _ {e : Lent} {msg : List ℕ} {base left : ℕ} {s₀ : State} {S₀ T₀
             let i = subst (PieceInside (take end msg)) q t.inside in
             (subst (PieceBegins at) q t.begins, i.0, omega (arith, length-take end msg, i.1), omega (arith, length-take end msg, i.1))
 
-        pub passed-falls : (nest' : List ℕ) → take height nest' ≡ take height nest → turns nest' height b end < turns nest height at end
+        pub passed-falls : (nest' : List Waiting) → take height nest' ≡ take height nest → turns nest' height b end < turns nest height at end
         passed-falls nest' f = omega (arith, weight-same nest nest' height f, body-in)
 
         module _ {r : Result ArgumentHead WireError} (u : ArgumentTold base msg a b r) where
@@ -375,7 +377,7 @@ module _ {e : Lent} {msg : List ℕ} {base left : ℕ} {s₀ : State} {S₀ T₀
           argument_is v m k = subst (ArgumentIs base msg m) v (u.is m k)
 
           -- the loop from b on, once it is known what it tells
-          loop-on : (s' : State) (S' T' nest' : List ℕ) → take height nest' ≡ take height nest → Spends s s'
+          loop-on : (s' : State) (S' T' : List ℕ) (nest' : List Waiting) → take height nest' ≡ take height nest → Spends s s'
               → ((c : Scope) → Scoped e c → (told : Res (List Row × ℕ)) → Goes told c base msg nest height at end deep s₀ s S₀ S T₀ T
               → Goes told c base msg nest' height b end deep s₀ s' S₀ S' T₀ T')
               → Looping e msg base left s₀ S₀ T₀ b end deep height s' S' T' nest'
@@ -455,20 +457,20 @@ module _ {e : Lent} {msg : List ℕ} {base left : ℕ} {s₀ : State} {S₀ T₀
                 push-room (as_types l) = omega (arith, g.room, one_less)
                 push-room (as_bytes z l) = omega (arith, few-wait, body-in)
 
-                module _ (few : length msg ≤ 32768) (room : height < length nest) {nest' : List ℕ} (p : nest' ≡ set nest height (waiting_code b end deep)) where
-                  few-here : (b ≤ 32768) × (end ≤ 32768)
-                  few-here = (omega (arith, body-in), omega (arith, g.short))
+                module _ (room : height < length nest) {nest' : List Waiting} (p : nest' ≡ set nest height (record { at = b; end = end; left = deep })) where
+                  abbrev pushed : Waiting
+                  pushed = record { at = b; end = end; left = deep }
 
-                  pushed-inside : (i : ℕ) → i < height + 1 → PendingInside msg left (get_or nest' i 0)
+                  pushed-inside : (i : ℕ) → i < height + 1 → PendingInside msg left (waiting_at nest' i)
                   pushed-inside i k = go (ltb i height) refl
                     where
-                      go : (t : Bool) → ltb i height ≡ t → PendingInside msg left (get_or nest' i 0)
+                      go : (t : Bool) → ltb i height ≡ t → PendingInside msg left (waiting_at nest' i)
                       go true f =
                           let below : i < height = ltb-true i height f in
-                          inside-same nest nest' msg left height i below (push-below nest height b end deep room p) (g.inside i below)
+                          inside-same nest nest' msg left height i below (push-below nest height pushed room p) (g.inside i below)
                       go false f =
                           let here : i ≡ height = omega (arith, ltb-false i height f) in
-                          rw here (inside-push nest height b end deep room p few-here.0 few-here.1 msg left body-in.2 g.short g.shallow)
+                          subst (λ (k : ℕ). PendingInside msg left (waiting_at nest' k)) (sym here) (subst (PendingInside msg left) (sym (push-here nest height pushed room p)) (record { ordered = body-in.2; short = g.short; deep = g.shallow }))
 
                   pub loop-entered : {deep' : ℕ} → deep' ≡ deep - 1 → Looping e msg base left s₀ S₀ T₀ first last deep' (height + 1) s' S' T' nest'
                   loop-entered {deep'} less = record {
@@ -477,8 +479,8 @@ module _ {e : Lent} {msg : List ℕ} {base left : ℕ} {s₀ : State} {S₀ T₀
                     shallow = omega (arith, g.shallow);
                     room = omega (arith, g.room, one_less);
                     fewer =
-                        let pushed = weight-push nest height b end deep room p few-here.0 few-here.1 in
-                        omega (arith, g.fewer, pushed, inline_in, body-in);
+                        let more = weight-push nest height pushed room p in
+                        omega (arith, g.fewer, more, inline_in, body-in);
                     spends = spends_then g.spends (subst (WalkedSpends s) h n.spends);
                     inside = pushed-inside;
                     going = λ c o m k ms f d l.
@@ -492,14 +494,14 @@ module _ {e : Lent} {msg : List ℕ} {base left : ℕ} {s₀ : State} {S₀ T₀
                           many = in-it.2;
                           deep = omega (arith, go.here.deep);
                         } in
-                        goes-entered go next nest' room p few-here.0 few-here.1 i.3 i.2 first last deep' in-it.0 inner in-it.1 s' S' T'
+                        goes-entered go next nest' room p i.3 i.2 first last deep' in-it.0 inner in-it.1 s' S' T'
                         in-it.3 in-it.4;
                   }
 
                   pub entered-falls : turns nest' (height + 1) first last < turns nest height at end
                   entered-falls =
-                      let pushed = weight-push nest height b end deep room p few-here.0 few-here.1 in
-                      omega (arith, pushed, inline_in, body-in)
+                      let more = weight-push nest height pushed room p in
+                      omega (arith, more, inline_in, body-in)
 
           -- its type by an index
           module _ {projection : Projection} {i : ℕ} (v : r ≡ Ok (head.ByIndex projection i)) {w : Walked} {S' T' : List ℕ}
@@ -513,7 +515,7 @@ module _ {e : Lent} {msg : List ℕ} {base left : ℕ} {s₀ : State} {S₀ T₀
                 subst (λ (r : Res (Option declaration.Argument × ℕ)). PickedTold r shown_rows s z S S' T T') (sym same)
                 (picked_projected (projection_number projection) (resolve_at (type_at allowance c) c d i s.types) s z S S' T T' found)
 
-            module _ (nest' : List ℕ) (f : take height nest' ≡ take height nest) where
+            module _ (nest' : List Waiting) (f : take height nest' ≡ take height nest) where
               loop-kept : {s' : State} → n.found ≡ Ok (Some s') → Looping e msg base left s₀ S₀ T₀ b end deep height s' S' T' nest'
               loop-kept {s'} h = loop-on s' S' T' nest' f (subst (PickedSpends s) h n.told.spends) λ c o told go.
                   let next = next-argument go in

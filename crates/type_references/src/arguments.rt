@@ -6,6 +6,7 @@ ghost use Rattle.type_references.specs.told.ParseTold.{TypeFieldTold, ArgumentTo
 use fields::TYPE_ARGUMENT;
 use foundation::{Context, Located, Span};
 use messages::{bodies_from, check, find_each, index_in, piece_in};
+use schema::TypeSlot;
 use schema::argument::{ArgumentHead, argument_head};
 use schema::types::entry_at;
 use wire::WireError;
@@ -17,23 +18,16 @@ pub(crate) enum TypeField {
     ByIndex(u32),
 }
 
-// The type in a message, if it is there: inline in one field, else by its index in another.
-pub(crate) fn type_field(
-    msg: Located<'_>,
-    inline: u32,
-    indexed: u32,
-) -> Result<Option<TypeField>, WireError>
-    ensures { TypeFieldTold msg.entry.base msg.entry.bytes.now inline indexed result }
+// The type in a message, if it is there: inline in one field of the slot, else by its index in the other.
+pub(crate) fn type_field(msg: Located<'_>, slot: TypeSlot) -> Result<Option<TypeField>, WireError>
+    ensures { TypeFieldTold msg.entry.base msg.entry.bytes.now slot.inline slot.indexed result }
 {
-    let [body, index] = find_each(msg, [inline, indexed]);
+    let [body, index] = find_each(msg, [slot.inline, slot.indexed]);
     if let Some(body) = piece_in(body) {
         check(msg.part(body))?;
         return Ok(Some(TypeField::Inline(body)));
     }
-    match index_in(index) {
-        Some(index) => Ok(Some(TypeField::ByIndex(index))),
-        None => Ok(None),
-    }
+    Ok(index_in(index).map(TypeField::ByIndex))
 }
 
 // The argument in a part of a message: a star, or its projection and its type, which is inline in the message, by its index, or not there. A type
@@ -46,10 +40,7 @@ pub(crate) fn argument_at(msg: Located<'_>, part: Span) -> Result<ArgumentHead, 
     let ArgumentHead::Inline { projection, body } = head else {
         return Ok(head);
     };
-    let inner = Span {
-        start: part.start + body.start,
-        end: part.start + body.end,
-    };
+    let inner = body.moved(part.start);
     check(msg.part(inner))?;
     Ok(ArgumentHead::Inline {
         projection,
@@ -79,6 +70,7 @@ fn is_kept(msg: Located<'_>, left: usize, context: &Context<'_>) -> bool
 pub(crate) fn count_kept(msg: Located<'_>, left: usize, context: &Context<'_>) -> usize
     ensures { CountTold (lent context.now) msg.entry.bytes.now msg.entry.base left result }
 {
+    // Tried by `filter` and `count`, and the proof didn't close: the test needs a part that lies in the message, and that is told step by step.
     let mut count: usize = 0;
     for argument in bodies_from(msg, TYPE_ARGUMENT, 0) {
         if is_kept(msg.part(argument), left, context) {

@@ -1,14 +1,9 @@
 // A type is entered: its row, with how many of its arguments are kept. What is told: specs/told/ParseTold.antt.
-ghost use Rattle.std.specs.Prelude.{◌≡◌, false, [], ◌∷◌, ◌-◌, ◌≤◌};
-ghost use Rattle.foundation.specs.Results.{ok};
-ghost use Rattle.foundation.specs.told.Located.{told_part};
-ghost use Rattle.fields.specs.Fields.{Type-argument};
-ghost use Rattle.wire.specs.Wire.{cut, Message};
-ghost use Rattle.messages.specs.told.Asked.{bodies};
+ghost use Rattle.std.specs.Prelude.{false, [], ◌∷◌, ◌-◌, ◌≤◌};
 ghost use Rattle.names.specs.told.Name.{name_text};
 ghost use Rattle.sheet.specs.Rows.{row};
 ghost use Rattle.sheet.specs.told.Put.{SameAreas, WroteRows};
-ghost use Rattle.declaration_rows.specs.Rows.{type_cells};
+ghost use Rattle.declaration_rows.specs.Rows.{argument_role, type_cells};
 ghost use Rattle.declaration_rows.specs.told.Written.{role_number};
 ghost use Rattle.schema.specs.told.ArgumentTold.{projection_number};
 ghost use Rattle.schema.specs.told.SchemaTold.{lent, Ready};
@@ -16,16 +11,17 @@ ghost use Rattle.schema.specs.told.WroteTold.{walked, Writes};
 ghost use Rattle.type_references.specs.told.ParseTold.{CountedTold, EnterTold, StarTold};
 
 use crate::arguments::count_kept;
+use declaration_rows::kinds::RecordKind;
 use declaration_rows::{Role, put_named};
 use fields::TYPE_ARGUMENT;
-use foundation::{Context, Located};
+use foundation::{Context, Located, put};
 use messages::check_messages;
 use names::name::Name;
-use schema::Stop;
 use schema::argument::Projection;
 use schema::head::type_head;
 use schema::name::class_name_at;
-use sheet::{Output, put, put_bit, put_number};
+use schema::{Reached, Stop};
+use sheet::{Output, put_bit, put_number};
 use wire::WireError;
 
 // How a type's record shows it, apart from what its message says: its role and its projection.
@@ -35,13 +31,11 @@ pub(crate) struct Shown {
     pub projection: Projection,
 }
 
-// Where a type stands: what is left of the depth there, its role and projection, and whether it is nullable by its place in the type table.
+// Where a type stands: how its record shows it, and how it is reached.
 #[derive(Clone, Copy)]
 pub(crate) struct TypePlace {
-    pub left: usize,
-    pub role: Role,
-    pub projection: Projection,
-    pub nullable: bool,
+    pub shown: Shown,
+    pub reached: Reached,
 }
 
 // A type's record.
@@ -58,36 +52,28 @@ fn put_type(
     ensures written { WroteRows (row 6 (type_cells (role_number shown.role) nullable (name_text context.now.payload.now context.now.d2.now name) count (projection_number shown.projection)) ∷ []) (out.old.state.types - 1) out.old out.new }
 {
     let at = out.state.sheet;
-    put(out.sheet, at, 6);
-    put_number(out.sheet, at + 1, 1, shown.role.number() as u64);
+    put(out.sheet, at, RecordKind::Type.number());
+    put_number(out.sheet, at + 1, 1, u64::from(shown.role.number()));
     put_bit(out.sheet, at + 2, nullable);
     out.state.sheet = at + 3;
     out.state.types -= 1;
     put_named(context, name, out);
+    // `as u64`: Rust has no `From<usize>` for `u64`.
     put_number(out.sheet, out.state.sheet, 2, count as u64);
     out.state.sheet += 2;
     put_number(
         out.sheet,
         out.state.sheet,
         1,
-        shown.projection.number() as u64,
+        u64::from(shown.projection.number()),
     );
     out.state.sheet += 1;
 }
 
-// The arguments of a type are cut and counted, if it has any. `left` is left at them.
-fn count_arguments(
-    msg: Located<'_>,
-    left: usize,
-    some: bool,
-    context: &Context<'_>,
-) -> Result<usize, WireError>
-    requires { some ≡ false → (m : Message) → cut (told_part msg) ≡ ok m → bodies Type-argument m ≡ [] }
+// The arguments of a type are cut and counted. `left` is left at them.
+fn count_arguments(msg: Located<'_>, left: usize, context: &Context<'_>) -> Result<usize, WireError>
     ensures { CountedTold (lent context.now) msg.entry.bytes.now msg.entry.base left result }
 {
-    if !some {
-        return Ok(0);
-    }
     check_messages(msg, TYPE_ARGUMENT)?;
     Ok(count_kept(msg, left, context))
 }
@@ -118,19 +104,44 @@ pub(crate) fn enter_type(
 ) -> Result<(), Stop>
     requires { Ready (lent context.now) out.old.state }
     ensures same_areas { SameAreas out.old out.new }
-    ensures written { Writes (EnterTold (lent context.now) msg.entry.bytes.now msg.entry.base place.left (role_number place.role) (projection_number place.projection) place.nullable) out.old (walked result out.new) out.new }
+    ensures written { Writes (EnterTold (lent context.now) msg.entry.bytes.now msg.entry.base place.reached.left (role_number place.shown.role) (projection_number place.shown.projection) place.reached.nullable) out.old (walked result out.new) out.new }
 {
     if out.state.types == 0 {
         return Err(Stop::TooManyTypes);
     }
     let own = type_head(msg);
-    let count = count_arguments(msg, place.left.saturating_sub(1), own.arguments, context)?;
-    let nullable = place.nullable || own.nullable;
-    let name = class_name_at(own.name, context);
-    let shown = Shown {
-        role: place.role,
-        projection: place.projection,
+    let count = if own.arguments {
+        count_arguments(msg, place.reached.left.saturating_sub(1), context)?
+    } else {
+        0
     };
-    put_type(shown, nullable, context, name, count, out);
+    let nullable = place.reached.nullable || own.nullable;
+    let name = class_name_at(own.name, context);
+    put_type(place.shown, nullable, context, name, count, out);
     Ok(())
+}
+
+// An argument's own type, inline in it, is entered in the same way. The type table says nothing of it.
+pub(crate) fn enter_argument(
+    msg: Located<'_>,
+    projection: Projection,
+    left: usize,
+    context: &Context<'_>,
+    out: &mut Output<'_>,
+) -> Result<(), Stop>
+    requires { Ready (lent context.now) out.old.state }
+    ensures same_areas { SameAreas out.old out.new }
+    ensures written { Writes (EnterTold (lent context.now) msg.entry.bytes.now msg.entry.base left argument_role (projection_number projection) false) out.old (walked result out.new) out.new }
+{
+    let place = TypePlace {
+        shown: Shown {
+            role: Role::Argument,
+            projection,
+        },
+        reached: Reached {
+            nullable: false,
+            left,
+        },
+    };
+    enter_type(msg, place, context, out)
 }

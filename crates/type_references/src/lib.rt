@@ -25,8 +25,9 @@ use messages::next_body;
 use parse::{parse_at, resolve_at};
 use schema::argument::Projection;
 use schema::types::entry_at;
-use schema::{ALLOWANCE, MAX_DEPTH, Stop, TypeSlot};
+use schema::{ALLOWANCE, MAX_DEPTH, Reached, Stop, TypeSlot};
 use sheet::Output;
+use waiting::NOTHING_WAITS;
 
 mod waiting; // waiting.rt: what waits in a lent area
 mod arguments; // arguments.rt: the arguments of a type
@@ -34,32 +35,34 @@ mod enter; // enter.rt: a type's own row
 mod parse; // parse.rt: types inside types
 
 // A type whose message is cut, in an area for so many that wait.
+// `msg`, `context` and `out` are no struct: each call would make one anew, since the message changes, and each function take it apart.
+// The message has to lie in the payload, the first half of `Stands`. All of it is for what finds types again by place; here a message is only read.
 fn type_in_area<const N: usize>(
     msg: Located<'_>,
     place: TypePlace,
     context: &Context<'_>,
     out: &mut Output<'_>,
 ) -> Result<(), Stop>
-    requires { Ready (lent context.now) out.old.state × (msg.base + length msg.bytes.now ≤ length context.now.payload.now) × (place.left ≤ 64) × FitsType (lent context.now) msg.base msg.bytes.now out.old.state.types N × (N ≤ allowance) }
+    requires { Ready (lent context.now) out.old.state × (msg.base + length msg.bytes.now ≤ length context.now.payload.now) × (place.reached.left ≤ 64) × FitsType (lent context.now) msg.base msg.bytes.now out.old.state.types N × (N ≤ allowance) }
     ensures same_areas { SameAreas out.old out.new }
-    ensures written { Writes (ParseTold (lent context.now) msg.entry.bytes.now msg.entry.base place.left (role_number place.role) (projection_number place.projection) place.nullable) out.old (walked result out.new) out.new }
+    ensures written { Writes (ParseTold (lent context.now) msg.entry.bytes.now msg.entry.base place.reached.left (role_number place.shown.role) (projection_number place.shown.projection) place.reached.nullable) out.old (walked result out.new) out.new }
 {
-    let mut nest = [0u64; N];
+    let mut nest = [NOTHING_WAITS; N];
     parse_at(msg, place, context, &mut nest, out)
 }
 
 // The same in the area that is enough for it. Most have no argument, so that nothing waits: they are lent an empty one, which costs nothing to
-// clear. Where there is no type to look up, as many wait as a message has bytes at most: 1 KB is enough for a short one. Elsewhere as many wait
-// as types may be entered: 16 KB.
+// clear. Where there is no type to look up, as many wait as a message has bytes at most: 768 bytes are enough for a short one. Elsewhere as many
+// wait as types may be entered: 12 KB.
 fn own_type(
     msg: Located<'_>,
     place: TypePlace,
     context: &Context<'_>,
     out: &mut Output<'_>,
 ) -> Result<(), Stop>
-    requires { Ready (lent context.now) out.old.state × (msg.base + length msg.bytes.now ≤ length context.now.payload.now) × (place.left ≤ 64) }
+    requires { Ready (lent context.now) out.old.state × (msg.base + length msg.bytes.now ≤ length context.now.payload.now) × (place.reached.left ≤ 64) }
     ensures same_areas { SameAreas out.old out.new }
-    ensures written { Writes (ParseTold (lent context.now) msg.entry.bytes.now msg.entry.base place.left (role_number place.role) (projection_number place.projection) place.nullable) out.old (walked result out.new) out.new }
+    ensures written { Writes (ParseTold (lent context.now) msg.entry.bytes.now msg.entry.base place.reached.left (role_number place.shown.role) (projection_number place.shown.projection) place.reached.nullable) out.old (walked result out.new) out.new }
 {
     let Some(_) = next_body(msg, TYPE_ARGUMENT, 0) else {
         return type_in_area::<0>(msg, place, context, out);
@@ -81,7 +84,7 @@ fn entry_in_area<const N: usize>(
     ensures same_areas { SameAreas out.old out.new }
     ensures written { Writes (LookedTold (lent context.now) index max_depth (role_number role) invariant) out.old (walked result out.new) out.new }
 {
-    let mut nest = [0u64; N];
+    let mut nest = [NOTHING_WAITS; N];
     let shown = Shown {
         role,
         projection: Projection::Invariant,
@@ -103,10 +106,7 @@ fn looked_up(
     let Some(entry) = entry_at(context, index) else {
         return Ok(());
     };
-    let msg = Located {
-        base: entry.start,
-        bytes: &context.payload[entry.start..entry.end],
-    };
+    let msg = Located::of(context.payload, entry);
     let Some(_) = next_body(msg, TYPE_ARGUMENT, 0) else {
         return entry_in_area::<0>(index, role, context, out);
     };
@@ -125,16 +125,20 @@ pub fn declared_type(
     ensures same_areas { SameAreas out.old out.new }
     ensures written { Writes (OptionalTold (lent context.now) msg.entry.bytes.now msg.entry.base slot.inline slot.indexed (role_number slot.role)) out.old (walked result out.new) out.new }
 {
-    let Some(field) = type_field(msg, slot.inline, slot.indexed)? else {
+    let Some(field) = type_field(msg, slot)? else {
         return Ok(());
     };
     match field {
         TypeField::Inline(body) => {
             let place = TypePlace {
-                left: MAX_DEPTH,
-                role: slot.role,
-                projection: Projection::Invariant,
-                nullable: false,
+                shown: Shown {
+                    role: slot.role,
+                    projection: Projection::Invariant,
+                },
+                reached: Reached {
+                    nullable: false,
+                    left: MAX_DEPTH,
+                },
             };
             own_type(msg.part(body), place, context, out)
         }

@@ -12,26 +12,26 @@ ghost use Rattle.type_references.specs.told.OptionalTold.{LookedTold};
 ghost use Rattle.type_references.specs.told.ParseTold.{ArgumentsTold, FitsEntry, NestRoom, ParseRoom};
 
 use crate::arguments::argument_at;
-use crate::enter::{Shown, TypePlace, enter_star, enter_type};
-use crate::waiting::{push, waiting_at};
+use crate::enter::{Shown, TypePlace, enter_argument, enter_star, enter_type};
+use crate::waiting::Waiting;
 use declaration_rows::Role;
 use fields::TYPE_ARGUMENT;
-use foundation::{Context, Located};
+use foundation::{Context, Located, Span};
 use messages::next_body;
-use schema::Stop;
 use schema::argument::ArgumentHead;
 use schema::types::{entry_at, is_nullable};
+use schema::{Reached, Stop};
 use sheet::Output;
 
 // The arguments of the type in a message, one after the other, and theirs. `left` is left at them; what waits stands in `nest`, and a look-up is
-// lent what is free of it. The loop has no list to go over: it counts what waits in `height`, beside the place in the message, and ends where
-// neither has more.
+// lent what is free of it. A loop by hand, since no list holds what it goes over: after an inline argument it goes on inside it, and the rest waits. `height`
+// counts what waits.
 #[cycle(arguments_at_parse_at_resolve_at)]
 fn arguments_at(
     msg: Located<'_>,
     left: usize,
     context: &Context<'_>,
-    nest: &mut [u64],
+    nest: &mut [Waiting],
     out: &mut Output<'_>,
 ) -> Result<(), Stop>
     requires { NestRoom (lent context.now) msg.bytes.now nest.old msg.base left out.old.state }
@@ -43,33 +43,24 @@ fn arguments_at(
     let mut deep = left;
     let mut height: usize = 0;
     loop {
-        let before = Located {
-            base: msg.base,
-            bytes: &msg.bytes[..end],
-        };
+        let before = msg.part(Span { start: 0, end });
         let Some(part) = next_body(before, TYPE_ARGUMENT, at) else {
             if height == 0 {
                 return Ok(());
             }
             height -= 1;
-            let outer = waiting_at(nest, height);
-            at = outer.at;
-            end = outer.end;
-            deep = outer.left;
+            let outer = nest[height];
+            at = usize::from(outer.at);
+            end = usize::from(outer.end);
+            deep = usize::from(outer.left);
             continue;
         };
         at = part.end;
         match argument_at(msg, part)? {
             ArgumentHead::Star => enter_star(context, out)?,
             ArgumentHead::Inline { projection, body } => {
-                let place = TypePlace {
-                    left: deep,
-                    role: Role::Argument,
-                    projection,
-                    nullable: false,
-                };
-                enter_type(msg.part(body), place, context, out)?;
-                push(nest, height, at, end, deep);
+                enter_argument(msg.part(body), projection, deep, context, out)?;
+                nest[height] = Waiting::of(at, end, deep);
                 height += 1;
                 at = body.start;
                 end = body.end;
@@ -93,18 +84,24 @@ pub(crate) fn parse_at(
     msg: Located<'_>,
     place: TypePlace,
     context: &Context<'_>,
-    nest: &mut [u64],
+    nest: &mut [Waiting],
     out: &mut Output<'_>,
 ) -> Result<(), Stop>
-    requires { ParseRoom (lent context.now) msg.bytes.now nest.old msg.base place.left out.old.state }
+    requires { ParseRoom (lent context.now) msg.bytes.now nest.old msg.base place.reached.left out.old.state }
     ensures same_areas { SameAreas out.old out.new }
-    ensures written { Writes (ParseTold (lent context.now) msg.entry.bytes.now msg.entry.base place.left (role_number place.role) (projection_number place.projection) place.nullable) out.old (walked result out.new) out.new }
+    ensures written { Writes (ParseTold (lent context.now) msg.entry.bytes.now msg.entry.base place.reached.left (role_number place.shown.role) (projection_number place.shown.projection) place.reached.nullable) out.old (walked result out.new) out.new }
 {
     enter_type(msg, place, context, out)?;
     if nest.len() == 0 {
         return Ok(());
     }
-    arguments_at(msg, place.left.saturating_sub(1), context, nest, out)
+    arguments_at(
+        msg,
+        place.reached.left.saturating_sub(1),
+        context,
+        nest,
+        out,
+    )
 }
 
 // The type at an index of the type table, or nothing.
@@ -114,7 +111,7 @@ pub(crate) fn resolve_at(
     left: usize,
     shown: Shown,
     context: &Context<'_>,
-    nest: &mut [u64],
+    nest: &mut [Waiting],
     out: &mut Output<'_>,
 ) -> Result<(), Stop>
     requires { Ready (lent context.now) out.old.state × (left ≤ 64) × FitsEntry (lent context.now) index out.old.state.types (length nest.old) }
@@ -127,15 +124,11 @@ pub(crate) fn resolve_at(
     let Some(entry) = entry_at(context, index) else {
         return Ok(());
     };
-    let place = TypePlace {
-        left: left - 1,
-        role: shown.role,
-        projection: shown.projection,
+    let reached = Reached {
         nullable: is_nullable(context.tables, index),
+        left: left - 1,
     };
-    let msg = Located {
-        base: entry.start,
-        bytes: &context.payload[entry.start..entry.end],
-    };
+    let place = TypePlace { shown, reached };
+    let msg = Located::of(context.payload, entry);
     parse_at(msg, place, context, nest, out)
 }

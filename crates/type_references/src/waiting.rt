@@ -1,34 +1,33 @@
-// What waits while an inner type is read: in a lent area, the arguments of the outer types, the innermost last. The numbers:
-// specs/told/Pending.antt, `waiting_code`.
-ghost use Rattle.std.specs.Prelude.{◌≡◌, ◌≤◌, ◌<◌, length, set, get_or};
-ghost use Rattle.type_references.specs.told.Pending.{waiting_code, at_in, end_in, left_in};
+// What waits while an inner type is read: in a lent area, the arguments of the outer types, the innermost last.
+ghost use Rattle.std.specs.Prelude.{◌≡◌, ◌≤◌};
 
-// The arguments from a place to an end of the message, and what is left of the depth there.
+// The arguments from a place to an end of the message, and what is left of the depth there. Places among at most 32,768 bytes fit 16 bits, a
+// depth of at most 64 fits 8.
 #[derive(Clone, Copy)]
 pub(crate) struct Waiting {
-    pub at: usize,
-    pub end: usize,
-    pub left: usize,
+    pub at: u16,
+    pub end: u16,
+    pub left: u8,
 }
 
-// Places among at most 32,768 bytes fit 16 bits, a depth of at most 64 the rest.
-// It requires room, which the walk has shown to be there, so that a push has no second answer.
-pub(crate) fn push(nest: &mut [u64], height: usize, at: usize, end: usize, left: usize)
-    requires { (height < length nest.old) × (at ≤ 32768) × (end ≤ 32768) × (left ≤ 64) }
-    ensures { nest.new ≡ set nest.old height (waiting_code at end left) }
-{
-    nest[height] = at as u64 + 65536 * end as u64 + 4294967296 * left as u64;
-}
+// What stands in an area where nothing waits yet.
+pub(crate) const NOTHING_WAITS: Waiting = Waiting {
+    at: 0,
+    end: 0,
+    left: 0,
+};
 
-// What was pushed last below a height. It requires that a number stands there.
-pub(crate) fn waiting_at(nest: &[u64], height: usize) -> Waiting
-    requires { height < length nest.now }
-    ensures { result ≡ record { at = at_in (get_or nest.now height 0); end = end_in (get_or nest.now height 0); left = left_in (get_or nest.now height 0) } }
-{
-    let code = nest[height];
-    Waiting {
-        at: (code % 65536) as usize,
-        end: (code / 65536 % 65536) as usize,
-        left: (code / 4294967296) as usize,
+impl Waiting {
+    // It requires places and a depth that fit, so that it has no second answer: `arguments_at` shows it from its `NestRoom`.
+    pub(crate) fn of(at: usize, end: usize, left: usize) -> Waiting
+        requires { (at ≤ 32768) × (end ≤ 32768) × (left ≤ 64) }
+        ensures { result ≡ record { at = at; end = end; left = left } }
+    {
+        // By `as`: Rust has no `From` to fewer bits.
+        Waiting {
+            at: at as u16,
+            end: end as u16,
+            left: left as u8,
+        }
     }
 }

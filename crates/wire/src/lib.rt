@@ -10,6 +10,8 @@ ghost use Rattle.wire.specs.Wire.{group, read_fixed, read_value, is_field_number
 ghost use Rattle.wire.specs.told.WireTold.{rest_of, value_number, piece_of, GroupsTold, VarintAt, DelimitedAt, ValueTold, FieldTold, FieldAt, ShortTold, ShortFieldTold, FieldsNext};
 
 use foundation::{Located, Read, Span};
+use std::error::Error;
+use std::fmt;
 
 // The refusals of a reading. Each tells the offset, among the decoded bytes, of what was being read.
 #[derive(Clone, Copy, Debug, PartialEq, Eq)]
@@ -22,7 +24,23 @@ pub enum WireError {
     WireType { kind: u8, place: usize },
 }
 
-// What a varint's byte gives, after `earlier` bytes of it: its low 7 bits, the tenth only its lowest. The continuation bit is dropped.
+impl fmt::Display for WireError {
+    fn fmt<W: fmt::Write>(&self, f: &mut fmt::Formatter<W>) -> fmt::Result {
+        match self {
+            WireError::VarintCutShort { place } => write!(f, "varint cut short at {place}"),
+            WireError::OversizedVarint { place } => write!(f, "oversized varint at {place}"),
+            WireError::PastItsMessage { place } => write!(f, "past its message at {place}"),
+            WireError::FieldTooLarge { place } => write!(f, "field too large at {place}"),
+            WireError::ForbiddenField { place } => write!(f, "field number forbidden at {place}"),
+            WireError::WireType { kind, place } => write!(f, "wire type {kind} at {place}"),
+        }
+    }
+}
+
+impl Error for WireError {}
+
+// What a byte of a varint gives, with `earlier` bytes of the varint before it: its low 7 bits, of the tenth byte only the lowest bit. The
+// continuation bit is dropped.
 fn group_of(byte: u8, earlier: usize) -> u8
     requires { earlier < 10 }
     ensures { result ≡ group (9 - earlier) byte }
@@ -33,10 +51,13 @@ fn group_of(byte: u8, earlier: usize) -> u8
     byte % 128
 }
 
-// The first step: the continuation bits are dropped. The groups of the varint at a place are written into an area of ten bytes, in the order of
-// its bytes. The answer is how many groups there are, which is how many bytes the varint has. A byte after the tenth makes it oversized.
-fn groups_at(s: Located<'_>, at: usize, groups: &mut [u8]) -> Result<usize, WireError>
-    requires { (at ≤ length s.bytes.now) × (length groups.old ≡ 10) }
+// The first of the encoding guide's two steps for a varint: the continuation bits are dropped. The groups of the varint at a place are written
+// into an area of ten bytes, in the order of its bytes. The answer is how many groups there are, which is how many bytes the varint has. A byte
+// after the tenth makes it oversized.
+// Here and below a place `at` lies in the slice, as each caller has tested. With the rest of the slice in its place, a `Located` of its own would be
+// made for each value, and every place in an answer would have to be added to again.
+fn groups_at(s: Located<'_>, at: usize, groups: &mut [u8; 10]) -> Result<usize, WireError>
+    requires { at ≤ length s.bytes.now }
     ensures { GroupsTold s.entry.base s.entry.bytes.now at groups.new result }
 {
     let place = s.base + at;
@@ -69,8 +90,8 @@ fn number_of<const BASE: u64>(digits: &[u8]) -> u64
     value
 }
 
-// A varint of any size, by the encoding guide's two steps: the second joins the groups, from the last to the first. Past the slice's end it is
-// refused as cut short.
+// A varint of any size, by the encoding guide's two steps: the second joins the groups, from the last to the first. A place past the slice's
+// end is refused as a varint that is cut short.
 fn long_varint_at(s: Located<'_>, at: usize) -> Result<Read<u64>, WireError>
     ensures { VarintAt s.entry.base s.entry.bytes.now at result }
 {
@@ -85,7 +106,7 @@ fn long_varint_at(s: Located<'_>, at: usize) -> Result<Read<u64>, WireError>
     Ok(Read { value, next })
 }
 
-// The varint at a place, if it has one or two bytes, as most have. These are the two steps for short varints: the continuation bit, which only
+// The varint at a place, if it has one or two bytes, as most have. The guide's two steps in plain arithmetic: the continuation bit, which only
 // the first of two bytes has, is dropped; then the groups are joined, the last first.
 fn short_varint(s: &[u8], at: usize) -> Option<Read<u64>>
     ensures { ShortTold s.now at result }
@@ -111,7 +132,7 @@ fn short_varint(s: &[u8], at: usize) -> Option<Read<u64>>
     })
 }
 
-// The varint at a place. Past the slice's end it is refused as cut short.
+// The varint at a place. A place past the slice's end is refused as a varint that is cut short.
 pub fn varint_at(s: Located<'_>, at: usize) -> Result<Read<u64>, WireError>
     ensures { VarintAt s.entry.base s.entry.bytes.now at result }
 {
@@ -124,6 +145,7 @@ pub fn varint_at(s: Located<'_>, at: usize) -> Result<Read<u64>, WireError>
 #[derive(Clone, Copy)]
 pub enum WireValue {
     Varint(u64),
+    // Nobody takes these values but to show them. With a variant for 4 bytes and one for 8, each `match` would have two arms with the same answer.
     Fixed { width: usize, number: u64 },
     // The bytes of a length-delimited value.
     Body(Span),
@@ -175,7 +197,8 @@ fn fixed_at(s: Located<'_>, at: usize, width: usize) -> Result<Read<WireValue>, 
     })
 }
 
-// A length as a varint and that many bytes; past the slice's end refused as its varint is.
+// A length as a varint, and that many bytes after it. A place past the slice's end is refused as a varint that is cut short.
+// A `usize` becomes a `u64` by `as`, and back where it is at most a length, here and in `short_field`: `try_from` would add an arm that no input reaches.
 pub fn delimited_at(s: Located<'_>, at: usize) -> Result<Span, WireError>
     ensures { DelimitedAt s.entry.base s.entry.bytes.now at result }
 {
@@ -190,7 +213,8 @@ pub fn delimited_at(s: Located<'_>, at: usize) -> Result<Span, WireError>
     })
 }
 
-// The value after a tag at the offset `place`, by its wire type: a number, since one that is none of the four is told as it is.
+// The value at a place, after a tag at the offset `place`, by the tag's wire type. The wire type is a number and no enum: one that is none of
+// the four stands in the refusal as it is.
 fn value_at(s: Located<'_>, place: usize, kind: u8, at: usize) -> Result<Read<WireValue>, WireError>
     requires { at ≤ length s.bytes.now }
     ensures { ValueTold s.entry.base s.entry.bytes.now (read_value place kind (rest_of s.entry.base s.entry.bytes.now at)) result }
@@ -251,8 +275,9 @@ fn tagged_at(s: Located<'_>, at: usize, tag: Read<u64>) -> Result<Read<Field>, W
     })
 }
 
-// The field at a place, if its tag and the varint after it have one or two bytes each, and it is a varint or a body in the slice. A tag below 8
-// is field 0, which is forbidden; no such tag has a number that is too large.
+// The field at a place by the short way, for most fields: its tag has one or two bytes, so has the varint after the tag, and the value is that
+// varint, or a body of that length which ends in the slice. For any other field the answer is None. So it is for a tag below 8, which is field
+// 0: `tagged_at` refuses it. A tag of two bytes is below 2^14, so that its field number isn't too large.
 #[inline(always)]
 fn short_field(s: &[u8], at: usize) -> Option<Read<Field>>
     ensures { ShortFieldTold s.now at result }
@@ -263,6 +288,7 @@ fn short_field(s: &[u8], at: usize) -> Option<Read<Field>>
     }
     let number = (tag.value / 8) as u32;
     let first = short_varint(s, tag.next)?;
+    // The wire type. Only 0 and 2 are read the short way; any other is left to `value_at`.
     let kind = tag.value % 8;
     if kind == 0 {
         return Some(Read {
@@ -293,7 +319,7 @@ fn short_field(s: &[u8], at: usize) -> Option<Read<Field>>
     })
 }
 
-// The field at a place; past the slice's end refused as its tag is.
+// The field at a place. A place past the slice's end is refused as a tag that is cut short.
 #[inline(always)]
 pub fn field_at(s: Located<'_>, at: usize) -> Result<Read<Field>, WireError>
     ensures { FieldAt s.entry.base s.entry.bytes.now at result }
@@ -317,8 +343,9 @@ fn is_among<const N: usize>(numbers: [u32; N], number: u32) -> bool
     false
 }
 
-// A walk over the fields of a slice that is asked for some numbers: short fields with none of them are passed over. It ends at the slice's end, and after a
-// field that is refused.
+// A walk over the fields of a slice, for somebody who looks for some field numbers. A field that `short_field` reads and that has none of these
+// numbers is passed over. Every other field is given, so that the caller tests its number. The walk ends at the slice's end, and after a field
+// that is refused.
 #[derive(Clone, Copy)]
 pub struct Fields<'a, const N: usize> {
     s: Located<'a>,
@@ -362,7 +389,7 @@ impl<'a, const N: usize> Iterator for Fields<'a, N> {
     }
 }
 
-// The fields with some numbers, from a place on; others may come between them.
+// The fields with some numbers, from a place on. Fields with other numbers may come between them.
 pub fn fields_from<'a, const N: usize>(
     s: Located<'a>,
     numbers: [u32; N],

@@ -7,34 +7,18 @@ use messages::repeated::Two;
 use std::io;
 use wire::{WireError, WireValue};
 
-fn print_refusal(rt: &impl Print, error: WireError) -> io::Result<()> {
-    match error {
-        WireError::VarintCutShort { place } => println!(rt; "varint cut short at {place}"),
-        WireError::OversizedVarint { place } => println!(rt; "oversized varint at {place}"),
-        WireError::PastItsMessage { place } => println!(rt; "past its message at {place}"),
-        WireError::FieldTooLarge { place } => println!(rt; "field too large at {place}"),
-        WireError::ForbiddenField { place } => println!(rt; "field number forbidden at {place}"),
-        WireError::WireType { kind, place } => println!(rt; "wire type {kind} at {place}"),
-    }
-}
-
 fn print_value(rt: &impl Print, value: WireValue) -> io::Result<()> {
     match value {
         WireValue::Varint(n) => println!(rt; " varint {n}"),
         WireValue::Fixed { width, number } => {
-            let bits = 8 * (width as u64 % 16);
+            let bits = 8 * (width % 16);
             println!(rt; " fixed{bits} {number}")
         }
         WireValue::Body(body) => println!(rt; " body {}..{}", body.start, body.end),
     }
 }
 
-// Some bytes as a whole message: the first has the offset 0.
-fn whole(bytes: &[u8]) -> Located<'_> {
-    Located { base: 0, bytes }
-}
-
-// The fields of a message, up to its end or to what refuses it.
+// The fields of a message, up to its end or to what refuses it. A loop by hand: `wire::fields_from` gives only fields of numbers that are named.
 fn show(rt: &impl Print, name: &str, s: Located<'_>) -> io::Result<()> {
     println!(rt; "{name}")?;
     let mut at = 0;
@@ -42,7 +26,7 @@ fn show(rt: &impl Print, name: &str, s: Located<'_>) -> io::Result<()> {
         let step = wire::field_at(s, at);
         print!(rt; "  ")?;
         match step {
-            Err(error) => return print_refusal(rt, error),
+            Err(error) => return println!(rt; "{error}"),
             Ok(read) => {
                 print!(rt; "field {}", read.value.number)?;
                 print_value(rt, read.value.value)?;
@@ -53,7 +37,7 @@ fn show(rt: &impl Print, name: &str, s: Located<'_>) -> io::Result<()> {
     Ok(())
 }
 
-// The numbers of a packed run.
+// The numbers of a packed run. One function with `show` would take a trait of what is read, with the law that it goes on: longer than this second loop.
 fn show_packed(rt: &impl Print, name: &str, s: Located<'_>) -> io::Result<()> {
     print!(rt; "{name}\n ")?;
     let mut at = 0;
@@ -61,7 +45,7 @@ fn show_packed(rt: &impl Print, name: &str, s: Located<'_>) -> io::Result<()> {
         let step = wire::varint_at(s, at);
         print!(rt; " ")?;
         match step {
-            Err(error) => return print_refusal(rt, error),
+            Err(error) => return println!(rt; "{error}"),
             Ok(read) => {
                 print!(rt; "{}", read.value)?;
                 at = read.next;
@@ -74,7 +58,7 @@ fn show_packed(rt: &impl Print, name: &str, s: Located<'_>) -> io::Result<()> {
 fn print_checked(rt: &impl Print, checked: Result<(), WireError>) -> io::Result<()> {
     match checked {
         Ok(()) => println!(rt; "whole"),
-        Err(error) => print_refusal(rt, error),
+        Err(error) => println!(rt; "{error}"),
     }
 }
 
@@ -83,14 +67,14 @@ fn show_cuts(rt: &impl Print, name: &str, s: &[u8]) -> io::Result<()> {
     println!(rt; "{name}, cut short")?;
     for n in 0..s.len() {
         print!(rt; "  {n} bytes: ")?;
-        print_checked(rt, messages::check(whole(&s[..n])))?;
+        print_checked(rt, messages::check(Located::whole(&s[..n])))?;
     }
     Ok(())
 }
 
 fn show_first(rt: &impl Print, name: &str, s: &[u8], number: u32) -> io::Result<()> {
     print!(rt; "{name}\n  first")?;
-    match messages::find(whole(s), number) {
+    match messages::find(Located::whole(s), number) {
         Some(value) => print_value(rt, value),
         None => println!(rt; " nothing"),
     }
@@ -107,16 +91,16 @@ fn print_two(rt: &impl Print, two: Two) -> io::Result<()> {
 // The first two of a repeated number, mod 2^32.
 fn show_two(rt: &impl Print, name: &str, s: &[u8], number: u32) -> io::Result<()> {
     print!(rt; "{name}\n  ")?;
-    match messages::repeated::first_two(whole(s), number) {
+    match messages::repeated::first_two(Located::whole(s), number) {
         Ok(two) => print_two(rt, two),
-        Err(error) => print_refusal(rt, error),
+        Err(error) => println!(rt; "{error}"),
     }
 }
 
 fn published(rt: &impl Print) -> io::Result<()> {
-    show(rt, "150", whole(b"\x08\x96\x01"))?;
-    show(rt, "testing", whole(b"\x12\x07testing"))?;
-    show(rt, "embedded", whole(b"\x1a\x03\x08\x96\x01"))?;
+    show(rt, "150", Located::whole(b"\x08\x96\x01"))?;
+    show(rt, "testing", Located::whole(b"\x12\x07testing"))?;
+    show(rt, "embedded", Located::whole(b"\x1a\x03\x08\x96\x01"))?;
     show(
         rt,
         "the message in it",
@@ -128,9 +112,13 @@ fn published(rt: &impl Print) -> io::Result<()> {
     show(
         rt,
         "hello and 1, 2, 3",
-        whole(b"\x22\x05hello\x28\x01\x28\x02\x28\x03"),
+        Located::whole(b"\x22\x05hello\x28\x01\x28\x02\x28\x03"),
     )?;
-    show(rt, "packed", whole(b"\x32\x06\x03\x8e\x02\x9e\xa7\x05"))?;
+    show(
+        rt,
+        "packed",
+        Located::whole(b"\x32\x06\x03\x8e\x02\x9e\xa7\x05"),
+    )?;
     show_packed(
         rt,
         "the numbers in it",
@@ -145,30 +133,30 @@ fn numbers(rt: &impl Print) -> io::Result<()> {
     show(
         rt,
         "-2",
-        whole(b"\x08\xfe\xff\xff\xff\xff\xff\xff\xff\xff\x01"),
+        Located::whole(b"\x08\xfe\xff\xff\xff\xff\xff\xff\xff\xff\x01"),
     )?;
     show(
         rt,
         "-1",
-        whole(b"\x08\xff\xff\xff\xff\xff\xff\xff\xff\xff\x01"),
+        Located::whole(b"\x08\xff\xff\xff\xff\xff\xff\xff\xff\xff\x01"),
     )?;
     show(
         rt,
         "only the lowest bit of the tenth byte",
-        whole(b"\x08\x80\x80\x80\x80\x80\x80\x80\x80\x80\x7e"),
+        Located::whole(b"\x08\x80\x80\x80\x80\x80\x80\x80\x80\x80\x7e"),
     )?;
     show(
         rt,
         "fixed64 200",
-        whole(b"\x31\xc8\x00\x00\x00\x00\x00\x00\x00"),
+        Located::whole(b"\x31\xc8\x00\x00\x00\x00\x00\x00\x00"),
     )?;
-    show(rt, "fixed32 200", whole(b"\x35\xc8\x00\x00\x00"))?;
+    show(rt, "fixed32 200", Located::whole(b"\x35\xc8\x00\x00\x00"))?;
     show(
         rt,
         "double 25.4",
-        whole(b"\x29\x66\x66\x66\x66\x66\x66\x39\x40"),
+        Located::whole(b"\x29\x66\x66\x66\x66\x66\x66\x39\x40"),
     )?;
-    show(rt, "float 25.4", whole(b"\x2d\x33\x33\xcb\x41"))
+    show(rt, "float 25.4", Located::whole(b"\x2d\x33\x33\xcb\x41"))
 }
 
 fn cut_short(rt: &impl Print) -> io::Result<()> {
@@ -184,9 +172,9 @@ fn cut_short(rt: &impl Print) -> io::Result<()> {
 }
 
 fn wire_types(rt: &impl Print) -> io::Result<()> {
-    show(rt, "wire type 3", whole(b"\x0b"))?;
-    show(rt, "wire type 4", whole(b"\x08\x01\x0c"))?;
-    show(rt, "wire type 6", whole(b"\x0e\x01"))?;
+    show(rt, "wire type 3", Located::whole(b"\x0b"))?;
+    show(rt, "wire type 4", Located::whole(b"\x08\x01\x0c"))?;
+    show(rt, "wire type 6", Located::whole(b"\x0e\x01"))?;
     show(
         rt,
         "wire type 7",
@@ -198,22 +186,22 @@ fn wire_types(rt: &impl Print) -> io::Result<()> {
     show(
         rt,
         "oversized",
-        whole(b"\x08\xff\xff\xff\xff\xff\xff\xff\xff\xff\xff\x01"),
+        Located::whole(b"\x08\xff\xff\xff\xff\xff\xff\xff\xff\xff\xff\x01"),
     )?;
     show(
         rt,
         "body one byte past its message",
-        whole(b"\x12\x08testing"),
+        Located::whole(b"\x12\x08testing"),
     )?;
     show(
         rt,
         "body of 2^64 - 1 bytes",
-        whole(b"\x12\xff\xff\xff\xff\xff\xff\xff\xff\xff\x01"),
+        Located::whole(b"\x12\xff\xff\xff\xff\xff\xff\xff\xff\xff\x01"),
     )
 }
 
 fn field_numbers(rt: &impl Print) -> io::Result<()> {
-    show(rt, "field 0", whole(b"\x00\x05"))?;
+    show(rt, "field 0", Located::whole(b"\x00\x05"))?;
     show(
         rt,
         "field 0 with a body",
@@ -222,21 +210,41 @@ fn field_numbers(rt: &impl Print) -> io::Result<()> {
             bytes: b"\x08\x01\x02\x00",
         },
     )?;
-    show(rt, "field 0 with wire type 3", whole(b"\x03"))?;
+    show(rt, "field 0 with wire type 3", Located::whole(b"\x03"))?;
     show(
         rt,
         "field 0 in a tag of three bytes",
-        whole(b"\x80\x80\x00\x05"),
+        Located::whole(b"\x80\x80\x00\x05"),
     )?;
-    show(rt, "field 1 in a tag of two bytes", whole(b"\x88\x00\x05"))?;
-    show(rt, "field 536,870,911", whole(b"\xf8\xff\xff\xff\x0f\x05"))?;
-    show(rt, "field 536,870,912", whole(b"\x80\x80\x80\x80\x10\x05"))?;
-    show(rt, "field 2^32 - 1", whole(b"\xf8\xff\xff\xff\x7f\x05"))?;
-    show(rt, "field 2^32", whole(b"\x80\x80\x80\x80\x80\x01\x05"))?;
+    show(
+        rt,
+        "field 1 in a tag of two bytes",
+        Located::whole(b"\x88\x00\x05"),
+    )?;
+    show(
+        rt,
+        "field 536,870,911",
+        Located::whole(b"\xf8\xff\xff\xff\x0f\x05"),
+    )?;
+    show(
+        rt,
+        "field 536,870,912",
+        Located::whole(b"\x80\x80\x80\x80\x10\x05"),
+    )?;
+    show(
+        rt,
+        "field 2^32 - 1",
+        Located::whole(b"\xf8\xff\xff\xff\x7f\x05"),
+    )?;
+    show(
+        rt,
+        "field 2^32",
+        Located::whole(b"\x80\x80\x80\x80\x80\x01\x05"),
+    )?;
     show(
         rt,
         "field 2^32 with wire type 7",
-        whole(b"\x87\x80\x80\x80\x80\x01"),
+        Located::whole(b"\x87\x80\x80\x80\x80\x01"),
     )
 }
 

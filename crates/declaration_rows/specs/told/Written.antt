@@ -11,8 +11,8 @@ use Rattle.declaration_rows.specs.Declarations.{Signature, signed}
 use Rattle.declaration_rows.specs.declared.SignatureNames.{SignatureNames}
 use Rattle.declaration_rows.specs.declared.Role.{Role}
 use Rattle.declaration_rows.specs.declared.Role.TheVariants as role
-use Rattle.declaration_rows.specs.declared.Record.{Record}
-use Rattle.declaration_rows.specs.declared.Record.TheVariants as record_kind
+use Rattle.declaration_rows.specs.declared.kinds.RecordKind.{RecordKind}
+use Rattle.declaration_rows.specs.declared.kinds.RecordKind.TheVariants as record_kind
 use Rattle.declaration_rows.specs.Rows.{name_cell, signature_cells, return_role, receiver_role, parameter_role, vararg_role, argument_role, underlying_role, expanded_role}
 
 -- A role, and a kind of records, by its number on the sheet.
@@ -25,12 +25,13 @@ role_number role.Argument = argument_role
 role_number role.Underlying = underlying_role
 role_number role.Expanded = expanded_role
 
-abbrev pub record_number : Record → ℕ
+abbrev pub record_number : RecordKind → ℕ
 record_number record_kind.Head = 1
 record_number record_kind.Constructor = 2
 record_number record_kind.Function = 3
 record_number record_kind.Property = 4
 record_number record_kind.Parameter = 5
+record_number record_kind.Type = 6
 record_number record_kind.Default = 7
 record_number record_kind.Alias = 8
 record_number record_kind.Aliases = 9

@@ -67,7 +67,7 @@ pub record AliasesTold (class : Bool) (e : Lent) (msg : List ℕ) (base : ℕ) (
       → AliasesAre (list_in (alias_in c) (alias_field class) m s.types) s r S S' T T'
 
 -- How far rows reach in both areas.
-pub record Reached (rows : List Row) (s s' : State) : Type 0 where
+pub record RowsReach (rows : List Row) (s s' : State) : Type 0 where
   pub sheet : s'.sheet ≡ s.sheet + length (sheet_from s.text rows)
   pub text : s'.text ≡ s.text + length (texts rows)
 
@@ -85,10 +85,10 @@ pub record ListsDone (class : Bool) (c : Scope) (m : Message) (s : State) (b : S
   pub property_count : b.properties.count ≡ length properties
   pub alias_count : b.aliases.count ≡ length aliases
   pub head_end : b.head ≡ s
-  pub constructors_end : Reached (concat (map closed_constructor constructors)) s b.constructors.state
-  pub functions_end : Reached (concat (map closed_constructor constructors) ++ concat (map closed_function functions)) s b.functions.state
+  pub constructors_end : RowsReach (concat (map closed_constructor constructors)) s b.constructors.state
+  pub functions_end : RowsReach (concat (map closed_constructor constructors) ++ concat (map closed_function functions)) s b.functions.state
   pub properties_end :
-      Reached (concat (map closed_constructor constructors) ++ (concat (map closed_function functions) ++ concat (map property_rows properties)))
+      RowsReach (concat (map closed_constructor constructors) ++ (concat (map closed_function functions) ++ concat (map property_rows properties)))
       s b.properties.state
   pub put :
       PutRows
@@ -107,11 +107,11 @@ ListsTold class e msg base s r S S' T T' =
 -- What was read is written, list by list: how far after the head and after each list, and how many each list has. Kind 9 stands where the
 -- properties end.
 pub record Written (kind : ℕ) (d : Declarations) (left : ℕ) (s : State) (b : Sections) (S S' T T' : List ℕ) : Type 0 where
-  pub head_end : Reached (head_row kind d ∷ []) s b.head
-  pub constructors_end : Reached (head_row kind d ∷ section_rows member.Constructor d) s b.constructors.state
-  pub functions_end : Reached (head_row kind d ∷ (section_rows member.Constructor d ++ section_rows member.Function d)) s b.functions.state
+  pub head_end : RowsReach (head_row kind d ∷ []) s b.head
+  pub constructors_end : RowsReach (head_row kind d ∷ section_rows member.Constructor d) s b.constructors.state
+  pub functions_end : RowsReach (head_row kind d ∷ (section_rows member.Constructor d ++ section_rows member.Function d)) s b.functions.state
   pub properties_end :
-      Reached (head_row kind d ∷ (section_rows member.Constructor d ++ (section_rows member.Function d ++ section_rows member.Property d)))
+      RowsReach (head_row kind d ∷ (section_rows member.Constructor d ++ (section_rows member.Function d ++ section_rows member.Property d)))
       s b.properties.state
   pub constructor_count : b.constructors.count ≡ length d.constructors
   pub function_count : b.functions.count ≡ length d.functions

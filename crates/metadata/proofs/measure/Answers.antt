@@ -7,4 +7,4 @@ use Rattle.metadata.specs.Read.{reading}
 use Rattle.metadata.proofs.measure.Goals as goal
 
 pub returns : goal.returns
-returns c = subst (λ (k : ℤ). RoomTold (kind_of k) (reading (input k c.args.version c.args.d1.now c.args.d2.now c.args.ends.now)) c.reply_to.result) (to_z-of_z c.ranges.k) c.reply_to.ensures.0
+returns c = subst (λ (k : ℤ). RoomTold (kind_of k) (reading (input k c.args.version c.args.d1.now c.args.d2.now c.args.ends.now)) c.reply_to.result) (to_z-of_z c.ranges.k) c.reply_to.ensures.written.0

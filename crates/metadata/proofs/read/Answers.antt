@@ -19,4 +19,4 @@ mapped (Ok x) (Err e) P h m = absurd m
 mapped (Err e) o P h m = m
 
 pub returns : goal.returns
-returns c = (answer-is _ c.reply_to-reply.result c.map.result c.reply_to-reply.new.sheet c.reply_to-reply.new.text (ap (λ (k : ℤ). read_of c.args.sheet.now c.args.text.now (input k c.args.version c.args.d1.now c.args.d2.now c.args.ends.now)) (sym (to_z-of_z c.ranges.k)) ∙ (read_by c.args.sheet.now c.args.text.now _ ∙ c.reply_to-reply.ensures)) (mapped c.reply_to-reply.result c.map.result _ (λ x y p. search rules) c.map.ensures.cases), refl)
+returns c = (answer-is _ c.reply_to-reply.result c.map.result c.reply_to-reply.new.areas.sheet.now c.reply_to-reply.new.areas.text.now (search rules) (search rules) (ap (λ (k : ℤ). read_of c.args.sheet.now c.args.text.now (input k c.args.version c.args.d1.now c.args.d2.now c.args.ends.now)) (sym (to_z-of_z c.ranges.k)) ∙ (read_by c.args.sheet.now c.args.text.now _ ∙ c.reply_to-reply.ensures.written)) (mapped c.reply_to-reply.result c.map.result _ (λ x y p. search rules) c.map.ensures.cases), refl)

@@ -1,6 +1,6 @@
 -- The index of the name table's records, one entry a record.
 -- Assumes nothing.
-use Rattle.std.specs.Prelude.{◌≡◌, List, [], ◌∷◌, map, ℕ, zero, suc, ◌+◌, ◌*◌, ◌/◌, ◌%◌, ◌^◌, ◌≤◌, ◌<◌, length, get_or}
+use Rattle.std.specs.Prelude.{◌≡◌, List, [], ◌∷◌, map, ℕ, zero, suc, ◌+◌, ◌*◌, ◌/◌, ◌%◌, ◌^◌, ◌≤◌, ◌<◌, length, get_or, Some, None}
 use Rattle.std.proofs.Math.Option.{some}
 use Rattle.std.proofs.Math.ListN.{get_elem?}
 use Rattle.foundation.specs.Results.{ok, ◌from◌}
@@ -12,6 +12,8 @@ use Rattle.messages.specs.told.Asked.{bodies}
 use Rattle.characters.specs.told.Places.{part_from}
 use Rattle.names.specs.Records.{Record, record_of}
 use Rattle.names.specs.Names.{records_of}
+use Rattle.foundation.specs.declared.Span.{Span}
+use Rattle.std.specs.declared.option.Option as rust
 use Rattle.std.specs.declared.result.Result.{Result}
 use Rattle.std.specs.declared.result.Result.TheVariants.{Ok, Err}
 use Rattle.names.specs.declared.records.IndexError.{IndexError}
@@ -34,6 +36,11 @@ start_of n = n % 4294967296
 
 abbrev pub end_of : ℕ → ℕ
 end_of n = n / 4294967296
+
+-- the part that two places in one number name, if it lies in so many bytes
+abbrev pub UnpackedTold : ℕ → ℕ → rust.Option Span → Type 0
+UnpackedTold places size (Some p) = (p.start ≡ start_of places) × (p.end ≡ end_of places) × (p.start ≤ p.end) × (p.end ≤ size)
+UnpackedTold places size None = start_of places ≤ end_of places → end_of places ≤ size → ⊥
 
 -- The index of a name table's records has two numbers for each: where it stands among the decoded bytes, and the first index past those that
 -- it serves, which is where the next one's begin.

@@ -63,8 +63,10 @@ turned InternalToClassId t = dotted t
 turned DescToClassId t = dollars_dotted t
 
 -- what operation 2 drops from a text before its $ are turned
-abbrev pub dropped : ℕ → Text → Text
-dropped op t = if eqb op DESC_TO_CLASS_ID then without_ends t else t
+abbrev pub dropped : Operation → Text → Text
+dropped Nothing t = t
+dropped InternalToClassId t = t
+dropped DescToClassId t = without_ends t
 
 -- replacement, operation, and dots in a class name
 abbrev pub stepped_by : Name → Text → Text

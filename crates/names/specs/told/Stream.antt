@@ -1,7 +1,7 @@
 -- What the code does with a name, in the definitions' words.
 -- Assumes nothing.
 use Rattle.std.specs.Prelude as Std
-use Rattle.std.specs.Prelude.{Some, None, Bool, true, false, ◌||◌, ◌≡◌, List, map, ℕ, ◌+◌, leb, length, if◌then◌else◌}
+use Rattle.std.specs.Prelude.{Some, None, Bool, true, false, ◌||◌, ◌≡◌, List, [], map, ℕ, ◌+◌, leb, length, if◌then◌else◌}
 use Rattle.std.proofs.Math.Option.{Option, none, some}
 use Rattle.std.proofs.lemmas.List.Edits.{sets}
 use Rattle.foundation.specs.Texts.{Text}
@@ -43,14 +43,15 @@ turns_both InternalToClassId = true
 turns_both DescToClassId = false
 
 -- what a name's steps do to each character, with slashes for dots if they are asked for
-abbrev pub change_of : Name → Bool → Change
-change_of n slashes = record {
+abbrev pub change_of : Std.Option Name → Bool → Change
+change_of (Some n) slashes = record {
   from = n.from;
   to = n.to;
   dollars = turns_dollars n.operation;
   dots = turns_both n.operation || n.qualified;
   slashes = slashes;
 }
+change_of None slashes = record { from = 0; to = 0; dollars = false; dots = false; slashes = slashes }
 
 abbrev pub with_dollars : Bool → ℕ → ℕ
 with_dollars dollars c = if dollars then instead 0x24 0x2e c else c
@@ -86,9 +87,10 @@ fitted_of h left end (Some c) =
     if leb (width (changed h c.value)) left then record { value = changed h c.value; next = c.next } else record { value = 0; next = end }
 fitted_of h left end None = record { value = 0; next = end }
 
--- a name's text in UTF-8, with slashes for dots if they are asked for
-unfoldable pub name_bytes : List ℕ → List ℕ → Name → Bool → List ℕ
-name_bytes payload d2 n slashes = utf8 (slashed_text slashes (named_text payload d2 n))
+-- a name's text in UTF-8, with slashes for dots if they are asked for; nothing where there is no name
+unfoldable pub name_bytes : List ℕ → List ℕ → Std.Option Name → Bool → List ℕ
+name_bytes payload d2 (Some n) slashes = utf8 (slashed_text slashes (named_text payload d2 n))
+name_bytes payload d2 None slashes = []
 
 -- Bytes were written at a place of an area, and `next` is the place after them.
 pub record PutText (bytes : List ℕ) (at next : ℕ) (before after : List ℕ) : Type 0 where

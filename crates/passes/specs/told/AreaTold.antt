@@ -15,6 +15,7 @@ use Rattle.declarations.specs.Payload.{payload, declaration_rows}
 use Rattle.declarations.specs.told.PayloadTold.{LentAt}
 use Rattle.declarations.specs.told.BodyTold.{Written}
 use Rattle.declarations.specs.declared.body.Sections.{Sections}
+use Rattle.passes.specs.declared.AreaPair.{AreaPair}
 
 -- the action that looks a string of d2 up
 abbrev pub strings : List ℕ → List ℕ → ℕ → Res (Option Text)
@@ -57,3 +58,11 @@ WrittenOut kind r S S' T T' =
     (d : Declarations) (left : ℕ) → r ≡ ok (d, left)
     → (S' ≡ sheet_from 0 (declaration_rows kind d) ++ drop (length (sheet_from 0 (declaration_rows kind d))) S)
     × (T' ≡ texts (declaration_rows kind d) ++ drop (length (texts (declaration_rows kind d))) T)
+
+-- Both areas before and after: they are the same two, and what stands in them changes.
+abbrev pub AreasKept : AreaPair → AreaPair → Type 0
+AreasKept a a' = (a'.sheet.ghost_name ≡ a.sheet.ghost_name) × (a'.text.ghost_name ≡ a.text.ghost_name)
+
+-- What is told of what stands in both before and after.
+abbrev pub OnAreas : ((S S' T T' : List ℕ) → Type 0) → AreaPair → AreaPair → Type 0
+OnAreas said a a' = said a.sheet.now a'.sheet.now a.text.now a'.text.now

@@ -9,17 +9,14 @@ use Rattle.characters.specs.Characters.{from_utf8}
 use Rattle.characters.specs.told.Places.{part_from}
 use Rattle.characters.specs.Splits.{substring_of}
 use Rattle.names.specs.Records.{text_of, predefined_text, replace_of, operated, stepped}
-use Rattle.names.specs.told.Name.{operation_of, turned, OfBytes, source_text, name_text}
+use Rattle.names.specs.told.Name.{turned, OfBytes, source_text, name_text}
 use Rattle.names.specs.told.RecordTold.{record_told}
 use Rattle.names.specs.declared.records.Record.{Record}
 use Rattle.names.specs.declared.name.Name.{Name}
+use Rattle.names.specs.declared.name.Operation.{Operation}
 use Rattle.foundation.specs.declared.Span.{Span}
-use Rattle.record_names.specs.declared.steps.Base.{Base}
+use Rattle.record_names.specs.declared.base.Base.{Base}
 use Rattle.std.specs.declared.option.Option as rust
-
--- a part of what begins at `from`, as a part of the whole
-abbrev pub within : ℕ → Span → Span
-within from p = record { start = from + p.start; end = from + p.end }
 
 abbrev pub extent_of : List ℕ → rust.Option Span → Option (List ℕ)
 extent_of s (Some p) = some (part_from p.start p.end s)
@@ -47,35 +44,28 @@ abbrev pub text_in : List ℕ → List ℕ → rust.Option Base → Option Text
 text_in payload d2 (Some b) = some (base_in payload d2 b)
 text_in payload d2 None = none
 
--- it is made of bytes, not of units
-abbrev pub IfOfBytes : rust.Option Base → Type 0
-IfOfBytes (Some b) = OfBytes b.source
-IfOfBytes None = Unit {0}
-
 -- what a record's text is made of, whose message begins at `from`: its string or its predefined string
-pub record BaseTold (from : ℕ) (string : rust.Option Span) (index : rust.Option ℕ) (r : rust.Option Base) : Type 0 where
-  pub bytes : IfOfBytes r
-  pub is : (payload d2 : List ℕ) (end : ℕ) → PieceInside (part_from from end payload) string
-      → if_some (piece_told from (part_from from end payload) string) (if_some (index_told index) none predefined_text) (λ p. some (from_utf8 p.bytes))
-      ≡ text_in payload d2 r
+abbrev pub BaseTold : ℕ → rust.Option Span → rust.Option ℕ → rust.Option Base → Type 0
+BaseTold from string index r =
+    (payload d2 : List ℕ) (end : ℕ) → PieceInside (part_from from end payload) string
+    → if_some (piece_told from (part_from from end payload) string) (if_some (index_told index) none predefined_text) (λ p. some (from_utf8 p.bytes))
+    ≡ text_in payload d2 r
 
 -- the part of a part that a step gives
-pub record StepTold (payload : List ℕ) (step : Text → Option Text) (base : Base) (r : rust.Option Base) : Type 0 where
-  pub bytes : IfOfBytes r
-  pub is : (d2 : List ℕ) → step (base_in payload d2 base) ≡ text_in payload d2 r
+abbrev pub StepTold : List ℕ → (Text → Option Text) → Base → rust.Option Base → Type 0
+StepTold payload step base r = (d2 : List ℕ) → step (base_in payload d2 base) ≡ text_in payload d2 r
 
 -- the part of a part that is left by something that drops characters
-pub record LeftTold (payload : List ℕ) (base : Base) (drops : Text → Text) (r : Base) : Type 0 where
-  pub bytes : OfBytes r.source
-  pub is : (d2 : List ℕ) → drops (base_in payload d2 base) ≡ base_in payload d2 r
+abbrev pub LeftTold : List ℕ → Base → (Text → Text) → Base → Type 0
+LeftTold payload base drops r = (d2 : List ℕ) → drops (base_in payload d2 base) ≡ base_in payload d2 r
 
 -- replacement and operation of a text
 abbrev pub with_steps : Option (ℕ × ℕ) → ℕ → Text → Option Text
 with_steps replaced operation t = map_option (operated operation) (stepped replace_of replaced t)
 
 -- the same of a text from which the operation has dropped what it drops
-abbrev pub turned_steps : Option (ℕ × ℕ) → ℕ → Text → Option Text
-turned_steps replaced operation t = map_option (turned (operation_of operation)) (stepped replace_of replaced t)
+abbrev pub turned_steps : Option (ℕ × ℕ) → Operation → Text → Option Text
+turned_steps replaced operation t = map_option (turned operation) (stepped replace_of replaced t)
 
 -- a name that is made of bytes, not of units, and is no class name yet; its size isn't noted yet
 abbrev pub BytesName : Name → Type 0
@@ -85,8 +75,8 @@ abbrev pub IfBytesName : rust.Option Name → Type 0
 IfBytesName (Some n) = BytesName n
 IfBytesName None = Unit {0}
 
-pub record StepsTold (base : Base) (replaced : Option (ℕ × ℕ)) (operation : ℕ) (r : rust.Option Name) : Type 0 where
-  pub bytes : OfBytes base.source → IfBytesName r
+pub record StepsTold (base : Base) (replaced : Option (ℕ × ℕ)) (operation : Operation) (r : rust.Option Name) : Type 0 where
+  pub bytes : IfBytesName r
   pub is : (payload d2 : List ℕ) → name_text payload d2 r ≡ turned_steps replaced operation (base_in payload d2 base)
 
 -- the name that a record builds, whose message begins at `from`

@@ -28,7 +28,8 @@ section s count = record { state = s; count = count }
 abbrev pub counted : State → ℕ
 counted s = s.sheet + s.text + (type_length + name_limit) * s.types
 
--- What a reader of members starts from: decoded bytes and d2 of 32,768 at most, and n bytes more that can be counted.
+-- What a reader of members starts from: decoded bytes and d2 of 32,768 at most, and n bytes more that can be counted. No invariant: n is a
+-- number of each call, and functions that ask for nothing take a `Context` and an `Output` too.
 pub record Affords (e : Lent) (n : ℕ) (s : State) : Type 0 where
   pub payload-short : length e.payload ≤ 32768
   pub d2-short : length e.d2 ≤ 32768

@@ -9,7 +9,7 @@ use Rattle.foundation.specs.declared.Tables.{Tables}
 use Rattle.fields.specs.Fields.{Type-argument}
 use Rattle.wire.specs.Wire.{Message}
 use Rattle.wire.specs.Messages.{messages}
-use Rattle.messages.specs.told.Asked.{index_told}
+use Rattle.messages.specs.told.Asked.{index_told, span}
 use Rattle.declaration_rows.specs.Declarations.{Ty, Argument}
 use Rattle.schema.specs.Reading.{Scope, kept, allowance}
 use Rattle.schema.specs.Types.{max_depth, resolve_at, type_in, argument_in, type_at, declared_type}
@@ -18,7 +18,7 @@ use Rattle.schema.specs.told.TypesTold.{or_nullable}
 use Rattle.schema.specs.declared.FoundType.{FoundType}
 
 abbrev pub found_type : ℕ → ℕ → Bool → ℕ → FoundType
-found_type start end nullable left = record { start = start; end = end; nullable = nullable; left = left }
+found_type start end nullable left = record { part = span start end; reached = record { nullable = nullable; left = left } }
 
 -- The type table of a scope, by the places of its entries.
 pub record TableOf (payload notes : List ℕ) (tables : Tables) (c : Scope) : Type 0 where
@@ -37,12 +37,12 @@ pub record TypeFound (payload : List ℕ) (c : Scope) (start end left : ℕ) (t 
 
 -- what was found is the type that the reading gave, if it gave one
 abbrev pub FoundTypeTold : List ℕ → Scope → Option Ty → rust.Option FoundType → Type 0
-FoundTypeTold payload c o (Some x) = (t : Ty) × TypeFound payload c x.start x.end x.left t × (o ≡ some (or_nullable x.nullable t))
+FoundTypeTold payload c o (Some x) = (t : Ty) × TypeFound payload c x.part.start x.part.end x.reached.left t × (o ≡ some (or_nullable x.reached.nullable t))
 FoundTypeTold payload c o None = o ≡ none
 
 -- It stands among the decoded bytes, whatever is lent.
 abbrev pub FoundTypeInside : List ℕ → rust.Option FoundType → Type 0
-FoundTypeInside payload (Some x) = (x.start ≤ x.end) × (x.end ≤ length payload)
+FoundTypeInside payload (Some x) = (x.part.start ≤ x.part.end) × (x.part.end ≤ length payload)
 FoundTypeInside payload None = Unit {0}
 
 -- How far a walk from a type to its arguments can still go: the bytes of its message, and as many for each look-up that the depth allows.
@@ -51,7 +51,7 @@ reach left start end = left * 32769 + (end - start)
 
 -- What was found is no less deep, and the walk from it goes less far than from the message of start to end.
 abbrev pub FoundTypeFalls : ℕ → ℕ → ℕ → rust.Option FoundType → Type 0
-FoundTypeFalls left start end (Some x) = (x.left ≤ left) × (reach x.left x.start x.end < reach left start end)
+FoundTypeFalls left start end (Some x) = (x.reached.left ≤ left) × (reach x.reached.left x.part.start x.part.end < reach left start end)
 FoundTypeFalls left start end None = Unit {0}
 
 -- the type at an index of the type table

@@ -70,7 +70,7 @@ pub record EntryAt (payload : List ℕ) (start end : ℕ) (m : Message) : Type 0
   pub inside : end ≤ length payload
   pub cuts : cut (◌from◌ start (part_from start end payload)) ≡ ok m
 
--- A message stands at base among the decoded bytes.
+-- A message stands at base among the decoded bytes. No invariant of a `Located`, which doesn't hold the payload.
 pub record Stands (payload msg : List ℕ) (base : ℕ) : Type 0 where
   pub inside : base + length msg ≤ length payload
   pub is : msg ≡ part_from base (base + length msg) payload
@@ -116,7 +116,8 @@ pub record TypeRoom (s : State) : Type 0 where
   pub text : s.text + name_limit * s.types ≤ 2 ^ 62
   pub types : s.types ≤ allowance
 
--- What a reader starts from: decoded bytes and d2 of 32,768 at most, and room.
+-- What a reader starts from: decoded bytes and d2 of 32,768 at most, and room. No invariant of a `Context` or an `Output`: it is about both,
+-- and functions that ask for nothing take them too.
 pub record Ready (e : Lent) (s : State) : Type 0 where
   pub payload-short : length e.payload ≤ 32768
   pub d2-short : length e.d2 ≤ 32768

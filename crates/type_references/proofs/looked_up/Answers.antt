@@ -1,31 +1,18 @@
 use Rattle.declaration_rows.specs.told.Written.{role_number}
 use Rattle.declaration_rows.specs.Declarations.{invariant}
-use Rattle.schema.specs.told.SchemaTold.{entries_in, lent}
+use Rattle.schema.specs.told.SchemaTold.{lent}
 use mathlib.Core.Path.{refl}
 use Rattle.std.specs.declared.option.Option.TheVariants.{None}
 use Rattle.std.specs.declared.result.Result.TheVariants.{Ok}
 use native.Mathlib.Omega.{arith}
-use Rattle.type_references.specs.told.ParseTold.{no_entry_area, roomy}
+use Rattle.type_references.specs.told.ParseTold.{no_entry_area}
 use Rattle.type_references.proofs.OptionalLaws.{looked}
 use Rattle.type_references.proofs.CycleLaws.{alone, alone-entry}
 use Rattle.schema.proofs.TypeLaws.{resolve-nowhere}
-use Rattle.schema.proofs.EntryLaws.{entry_in}
 use Rattle.type_references.proofs.looked_up.Goals as goal
 
 pub returns-in_default-clause-written : goal.returns-in_default-clause-written
 returns-in_default-clause-written c = looked (Ok None) (resolve-nowhere (lent c.args.context.now) c.args.index 64 (role_number c.args.role) invariant c.args.out.now.state c.entry_at.ensures c.in_default.is) refl
 
-pub slice_bounds-msg-count : goal.slice_bounds-msg-count
-slice_bounds-msg-count c = let h = entry_in c.args.context.now.payload.now (entries_in c.args.context.now.tables c.args.context.now.notes.now) c.args.context.now.tables.types c.args.index c.entry_at.ensures c.in-Some.is in omega arith
-
-pub slice_bounds-msg-start : goal.slice_bounds-msg-start
-slice_bounds-msg-start c = let h = entry_in c.args.context.now.payload.now (entries_in c.args.context.now.tables c.args.context.now.notes.now) c.args.context.now.tables.types c.args.index c.entry_at.ensures c.in-Some.is in omega arith
-
-pub slice_bounds-msg-end : goal.slice_bounds-msg-end
-slice_bounds-msg-end c = let h = entry_in c.args.context.now.payload.now (entries_in c.args.context.now.tables c.args.context.now.notes.now) c.args.context.now.tables.types c.args.index c.entry_at.ensures c.in-Some.is in omega arith
-
 pub entry_in_area-requires : goal.entry_in_area-requires
-entry_in_area-requires c = (c.requires, no_entry_area refl (alone-entry (lent c.args.context.now) c.entry_at.ensures c.in-Some.is (alone c.next_body.ensures c.in_default-next_body.is)), omega arith)
-
-pub entry_in_area-requires-2 : goal.entry_in_area-requires-2
-entry_in_area-requires-2 c = (c.requires, roomy (omega (arith, c.requires.room.types)), omega arith)
+entry_in_area-requires c = (c.requires, no_entry_area refl (alone-entry (lent c.args.context.now) c.entry_at.ensures c.in-Some.is (alone (rw (c.of-msg.ensures.0, c.of-msg.ensures.1) at c.next_body.ensures) c.in_default-next_body.is)), omega arith)

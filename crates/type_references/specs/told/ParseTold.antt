@@ -26,6 +26,7 @@ use Rattle.foundation.specs.declared.Tables.{Tables}
 use Rattle.type_references.specs.told.Pending.{rows_read, prefixed, shown_rows, argument_rows}
 use Rattle.type_references.specs.declared.arguments.TypeField.{TypeField}
 use Rattle.type_references.specs.declared.arguments.TypeField.TheVariants as field
+use Rattle.type_references.specs.declared.waiting.Waiting.{Waiting}
 use Rattle.schema.specs.declared.argument.ArgumentHead.{ArgumentHead}
 use Rattle.schema.specs.declared.argument.ArgumentHead.TheVariants as head
 use Rattle.std.specs.declared.option.Option as rust
@@ -157,14 +158,14 @@ pub data FitsEntry (e : Lent) (index types room : ℕ) : Type 0 where
   no_entry_area : room ≡ 0 → AloneEntry e index → FitsEntry e index types room
 
 -- What a walk of arguments starts from.
-pub record NestRoom (e : Lent) (msg nest : List ℕ) (base left : ℕ) (s : State) : Type 0 where
+pub record NestRoom (e : Lent) (msg : List ℕ) (nest : List Waiting) (base left : ℕ) (s : State) : Type 0 where
   pub ready : Ready e s
   pub inside : base + length msg ≤ length e.payload
   pub deep : left ≤ max_depth
   pub room : WaitingRoom e.tables s.types (length msg) (length nest)
 
 -- What the reading of a type starts from.
-pub record ParseRoom (e : Lent) (msg nest : List ℕ) (base left : ℕ) (s : State) : Type 0 where
+pub record ParseRoom (e : Lent) (msg : List ℕ) (nest : List Waiting) (base left : ℕ) (s : State) : Type 0 where
   pub ready : Ready e s
   pub inside : base + length msg ≤ length e.payload
   pub deep : left ≤ max_depth

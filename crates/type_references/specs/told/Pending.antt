@@ -1,6 +1,6 @@
 -- Types inside types, one after the other: the arguments that wait while an inner type is read, and the rows that they come to.
 -- Assumes nothing.
-use Rattle.std.specs.Prelude.{◌≡◌, List, [], ◌∷◌, ◌++◌, ℕ, zero, suc, ◌+◌, ◌-◌, ◌*◌, ◌/◌, ◌%◌, ◌≤◌, length, get_or}
+use Rattle.std.specs.Prelude.{◌≡◌, List, [], ◌∷◌, ◌++◌, ℕ, zero, suc, ◌+◌, ◌-◌, ◌≤◌, length, get_or}
 use Rattle.std.proofs.Math.Option.{Option, none, some}
 use Rattle.foundation.specs.Results.{Res, ok, refused, ◌from◌}
 use Rattle.fields.specs.Fields.{Type-argument}
@@ -13,6 +13,7 @@ use Rattle.schema.specs.Reading.{Read, pure, ◌>>=◌, kept, Scope, allowance}
 use Rattle.schema.specs.Types.{max_depth, argument_in, type_at}
 use Rattle.declaration_rows.specs.Rows.{argument_role, types_rows}
 use Rattle.schema.specs.told.TypesTold.{rows_in}
+use Rattle.type_references.specs.declared.waiting.Waiting.{Waiting}
 
 -- what is read, as the rows that it comes to
 abbrev pub rows_read : {A : Type 0} → (A → List Row) → Res (A × ℕ) → Res (List Row × ℕ)
@@ -49,18 +50,9 @@ pending c [] = pure []
 pending c (w ∷ ws) =
     kept (argument_in (type_at allowance c) c w.depth) w.arguments >>= λ ts. pending c ws >>= λ rs. pure (argument_rows ts ++ rs)
 
--- A place, an end and a depth left in one number: how the area that is lent holds what waits.
-abbrev pub waiting_code : ℕ → ℕ → ℕ → ℕ
-waiting_code at end left = at + 65536 * end + 4294967296 * left
-
-abbrev pub at_in : ℕ → ℕ
-at_in code = code % 65536
-
-abbrev pub end_in : ℕ → ℕ
-end_in code = code / 65536 % 65536
-
-abbrev pub left_in : ℕ → ℕ
-left_in code = code / 4294967296
+-- what the area that is lent holds at a height
+abbrev pub waiting_at : List Waiting → ℕ → Waiting
+waiting_at nest height = get_or nest height (record { at = 0; end = 0; left = 0 })
 
 -- What waits from a place to an end of the message: its arguments from there on.
 pub record Pends (base : ℕ) (msg : List ℕ) (at end left : ℕ) (w : Wait) : Type 0 where
@@ -70,19 +62,19 @@ pub record Pends (base : ℕ) (msg : List ℕ) (at end left : ℕ) (w : Wait) : 
   pub deep : left ≡ max_depth - w.depth
 
 -- What the area holds below a height, the last one first.
-abbrev pub Stacked : ℕ → List ℕ → List ℕ → ℕ → List Wait → Type 0
+abbrev pub Stacked : ℕ → List ℕ → List Waiting → ℕ → List Wait → Type 0
 Stacked base msg nest height [] = height ≡ 0
 Stacked base msg nest height (w ∷ ws) =
-    (h : ℕ) × (height ≡ suc h) × Pends base msg (at_in (get_or nest h 0)) (end_in (get_or nest h 0)) (left_in (get_or nest h 0)) w
+    (h : ℕ) × (height ≡ suc h) × Pends base msg (waiting_at nest h).at (waiting_at nest h).end (waiting_at nest h).left w
     × Stacked base msg nest h ws
 
 -- That it stands inside the message, whatever is lent, no less deep than a type's arguments.
-pub record PendingInside (msg : List ℕ) (left code : ℕ) : Type 0 where
-  pub ordered : at_in code ≤ end_in code
-  pub short : end_in code ≤ length msg
-  pub deep : left_in code ≤ left
+pub record PendingInside (msg : List ℕ) (left : ℕ) (w : Waiting) : Type 0 where
+  pub ordered : w.at ≤ w.end
+  pub short : w.end ≤ length msg
+  pub deep : w.left ≤ left
 
 -- How many bytes of the message wait, and one for each that waits.
-unfoldable pub weight : List ℕ → ℕ → ℕ
+unfoldable pub weight : List Waiting → ℕ → ℕ
 weight nest zero = 0
-weight nest (suc h) = suc (end_in (get_or nest h 0) - at_in (get_or nest h 0)) + weight nest h
+weight nest (suc h) = suc ((waiting_at nest h).end - (waiting_at nest h).at) + weight nest h

@@ -7,7 +7,7 @@ use Rattle.wire.proofs.groups_at.Goals as goal
 pub loop-count-init : goal.loop-count-init
 loop-count-init c =
     let a = c.args in
-    record { read = onward_start a.s.base a.s.bytes.now a.at a.groups.now; room = c.requires.1; inside = omega (arith, c.requires.0) }
+    record { read = onward_start a.s.base a.s.bytes.now a.at a.groups.now; room = c.told-groups; inside = omega (arith, c.requires) }
 
 pub returns-then-s-i : goal.returns-then-s-i
 returns-then-s-i c =

@@ -1,13 +1,11 @@
-use mathlib.Core.Path.{refl}
-use lib.ListN.{drop_of_length-le}
-use Rattle.characters.proofs.AsciiLaws.{drop_next, ascii_next, ascii-end}
+use Rattle.std.proofs.Common.{◌≡◌, ltb, subst, refl, rules}
+use Rattle.std.proofs.lemmas.Fn.{fold_over, slice_gives, fronts}
+use Rattle.characters.specs.told.Plain.{is_ascii}
+use Rattle.characters.proofs.AsciiLaws.{ascii_next}
 use Rattle.characters.proofs.ascii.ascii_bytes.Goals as goal
 
-pub loop-byte-init : goal.loop-byte-init
-loop-byte-init c = refl
-
-pub loop-byte-preserved : goal.loop-byte-preserved
-loop-byte-preserved c = ascii_next c.loop-byte.all _ _ (drop_next c.args.s.now c.loop-byte.byte-index c.loop-byte-test.true) c.loop-byte.invariant
-
 pub returns : goal.returns
-returns c = ascii-end c.loop-byte.all (drop_of_length-le c.args.s.now c.loop-byte-test.false) c.loop-byte.invariant
+unfolding is_ascii
+returns c = subst (λ cs. ltb c.fold.result 128 ≡ is_ascii cs) c.iter.ensures.rest
+    (fold_over fronts (λ y. y.now) _ (λ cs all. ltb all 128 ≡ is_ascii cs) _ (λ cs a x b f' j k. let n = ascii_next cs a x.now j in search rules)
+    _ _ _ _ (slice_gives c.iter.result) refl c.fold.ensures.ran)

@@ -1,13 +1,11 @@
-use mathlib.Core.Path.{refl}
-use lib.ListN.{drop_of_length-le}
-use Rattle.characters.proofs.AsciiLaws.{drop_next, ascii_next, ascii-end}
+use Rattle.std.proofs.Common.{◌≡◌, ltb, subst, refl, rules}
+use Rattle.std.proofs.lemmas.Fn.{fold_over, slice_gives, fronts}
+use Rattle.characters.specs.told.Plain.{is_ascii}
+use Rattle.characters.proofs.AsciiLaws.{ascii_next}
 use Rattle.characters.proofs.ascii.ascii_units.Goals as goal
 
-pub loop-unit-init : goal.loop-unit-init
-loop-unit-init c = refl
-
-pub loop-unit-preserved : goal.loop-unit-preserved
-loop-unit-preserved c = ascii_next c.loop-unit.all _ _ (drop_next c.args.units.now c.loop-unit.unit-index c.loop-unit-test.true) c.loop-unit.invariant
-
 pub returns : goal.returns
-returns c = ascii-end c.loop-unit.all (drop_of_length-le c.args.units.now c.loop-unit-test.false) c.loop-unit.invariant
+unfolding is_ascii
+returns c = subst (λ cs. ltb c.fold.result 128 ≡ is_ascii cs) c.iter.ensures.rest
+    (fold_over fronts (λ y. y.now) _ (λ cs all. ltb all 128 ≡ is_ascii cs) _ (λ cs a x b f' j k. let n = ascii_next cs a x.now j in search rules)
+    _ _ _ _ (slice_gives c.iter.result) refl c.fold.ensures.ran)

@@ -13,10 +13,10 @@ pub lists_in-requires : goal.lists_in-requires
 lists_in-requires c = (lists-affords (length c.args.msg.bytes.now) c.requires.0 c.head_in.ensures.written.spends, c.requires.1)
 
 pub returns-in_err-sections-clause-written : goal.returns-in_err-sections-clause-written
-returns-in_err-sections-clause-written c = rw (handed_on c.from_residual.result c.from_residual.ensures.1) (body-stops (kind_number c.args.kind) (lent c.args.context.now) c.args.msg.bytes.now c.args.msg.base c.is_class.result c.is_class.ensures c.head_in.ensures.written _ c.lists_in.new.out.sheet.now c.lists_in.new.out.text.now c.in_err-sections.ensures.written)
+returns-in_err-sections-clause-written c = rw (handed_on c.from_residual.result c.from_residual.ensures.1) (body-stops (kind_number c.args.kind) (lent c.args.context.now) c.args.msg.bytes.now c.args.msg.base c.head_in.ensures.written _ c.lists_in.new.out.sheet.now c.lists_in.new.out.text.now c.in_err-sections.ensures.written)
 
 pub put_head_counts-requires : goal.put_head_counts-requires
 put_head_counts-requires c = let h = head-ends (length c.args.msg.bytes.now) c.requires.0 c.head_in.ensures.written.spends in omega arith
 
 pub returns-clause-written : goal.returns-clause-written
-returns-clause-written c = body-done (kind_number c.args.kind) (lent c.args.context.now) c.args.msg.bytes.now c.args.msg.base c.is_class.result c.is_class.ensures c.head_in.ensures.written c.in_ok-sections.ensures.written c.put_head_counts.ensures
+returns-clause-written c = body-done (kind_number c.args.kind) (lent c.args.context.now) c.args.msg.bytes.now c.args.msg.base c.head_in.ensures.written c.in_ok-sections.ensures.written c.put_head_counts.ensures

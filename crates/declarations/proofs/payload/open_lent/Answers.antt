@@ -12,7 +12,7 @@ pub slice_bounds-open_payload-end-2 : goal.slice_bounds-open_payload-end-2
 slice_bounds-open_payload-end-2 c = let h = codes_inside _ c.codes_from-limit.ensures in simp length-take (omega arith)
 
 pub returns-in_err-opened : goal.returns-in_err-opened
-returns-in_err-opened c = rw (handed_on c.from_residual.result c.from_residual.ensures.1) (lent_stopped c.args.bytes.now c.args.d2.now c.args.ends.now c.args.notes.now c.codes_from-limit.result c.codes_from-limit.ensures c.open_payload.new.notes c.open_payload.auto.notes _ c.in_err-opened.ensures)
+returns-in_err-opened c = rw (handed_on c.from_residual.result c.from_residual.ensures.1) (lent_stopped c.args.bytes.now c.args.units.now.d2.now c.args.units.now.ends.now c.args.notes.now c.codes_from-limit.result c.codes_from-limit.ensures c.open_payload.new.notes c.open_payload.auto.notes _ c.in_err-opened.ensures)
 
 pub returns : goal.returns
-returns c = lent-body c.args.bytes.now c.args.d2.now c.args.ends.now c.args.notes.now c.codes_from-limit.result c.codes_from-limit.ensures c.open_payload.new.notes c.open_payload.auto.notes _ c.in_ok-opened.ensures c.note_codes.new.notes c.note_strings.new.notes c.note_codes.ensures c.note_strings.ensures.0 c.note_strings.ensures.1
+returns c = lent-body c.args.bytes.now c.args.units.now.d2.now c.args.units.now.ends.now c.args.notes.now c.codes_from-limit.result c.codes_from-limit.ensures c.open_payload.new.notes c.open_payload.auto.notes _ c.in_ok-opened.ensures c.note_codes.new.notes c.note_strings.new.notes c.note_codes.ensures c.note_strings.ensures.0 c.note_strings.ensures.1

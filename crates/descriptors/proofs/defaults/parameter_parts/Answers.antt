@@ -1,8 +1,7 @@
 use mathlib.Core.Path.{refl, ◌∙◌}
-use native.Mathlib.Omega.{arith}
 use Rattle.schema.specs.told.SchemaTold.{lent}
 use Rattle.messages.proofs.BodiesLaws.{goes-start, goes-next, goes-to}
-use Rattle.descriptors.proofs.DefaultLaws.{Parting, parts-start, parts-end, part_in, part_room, parts-absent, parts_next}
+use Rattle.descriptors.proofs.DefaultLaws.{Parting, parts-start, parts-end, part_room, parts-absent, parts_next}
 use Rattle.descriptors.proofs.defaults.parameter_parts.Goals as goal
 
 pub loop-parameter-init : goal.loop-parameter-init
@@ -13,22 +12,11 @@ loop-parameter-init c =
 pub returns : goal.returns
 returns c = parts-end c.loop-parameter.invariant.1 (goes-next c.loop-parameter.invariant.0 c.in-None.ensures.steps).0 refl
 
-pub part-requires : goal.part-requires
-part-requires c = let h = part_in c.loop-parameter.invariant.1 (goes-next c.loop-parameter.invariant.0 c.in-Some.ensures.steps).0 refl in (h.0, h.1)
-
-pub overflow_add-at : goal.overflow_add-at
-overflow_add-at c = let h = part_room c.loop-parameter.invariant.1 (goes-next c.loop-parameter.invariant.0 c.in-Some.ensures.steps).0 refl c.requires in omega (arith, h.room)
-
 pub type_part-requires : goal.type_part-requires
 type_part-requires c = rw (c.part.ensures.0, c.part.ensures.1) (part_room c.loop-parameter.invariant.1 (goes-next c.loop-parameter.invariant.0 c.in-Some.ensures.steps).0 refl c.requires)
 
 pub returns-in_err-size : goal.returns-in_err-size
 returns-in_err-size c = rw c.from_residual.ensures (parts-absent c.loop-parameter.invariant.1 (goes-next c.loop-parameter.invariant.0 c.in-Some.ensures.steps).0 refl c.requires.stands (rw (c.part.ensures.0, c.part.ensures.1) at c.type_part.ensures) c.in_err-size.was)
-
-pub overflow_add-size : goal.overflow_add-size
-overflow_add-size c = let h = part_room c.loop-parameter.invariant.1 (goes-next c.loop-parameter.invariant.0 c.in-Some.ensures.steps).0 refl c.requires in
-    let k = parts_next c.loop-parameter.invariant.1 (goes-next c.loop-parameter.invariant.0 c.in-Some.ensures.steps).0 refl c.requires.stands (rw (c.part.ensures.0, c.part.ensures.1) at c.type_part.ensures) c.in_ok-size.was in
-    omega (arith, h.room, k.few, k.inside, c.requires.stands.inside, c.requires.payload-short)
 
 pub loop-parameter-preserved : goal.loop-parameter-preserved
 loop-parameter-preserved c =

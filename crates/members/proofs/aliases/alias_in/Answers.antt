@@ -8,7 +8,7 @@ use Rattle.schema.specs.told.SchemaTold.{lent}
 use Rattle.schema.specs.told.TypesTold.{picked_of}
 use Rattle.schema.specs.told.MembersTold.{member_cost}
 use Rattle.foundation.proofs.ErrorLaws.{handed_on}
-use Rattle.schema.proofs.CountLaws.{affords-after, affords-ready, affords-room}
+use Rattle.schema.proofs.CountLaws.{affords-after, affords-ready}
 use Rattle.members.proofs.PairLaws.{looked, nameless}
 use Rattle.members.proofs.AliasLaws.{alias_none, alias-within, alias-told}
 use Rattle.schema.proofs.WroteLaws.{walked_err, walked_ok}
@@ -16,9 +16,6 @@ use Rattle.members.proofs.aliases.alias_in.Goals as goal
 
 pub returns-in_default-clause-written : goal.returns-in_default-clause-written
 returns-in_default-clause-written c = nameless alias_in alias_rows (member_cost (length c.args.msg.bytes.now)) TypeAlias-name alias_none (looked (lent c.args.context.now) _ _ _ c.name_in.ensures c.in_default.is)
-
-pub put_alias-requires : goal.put_alias-requires
-put_alias-requires c = affords-room c.requires.0
 
 pub type_pair-requires : goal.type_pair-requires
 type_pair-requires c = (affords-ready (affords-after c.requires.0 0 (alias-within c.requires.0 c.in-Some.name c.flags_in-flags.result c.put_alias.ensures.written) (omega arith)), c.requires.1)

@@ -1,13 +1,9 @@
 use native.Mathlib.Omega.{arith}
 use Rattle.schema.specs.told.SchemaTold.{lent}
 use Rattle.foundation.proofs.ErrorLaws.{handed_on}
-use Rattle.schema.proofs.CountLaws.{affords-room}
 use Rattle.members.proofs.CallableLaws.{constructor-affords, constructor-refused, constructor-unsigned-told, constructor-told}
 use Rattle.members.proofs.ParameterLaws.{listed_err, listed_ok}
 use Rattle.members.proofs.callables.constructor_in.Goals as goal
-
-pub put_constructor-requires : goal.put_constructor-requires
-put_constructor-requires c = affords-room c.requires.0
 
 pub overflow_add-out : goal.overflow_add-out
 overflow_add-out c = let a = c.args in let e = lent a.context.now in let h = constructor-affords e a.msg.bytes.now a.msg.base a.out.now.state c.requires.0 c.flags_in-flags.result c.names_of.result c.put_constructor.ensures.written in omega (arith, h.room)

@@ -1,14 +1,12 @@
 use mathlib.Core.Path.{refl, ap, ◌∙◌}
 use Prim.Native.Nat.{ℕ, ◌-◌}
-use native.Mathlib.Omega.{arith}
 use Rattle.declaration_rows.specs.Rows.{parameter_rows}
 use Rattle.messages.proofs.BodiesLaws.{goes-start, goes-next, goes-to}
 use Rattle.schema.specs.told.SchemaTold.{lent}
 use Rattle.schema.specs.told.TypesTold.{picked_of}
 use Rattle.schema.specs.told.MembersTold.{parameter_cost}
 use Rattle.foundation.proofs.ErrorLaws.{handed_on}
-use Rattle.schema.proofs.ParseLaws.{part-inside}
-use Rattle.schema.proofs.ListLaws.{Looping, unit_cheap, loop-start, member-in, member-affords, loop-end, loop-refused, loop-kept}
+use Rattle.schema.proofs.ListLaws.{Looping, unit_cheap, loop-start, loop-end, loop-refused, loop-kept}
 use Rattle.members.proofs.ParameterLaws.{read_always, never_skipped, all_read}
 use Rattle.schema.proofs.WroteLaws.{walked_err, walked_ok}
 use Rattle.members.proofs.parameters.parameters_at.Goals as goal
@@ -18,15 +16,6 @@ loop-parameter-init c =
     let a = c.args in
     let g = goes-start c.into_iter-parameter-iterator.ensures.into_iter_gives c.bodies_from-parameter-items.ensures (λ (at : ℕ). Looping read_always parameter_rows parameter_cost (lent a.context.now) a.msg.bytes.now a.msg.base a.number a.out.now.state a.out.now.sheet.now a.out.now.text.now at 0 a.out.now.state a.out.now.sheet.now a.out.now.text.now) loop-start in
     (g.0, g.1, (refl, refl))
-
-pub part-requires : goal.part-requires
-part-requires c = let h = member-in c.loop-parameter.invariant.1 (goes-next c.loop-parameter.invariant.0 c.in-Some.ensures.steps).0 refl in (h.1, h.2)
-
-pub parameter_in-requires : goal.parameter_in-requires
-parameter_in-requires c = let h = member-in c.loop-parameter.invariant.1 (goes-next c.loop-parameter.invariant.0 c.in-Some.ensures.steps).0 refl in rw (c.part.ensures.0, c.part.ensures.1) (member-affords c.loop-parameter.invariant.1 (goes-next c.loop-parameter.invariant.0 c.in-Some.ensures.steps).0 refl (unit_cheap parameter_cost (c.in-Some.parameter.end - c.in-Some.parameter.start)) c.requires.0, part-inside c.args.msg.bytes.now c.args.msg.base c.in-Some.parameter.start c.in-Some.parameter.end c.requires.1 h.1 h.2)
-
-pub overflow_add-count : goal.overflow_add-count
-overflow_add-count c = let h = member-in c.loop-parameter.invariant.1 (goes-next c.loop-parameter.invariant.0 c.in-Some.ensures.steps).0 refl in omega (arith, c.loop-parameter.invariant.1.few)
 
 pub loop-parameter-preserved : goal.loop-parameter-preserved
 loop-parameter-preserved c = ((goes-next c.loop-parameter.invariant.0 c.in-Some.ensures.steps).1, rw (goes-to c.loop-parameter.invariant.0 c.in-Some.ensures.steps refl) (loop-kept c.loop-parameter.invariant.1 (goes-next c.loop-parameter.invariant.0 c.in-Some.ensures.steps).0 refl (unit_cheap parameter_cost (c.in-Some.parameter.end - c.in-Some.parameter.start)) (never_skipped (rw (c.part.ensures.0, c.part.ensures.1) at c.parameter_in.ensures.written)) (ap picked_of (walked_ok c.parameter_in.new.out c.in_ok-parameter_in.was))), (c.parameter_in.ensures.same_areas.0 ∙ c.loop-parameter.invariant.2.0, c.parameter_in.ensures.same_areas.1 ∙ c.loop-parameter.invariant.2.1))

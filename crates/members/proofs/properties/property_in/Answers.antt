@@ -6,7 +6,7 @@ use Rattle.schema.specs.told.SchemaTold.{lent}
 use Rattle.schema.specs.told.MembersTold.{member_cost}
 use Rattle.foundation.proofs.ErrorLaws.{handed_on}
 use Rattle.members.proofs.PairLaws.{looked, nameless}
-use Rattle.members.proofs.PropertyLaws.{property-nameless, property-unsigned, property-named}
+use Rattle.members.proofs.PropertyLaws.{property-nameless, property-unsigned}
 use Rattle.members.proofs.properties.property_in.Goals as goal
 
 pub returns-in_default-clause-written : goal.returns-in_default-clause-written
@@ -14,9 +14,3 @@ returns-in_default-clause-written c = nameless property_in property_rows (member
 
 pub returns-in_err-names-clause-written : goal.returns-in_err-names-clause-written
 returns-in_err-names-clause-written c = rw (handed_on _ c.from_residual.ensures.1) (property-unsigned c.in-Some.name (looked (lent c.args.context.now) _ _ _ c.name_in.ensures c.in-Some.is) (λ s o m k. c.property_signatures.ensures c.args.context.now.d2.now s o.names m k) c.in_err-names.was)
-
-pub named_property-requires : goal.named_property-requires
-named_property-requires c = c.requires
-
-pub returns-clause-written : goal.returns-clause-written
-returns-clause-written c = property-named c.in-Some.name (looked (lent c.args.context.now) _ _ _ c.name_in.ensures c.in-Some.is) (λ s o m k. c.property_signatures.ensures c.args.context.now.d2.now s o.names m k) c.in_ok-names.was c.named_property.ensures.written

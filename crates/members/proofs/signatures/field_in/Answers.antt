@@ -1,13 +1,9 @@
 use mathlib.Core.Path.{sym, ◌∙◌}
-use Rattle.schema.proofs.TypeLaws.{inline_in}
 use Rattle.members.proofs.SignatureLaws.{inner-there, field-inline, field-absent}
 use Rattle.members.proofs.signatures.field_in.Goals as goal
 
 pub returns-in_default : goal.returns-in_default
 returns-in_default c = λ units s o m k l. field-absent c.args.context.now.payload.now units s k c.message.result c.message.ensures (sym c.unwrap_or-field.ensures ∙ c.in_default.is) l c.unsigned.result c.unsigned.ensures.0
-
-pub part-requires : goal.part-requires
-part-requires c = let h = inline_in c.args.msg.base c.args.msg.bytes.now 1 c.message.ensures (inner-there c.message.result (sym c.unwrap_or-field.ensures ∙ c.in-Some.is)) in (h.0, h.1)
 
 pub returns : goal.returns
 returns c = λ units s o m k l. field-inline c.args.context.now.payload.now units s k c.message.ensures l (inner-there c.message.result (sym c.unwrap_or-field.ensures ∙ c.in-Some.is)) (rw (c.part.ensures.0, c.part.ensures.1) at (c.names_in.ensures units s o))

@@ -1,18 +1,7 @@
 use mathlib.Core.Path.{ap, ◌∙◌}
 use Rattle.std.specs.declared.result.Result.TheVariants.{Ok}
-use Rattle.foundation.proofs.ErrorLaws.{handed_on}
-use Rattle.schema.proofs.TypeLaws.{inline_in}
-use Rattle.members.proofs.SignatureLaws.{property-inline, property-nothing, property-refused}
+use Rattle.members.proofs.SignatureLaws.{property-nothing}
 use Rattle.members.proofs.signatures.property_signatures.Goals as goal
-
-pub part-requires : goal.part-requires
-part-requires c = let h = inline_in c.args.msg.base c.args.msg.bytes.now 100 c.message.ensures (c.in_ok-inner.was ∙ ap Ok c.in-Some.is) in (h.0, h.1)
-
-pub returns : goal.returns
-returns c = λ units s o m k. property-inline c.args.context.now.payload.now units s k c.message.ensures (c.in_ok-inner.was ∙ ap Ok c.in-Some.is) (rw (c.part.ensures.0, c.part.ensures.1) at (c.three_in.ensures units s o))
 
 pub returns-in_default : goal.returns-in_default
 returns-in_default c = λ units s o m k. property-nothing c.args.context.now.payload.now units s k c.message.ensures (c.in_ok-inner.was ∙ ap Ok c.in_default.is) c.unsigned_property.result (c.unsigned_property.ensures c.args.context.now.payload.now units s)
-
-pub returns-in_err-inner : goal.returns-in_err-inner
-returns-in_err-inner c = rw (handed_on _ c.from_residual.ensures.1) (λ units s o m k. property-refused c.args.context.now.payload.now units s k c.message.ensures c.in_err-inner.was)

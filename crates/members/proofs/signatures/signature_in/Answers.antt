@@ -1,12 +1,8 @@
 use mathlib.Core.Path.{ap, ◌∙◌}
 use Rattle.std.specs.declared.result.Result.TheVariants.{Ok}
 use Rattle.foundation.proofs.ErrorLaws.{handed_on}
-use Rattle.schema.proofs.TypeLaws.{inline_in}
 use Rattle.members.proofs.SignatureLaws.{signed-inline, signed-nothing, signed-refused}
 use Rattle.members.proofs.signatures.signature_in.Goals as goal
-
-pub part-requires : goal.part-requires
-part-requires c = let h = inline_in c.args.msg.base c.args.msg.bytes.now c.args.number c.message.ensures (c.in_ok-inner.was ∙ ap Ok c.in-Some.is) in (h.0, h.1)
 
 pub returns : goal.returns
 returns c = λ units s o m k. signed-inline c.args.context.now.payload.now units s k c.message.ensures (c.in_ok-inner.was ∙ ap Ok c.in-Some.is) (rw (c.part.ensures.0, c.part.ensures.1) at (c.names_in.ensures units s o))

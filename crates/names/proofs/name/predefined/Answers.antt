@@ -5,4 +5,4 @@ pub returns-then-index-ge44 : goal.returns-then-index-ge44
 returns-then-index-ge44 c = listed-past _ c.if-index-ge44.true
 
 pub returns : goal.returns
-returns c = listed-part _ c.if-index-ge44.false c.from.ensures c.from-2.ensures
+returns c = rw (← c.wide-i.ensures) (listed-part _ (rw c.wide-i.ensures c.if-index-ge44.false) c.from.ensures c.from-2.ensures)

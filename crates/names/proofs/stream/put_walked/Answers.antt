@@ -1,5 +1,6 @@
 use mathlib.Core.Path.{sym, ap, ◌∙◌}
 use Rattle.characters.specs.Characters.{from_utf8, from_utf16}
+use Rattle.names.specs.told.Name.{predefined_list}
 use Rattle.names.proofs.NameLaws.{source-payload, source-listed, source-units, sized_walked}
 use Rattle.names.proofs.StreamLaws.{text_same, fits-same}
 use Rattle.names.proofs.stream.put_walked.Goals as goal
@@ -18,19 +19,21 @@ returns-in-Payload c =
     let e = source-payload x.payload.now x.d2.now a.name.source a.name.part c.in-Payload.is ∙ ap from_utf8 (sym c.part_of.ensures) in
     text_same (sized_walked a.name.size a.change e c.requires.0) c.put_text.ensures
 
-pub put_listed-requires : goal.put_listed-requires
-put_listed-requires c =
+pub put_text-requires-in-Predefined : goal.put_text-requires-in-Predefined
+unfolding predefined_list
+put_text-requires-in-Predefined c =
     let a = c.args in
     let x = a.context.now in
-    let e = source-listed x.payload.now x.d2.now a.name.source a.name.part c.in-Predefined.is in
+    let e = source-listed x.payload.now x.d2.now a.name.source a.name.part c.in-Predefined.is ∙ ap from_utf8 (sym c.part_of-in-Predefined.ensures) in
     fits-same _ a.at (sized_walked a.name.size a.change e c.requires.0) c.requires.1
 
 pub returns-in-Predefined : goal.returns-in-Predefined
+unfolding predefined_list
 returns-in-Predefined c =
     let a = c.args in
     let x = a.context.now in
-    let e = source-listed x.payload.now x.d2.now a.name.source a.name.part c.in-Predefined.is in
-    text_same (sized_walked a.name.size a.change e c.requires.0) c.put_listed.ensures
+    let e = source-listed x.payload.now x.d2.now a.name.source a.name.part c.in-Predefined.is ∙ ap from_utf8 (sym c.part_of-in-Predefined.ensures) in
+    text_same (sized_walked a.name.size a.change e c.requires.0) c.put_text-in-Predefined.ensures
 
 pub put_text-requires-in-D2 : goal.put_text-requires-in-D2
 put_text-requires-in-D2 c =

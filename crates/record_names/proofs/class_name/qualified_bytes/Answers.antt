@@ -1,4 +1,5 @@
 use Rattle.names.specs.told.Name.{predefined_list}
+use Rattle.record_names.proofs.PartLaws.{moved_is}
 use Rattle.record_names.proofs.UnwrapLaws.{class-stays, class-cut}
 use Rattle.record_names.proofs.class_name.qualified_bytes.Goals as goal
 
@@ -8,4 +9,4 @@ returns-in_default c = class-stays c.args.payload.now c.args.name c.requires c.b
 
 pub returns : goal.returns
 unfolding predefined_list
-returns c = class-cut c.args.payload.now c.args.name c.requires c.base_text-s.result.now c.base_text-s.ensures c.in-Some.ensures (rw c.within.ensures at c.qualified_part-2.ensures)
+returns c = class-cut c.args.payload.now c.args.name c.requires c.base_text-s.result.now c.base_text-s.ensures c.in-Some.ensures (rw (moved_is c.args.name.part.start _ _ c.moved.ensures) at c.qualified_part-2.ensures)

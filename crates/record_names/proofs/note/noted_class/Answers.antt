@@ -9,4 +9,4 @@ pub returns-in_default : goal.returns-in_default
 returns-in_default c = class-absent-too c.args.words.place c.args.words.steps (sym c.noted.ensures ∙ c.in_ok-name.was) c.in_default.is
 
 pub returns : goal.returns
-returns c = rw (c.class_of.ensures, c.part_of-part.ensures) (class-some c.args.words.place c.args.words.steps (sym c.noted.ensures ∙ c.in_ok-name.was) c.in-Some.is)
+returns c = rw (c.class_of.ensures, c.noted_part-part.ensures) (class-some c.args.words.place c.args.words.steps (sym c.noted.ensures ∙ c.in_ok-name.was) c.in-Some.is)

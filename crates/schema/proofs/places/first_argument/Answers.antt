@@ -1,11 +1,10 @@
 use mathlib.Core.Path.{refl, sym, subst}
 use Prim.Native.Nat.{◌+◌, ◌-◌}
-use native.Mathlib.Omega.{arith}
 use lib.ListN.{take, drop}
 use Rattle.fields.specs.Fields.{Type-Argument-type, Type-Argument-type_id}
 use Rattle.schema.proofs.ArgumentLaws.{star-is, inline-typed, inline-bytes, indexed-typed, indexed-bytes, indexed-index, nothing-typed, nothing-bytes, nothing-index}
 use Rattle.messages.proofs.BodiesLaws.{goes-start, goes-next, goes-to}
-use Rattle.schema.proofs.FoundLaws.{Seeking, seeking-start, seeking-in, argument-stands, seeking-end, seeking-star, seeking-kept, seeking-on, place_in, place-inline, place-indexed, place-nowhere}
+use Rattle.schema.proofs.FoundLaws.{Seeking, seeking-start, argument-stands, seeking-end, seeking-star, seeking-kept, seeking-on, place-inline, place-indexed, place-nowhere}
 use Rattle.schema.proofs.places.first_argument.Goals as goal
 
 pub loop-argument-init : goal.loop-argument-init
@@ -14,20 +13,11 @@ loop-argument-init c = goes-start c.into_iter-argument-iterator.ensures.into_ite
 pub returns : goal.returns
 returns c = (seeking-end c.args.context.now.payload.now c.args.context.now.notes.now c.args.context.now.tables c.args.msg.bytes.now c.args.msg.base c.args.left c.requires.0 c.loop-argument.argument-iterator.at c.loop-argument.invariant.1 (goes-next c.loop-argument.invariant.0 c.in-None.ensures.steps).0 refl)
 
-pub part-part-requires : goal.part-part-requires
-part-part-requires c = let h = seeking-in c.args.context.now.payload.now c.args.context.now.notes.now c.args.context.now.tables c.args.msg.bytes.now c.args.msg.base c.args.left c.requires.0 c.loop-argument.argument-iterator.at c.loop-argument.invariant.1 (goes-next c.loop-argument.invariant.0 c.in-Some.ensures.steps).0 refl in (h.0, h.1)
-
 pub returns-in-Star : goal.returns-in-Star
 returns-in-Star c = seeking-star c.args.context.now.payload.now c.args.context.now.notes.now c.args.context.now.tables c.args.msg.bytes.now c.args.msg.base c.args.left c.requires.0 c.loop-argument.argument-iterator.at c.loop-argument.invariant.1 (goes-next c.loop-argument.invariant.0 c.in-Some.ensures.steps).0 refl (star-is (c.args.msg.base + c.in-Some.argument.start) (take (c.in-Some.argument.end - c.in-Some.argument.start) (drop c.in-Some.argument.start c.args.msg.bytes.now)) (rw (c.part-part.ensures.0, c.part-part.ensures.1) at c.argument_head.ensures) c.in-Star.is)
 
-pub inline_place-requires : goal.inline_place-requires
-inline_place-requires c = let h = place_in c.args.context.now.payload.now c.args.context.now.notes.now c.args.context.now.tables (take (c.in-Some.argument.end - c.in-Some.argument.start) (drop c.in-Some.argument.start c.args.msg.bytes.now)) (c.args.msg.base + c.in-Some.argument.start) Type-Argument-type Type-Argument-type_id c.args.left (argument-stands c.args.context.now.payload.now c.args.context.now.notes.now c.args.context.now.tables c.args.msg.bytes.now c.args.msg.base c.args.left c.requires.0 c.loop-argument.argument-iterator.at c.loop-argument.invariant.1 (goes-next c.loop-argument.invariant.0 c.in-Some.ensures.steps).0 refl) (inline-bytes (c.args.msg.base + c.in-Some.argument.start) (take (c.in-Some.argument.end - c.in-Some.argument.start) (drop c.in-Some.argument.start c.args.msg.bytes.now)) (rw (c.part-part.ensures.0, c.part-part.ensures.1) at c.argument_head.ensures) c.in-Inline.is) refl in let k = argument-stands c.args.context.now.payload.now c.args.context.now.notes.now c.args.context.now.tables c.args.msg.bytes.now c.args.msg.base c.args.left c.requires.0 c.loop-argument.argument-iterator.at c.loop-argument.invariant.1 (goes-next c.loop-argument.invariant.0 c.in-Some.ensures.steps).0 refl in (h.0, omega (arith, k.inside, c.requires.1))
-
 pub returns-in-Inline : goal.returns-in-Inline
 returns-in-Inline c = seeking-kept c.args.context.now.payload.now c.args.context.now.notes.now c.args.context.now.tables c.args.msg.bytes.now c.args.msg.base c.args.left c.requires.0 c.loop-argument.argument-iterator.at c.loop-argument.invariant.1 (goes-next c.loop-argument.invariant.0 c.in-Some.ensures.steps).0 refl (λ m k. (_, inline-typed (c.args.msg.base + c.in-Some.argument.start) (take (c.in-Some.argument.end - c.in-Some.argument.start) (drop c.in-Some.argument.start c.args.msg.bytes.now)) (rw (c.part-part.ensures.0, c.part-part.ensures.1) at c.argument_head.ensures) c.in-Inline.is m k)) (place-inline c.args.context.now.payload.now c.args.context.now.notes.now c.args.context.now.tables (take (c.in-Some.argument.end - c.in-Some.argument.start) (drop c.in-Some.argument.start c.args.msg.bytes.now)) (c.args.msg.base + c.in-Some.argument.start) Type-Argument-type Type-Argument-type_id c.args.left (argument-stands c.args.context.now.payload.now c.args.context.now.notes.now c.args.context.now.tables c.args.msg.bytes.now c.args.msg.base c.args.left c.requires.0 c.loop-argument.argument-iterator.at c.loop-argument.invariant.1 (goes-next c.loop-argument.invariant.0 c.in-Some.ensures.steps).0 refl) (inline-bytes (c.args.msg.base + c.in-Some.argument.start) (take (c.in-Some.argument.end - c.in-Some.argument.start) (drop c.in-Some.argument.start c.args.msg.bytes.now)) (rw (c.part-part.ensures.0, c.part-part.ensures.1) at c.argument_head.ensures) c.in-Inline.is) refl (rw c.part-part.ensures.0 at c.inline_place.ensures)) refl
-
-pub entry_place-requires : goal.entry_place-requires
-entry_place-requires c = c.requires.1
 
 pub returns-in-Some-entry_place : goal.returns-in-Some-entry_place
 returns-in-Some-entry_place c = rw (← c.in-Some-entry_place.is) (seeking-kept c.args.context.now.payload.now c.args.context.now.notes.now c.args.context.now.tables c.args.msg.bytes.now c.args.msg.base c.args.left c.requires.0 c.loop-argument.argument-iterator.at c.loop-argument.invariant.1 (goes-next c.loop-argument.invariant.0 c.in-Some.ensures.steps).0 refl (λ m k. (_, indexed-typed (c.args.msg.base + c.in-Some.argument.start) (take (c.in-Some.argument.end - c.in-Some.argument.start) (drop c.in-Some.argument.start c.args.msg.bytes.now)) (rw (c.part-part.ensures.0, c.part-part.ensures.1) at c.argument_head.ensures) c.in-ByIndex.is m k)) (place-indexed c.args.context.now.payload.now c.args.context.now.notes.now c.args.context.now.tables (take (c.in-Some.argument.end - c.in-Some.argument.start) (drop c.in-Some.argument.start c.args.msg.bytes.now)) (c.args.msg.base + c.in-Some.argument.start) Type-Argument-type Type-Argument-type_id c.args.left (argument-stands c.args.context.now.payload.now c.args.context.now.notes.now c.args.context.now.tables c.args.msg.bytes.now c.args.msg.base c.args.left c.requires.0 c.loop-argument.argument-iterator.at c.loop-argument.invariant.1 (goes-next c.loop-argument.invariant.0 c.in-Some.ensures.steps).0 refl) (indexed-bytes (c.args.msg.base + c.in-Some.argument.start) (take (c.in-Some.argument.end - c.in-Some.argument.start) (drop c.in-Some.argument.start c.args.msg.bytes.now)) (rw (c.part-part.ensures.0, c.part-part.ensures.1) at c.argument_head.ensures) c.in-ByIndex.is) refl (indexed-index (c.args.msg.base + c.in-Some.argument.start) (take (c.in-Some.argument.end - c.in-Some.argument.start) (drop c.in-Some.argument.start c.args.msg.bytes.now)) (rw (c.part-part.ensures.0, c.part-part.ensures.1) at c.argument_head.ensures) c.in-ByIndex.is) refl c.entry_place.ensures) c.in-Some-entry_place.is)

@@ -1,9 +1,5 @@
-use native.Mathlib.Omega.{arith}
-use Rattle.schema.proofs.FoundLaws.{place_in, place-inline, place-nowhere, place-indexed}
+use Rattle.schema.proofs.FoundLaws.{place-inline, place-nowhere, place-indexed}
 use Rattle.schema.proofs.places.type_place.Goals as goal
-
-pub inline_place-requires : goal.inline_place-requires
-inline_place-requires c = let h = place_in c.args.context.now.payload.now c.args.context.now.notes.now c.args.context.now.tables c.args.msg.bytes.now c.args.msg.base c.args.slot.inline c.args.slot.indexed c.args.left c.requires.0 c.bytes.ensures c.in-Some.is in (h.0, omega (arith, c.requires.0.inside, c.requires.1))
 
 pub returns-in-Some : goal.returns-in-Some
 returns-in-Some c = place-inline c.args.context.now.payload.now c.args.context.now.notes.now c.args.context.now.tables c.args.msg.bytes.now c.args.msg.base c.args.slot.inline c.args.slot.indexed c.args.left c.requires.0 c.bytes.ensures c.in-Some.is c.inline_place.ensures

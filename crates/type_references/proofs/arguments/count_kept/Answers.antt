@@ -1,7 +1,6 @@
 use mathlib.Core.Path.{refl}
-use native.Mathlib.Omega.{arith}
 use Rattle.messages.proofs.BodiesLaws.{goes-start, goes-next, goes-to}
-use Rattle.type_references.proofs.ArgumentLaws.{Counting, counting-start, counting-end, counting-in, counting_kept, counting-dropped}
+use Rattle.type_references.proofs.ArgumentLaws.{Counting, counting-start, counting-end, counting_kept, counting-dropped}
 use Rattle.schema.specs.told.SchemaTold.{lent}
 use Rattle.type_references.proofs.arguments.count_kept.Goals as goal
 
@@ -10,12 +9,6 @@ loop-argument-init c = goes-start c.into_iter-argument-iterator.ensures.into_ite
 
 pub returns : goal.returns
 returns c = counting-end (lent c.args.context.now) c.args.msg.bytes.now c.args.msg.base c.args.left c.loop-argument.argument-iterator.at c.loop-argument.count c.loop-argument.invariant.1 (goes-next c.loop-argument.invariant.0 c.in-None.ensures.steps).0 refl
-
-pub part-requires : goal.part-requires
-part-requires c = let h = counting-in (lent c.args.context.now) c.args.msg.bytes.now c.args.msg.base c.args.left c.loop-argument.argument-iterator.at c.loop-argument.count c.loop-argument.invariant.1 (goes-next c.loop-argument.invariant.0 c.in-Some.ensures.steps).0 refl in (h.1, h.2)
-
-pub overflow_add-count : goal.overflow_add-count
-overflow_add-count c = let h = counting-in (lent c.args.context.now) c.args.msg.bytes.now c.args.msg.base c.args.left c.loop-argument.argument-iterator.at c.loop-argument.count c.loop-argument.invariant.1 (goes-next c.loop-argument.invariant.0 c.in-Some.ensures.steps).0 refl in omega (arith, c.args.msg.fits, c.loop-argument.invariant.1.few)
 
 pub loop-argument-preserved-then-is_kept : goal.loop-argument-preserved-then-is_kept
 loop-argument-preserved-then-is_kept c =

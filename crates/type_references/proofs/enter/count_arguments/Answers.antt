@@ -1,10 +1,7 @@
 use Rattle.foundation.proofs.ErrorLaws.{handed_on}
-use Rattle.type_references.proofs.EnterLaws.{counted_none, counted-uncut, counted-all}
+use Rattle.type_references.proofs.EnterLaws.{counted-uncut, counted-all}
 use Rattle.schema.specs.told.SchemaTold.{lent}
 use Rattle.type_references.proofs.enter.count_arguments.Goals as goal
-
-pub returns-then-not-some : goal.returns-then-not-some
-returns-then-not-some c = counted_none (lent c.args.context.now) c.args.msg.bytes.now c.args.msg.base c.args.left (c.requires c.if-not-some.true)
 
 pub returns-in_err-check_messages : goal.returns-in_err-check_messages
 returns-in_err-check_messages c = rw (handed_on _ c.from_residual.ensures.1) (counted-uncut (lent c.args.context.now) c.args.msg.bytes.now c.args.msg.base c.args.left c.check_messages.ensures c.in_err-check_messages.was)

@@ -11,7 +11,7 @@ abbrev pub decreases-arguments_at : goal.decreases-arguments_at
 decreases-arguments_at l = 3 * remaining l.left (length l.msg.bytes.now) + 1
 
 abbrev pub decreases-parse_at : goal.decreases-parse_at
-decreases-parse_at l = 3 * remaining l.place.left (length l.msg.bytes.now) + 2
+decreases-parse_at l = 3 * remaining l.place.reached.left (length l.msg.bytes.now) + 2
 
 abbrev pub decreases-resolve_at : goal.decreases-resolve_at
 decreases-resolve_at l = 3 * remaining l.left 0
