@@ -10,7 +10,8 @@ use harness::{corpus, slow};
 use timing::Timing;
 
 const USAGE: &str = "bench [--clear] [--reader library|stand-in]
-bench --slow [WORDS]              the slowest inputs that could be made, each by itself, or those with such words
+bench --slow [WORDS]              the slowest inputs that could be made, each by itself, or those with such words;
+                                  with the words \"type table\" all that are made by it
 bench --each                      each real class by itself: those that cost most beside the Rust
 bench --corpus N [--rust|--room]  N times all real classes, for a profiler: reading, the Rust's decode, or what is told of the room
 bench --once FILE N [--rust|--room]   N calls on one program input, for a profiler";
@@ -143,7 +144,7 @@ fn slowest(mut timing: Timing, having: &str) {
     timing.lend(LARGEST);
     println!("reader: {}; a sheet area of {LARGEST} bytes", timing.reader.name());
     let mut inputs = slow::slowest();
-    inputs.retain(|slow| slow.words.contains(having));
+    inputs.retain(|slow| slow.words.contains(having) || slow.by_type_table && having == "type table");
     for by_type_table in [false, true] {
         println!("{}", if by_type_table { "made by the type table:" } else { "the slowest inputs:" });
         for slow in inputs.iter().filter(|slow| slow.by_type_table == by_type_table) {

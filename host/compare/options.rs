@@ -4,7 +4,7 @@ use harness::input::from_hex;
 use harness::reader::Reader;
 
 pub const USAGE: &str =
-    "compare [--seed N] [--count N] [--mode exhaustive|made|damaged|boundaries|room|strings|slow|convert|all] [--show N]
+    "compare [--seed N] [--count N] [--mode exhaustive|made|tables|damaged|boundaries|room|strings|slow|convert|all] [--show N]
 compare --file INPUT | --hex HEX    one program input: the line that is right, and whether the reader's is it
 compare --lines FILE                the line that is right for each input of a file of inputs
 compare --original-lines FILE       the Rust's own line for each, without what sheets have got since
@@ -15,6 +15,8 @@ compare --self-test                 plants mistakes in the stand-in; each must b
 pub enum Mode {
     Exhaustive,
     Made,
+    /// Type tables of every shape.
+    Tables,
     Damaged,
     Boundaries,
     Room,
@@ -26,9 +28,10 @@ pub enum Mode {
 }
 
 impl Mode {
-    pub const ALL: [Self; 8] = [
+    pub const ALL: [Self; 9] = [
         Self::Exhaustive,
         Self::Made,
+        Self::Tables,
         Self::Damaged,
         Self::Boundaries,
         Self::Room,

@@ -12,7 +12,7 @@ use harness::limits::{Areas, TEXT};
 use harness::random::Random;
 use harness::reader::{Caller, Reader, LARGEST};
 use harness::slow::{slowest, Slow};
-use harness::{corpus, damage, made, shapes, shrink};
+use harness::{corpus, damage, made, shapes, shrink, tables};
 use std::time::Instant;
 
 /// Where inputs come from.
@@ -39,6 +39,7 @@ impl Source {
         Some(match mode {
             Mode::Exhaustive => self.exhaustive.input(seed + number)?,
             Mode::Made => self.made(&mut random),
+            Mode::Tables => tables::input(&mut random),
             Mode::Damaged => self.damaged(&mut random, number),
             Mode::Boundaries => {
                 if random.once_in(4) {
@@ -81,7 +82,7 @@ impl Source {
 fn areas(mode: Mode, judge: &Judge) -> Vec<(Areas, Option<u64>)> {
     let areas = match mode {
         Mode::Exhaustive => vec![SMALL],
-        Mode::Made | Mode::Damaged => vec![Areas::PROGRAM],
+        Mode::Made | Mode::Tables | Mode::Damaged => vec![Areas::PROGRAM],
         Mode::Boundaries => around(judge).into_iter().chain([LARGE, Areas::PROGRAM]).collect(),
         Mode::Room => return fitting(&judge.room()).into_iter().map(|(areas, number)| (areas, Some(number))).collect(),
         Mode::Slow => vec![Areas::PROGRAM, LARGE],

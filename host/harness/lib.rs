@@ -18,4 +18,5 @@ pub mod second;
 pub mod shapes;
 pub mod shrink;
 pub mod slow;
+pub mod tables;
 pub mod tree;

@@ -1,12 +1,12 @@
 -- Parts of bytes and of units, by their ends.
 -- Assumes nothing.
 use mathlib.Core.Path.{◌≡◌, ap, sym, ◌∙◌}
-use mathlib.Core.List.{List, []}
+use mathlib.Core.List.{List}
 use Prim.Native.Nat.{ℕ, ◌+◌, ◌-◌, ◌≤◌}
 use native.Mathlib.Nat.{le_refl}
 use native.Mathlib.Omega.{arith}
-use lib.ListN.{drop_of_length-le, length, take, drop, length-take, length-drop}
-use lib.Seq.{take-nil, take-take, drop-drop, take_all, length-take-le}
+use lib.ListN.{length, take, drop, length-take, length-drop}
+use lib.Seq.{take-take, drop-drop, take_all, length-take-le}
 use Rattle.characters.specs.told.Places.{part_from}
 use Rattle.foundation.proofs.ChoiceLaws.{drop-take}
 
@@ -32,11 +32,3 @@ rest-is s a = take_all (length s - a) (drop a s) (rw length-drop (le_refl (lengt
 
 pub part-long : (s : List ℕ) (start end : ℕ) → start ≤ end → end ≤ length s → length (part_from start end s) ≡ end - start
 part-long s start end h k = length-take-le (end - start) (drop start s) (omega (arith, length-drop start s))
-
--- of any items: none, or all from the start on
-module _ {A : Type 0} (s : List A) (start end : ℕ) where
-  pub part-none : end ≤ start → take (end - start) (drop start s) ≡ []
-  part-none h = let z : end - start ≡ 0 = omega arith in rw z
-
-  pub part-past : length s ≤ start → take (end - start) (drop start s) ≡ []
-  part-past h = rw (drop_of_length-le s h, take-nil)

@@ -26,6 +26,7 @@ pub struct Opened {
 
 // The body from `at` on is cut, and where the entries of its type table stand is noted.
 // The bytes and what is lent for notes go apart, here and below: a struct of both would be taken apart at each call of `names`, `lookup` and `schema`.
+// That places fit 16 bits is required here and below, and is no type's fact: `open_payload` has tested it once.
 fn open_body(
     bytes: &[u8],
     at: usize,

@@ -1,15 +1,16 @@
 -- Laws of the table's rows.
 -- Assumes nothing.
 use mathlib.Core.Path.{◌≡◌, refl, sym, ap, ◌∙◌, subst}
-use mathlib.Core.Bool.{true, false}
+use mathlib.Core.Bool.{Bool, true, false}
 use mathlib.Core.List.{List, [], ◌∷◌, ◌++◌}
 use Prim.Native.Nat.{ℕ, zero, suc, ◌+◌, ◌*◌, ◌%◌, ◌-◌, ◌≤◌, ◌<◌}
 use native.Mathlib.Omega.{arith}
-use borrow.Author.Tests.{ltb-false}
+use borrow.Author.Tests.{ltb-true, ltb-false}
 use lib.Dec.{T, ltb, eqb}
 use lib.ListN.{length, take, drop, get_or, take-append-drop}
 use Rattle.std.specs.Prelude.{if◌then◌else◌}
 use Rattle.std.specs.Prelude.{Some, None}
+use Rattle.std.specs.Bool.{then_some}
 use Rattle.foundation.specs.Texts.{Text, ascii, same}
 use Rattle.foundation.proofs.ChoiceLaws.{same_true}
 use Rattle.characters.specs.Characters.{is_scalar, utf8, utf8_of}
@@ -87,8 +88,10 @@ pub hashed-row : (s : List ℕ) {a b r : ℕ} → a ≡ get_or s 7 0 → b ≡ g
     → (k : ℕ) → k < 36 → s ≡ listed_name k → r ≡ k
 hashed-row s p q e k l f = e ∙ rw (p, q, f) (tabulated (λ i. get_or hashed (hash (listed_name i)) 0) (λ i. i) 36 hashed_right k l)
 
-pub hashed-past : (s : List ℕ) {r : ℕ} → ((k : ℕ) → k < 36 → s ≡ listed_name k → r ≡ k) → 36 ≤ r → CanBe s None
-hashed-past s h g k l e = let i = h k l e in absurd (omega arith)
+-- A row below 36 can be the name's; any other number says that there is none.
+pub row_below : (s : List ℕ) (r : ℕ) (b : Bool) → ltb r 36 ≡ b → ((k : ℕ) → k < 36 → s ≡ listed_name k → r ≡ k) → CanBe s (then_some b r)
+row_below s r true e h = (omega (arith, ltb-true r 36 e), h)
+row_below s r false e h = λ k l f. let i = h k l f in absurd (omega (arith, ltb-false r 36 e))
 
 -- A row's name is found there, and not before.
 characters : tabulate (λ k. every is_scalar (row_at k).name) 36 ≡ tabulate (λ k. true) 36

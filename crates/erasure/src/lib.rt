@@ -106,7 +106,7 @@ fn row_of(name: &[u8]) -> Option<usize>
     }
     let hash = (n + usize::from(name[7]) + 3 * usize::from(name[n - 1])) % 128;
     let row = usize::from(ROWS[hash]);
-    if row < 36 { Some(row) } else { None }
+    (row < 36).then_some(row)
 }
 
 // The table: names, and what each means.

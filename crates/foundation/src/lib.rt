@@ -32,6 +32,7 @@ pub struct Read<T> {
 }
 
 // Some of the decoded bytes, and the offset of the first among all of them: the definitions' `Part` (`told_part` of specs/told/Located).
+// Functions take it beside a field's number, a place or a writer, and no struct holds both: a part is asked for many numbers and read at many places.
 #[derive(Clone, Copy)]
 pub struct Located<'a> {
     pub base: usize,
@@ -96,6 +97,7 @@ pub struct Tables {
 // What every reader is lent: the decoded bytes; d2 and where its strings end; the notes of the name table's records, and after them those of
 // the type table's entries; and how many there are of each.
 // It has no limit as an invariant: what reads one name or one entry asks for none. Where a walk needs limits, it requires them (`Ready`).
+// Functions take it beside a name, a message or a writer, and no struct holds both: each call makes another pair of them.
 #[derive(Clone, Copy)]
 pub struct Context<'a> {
     pub payload: &'a [u8],

@@ -63,7 +63,8 @@ pub fn input_end(counts: Counts) -> usize
     28 + 2 * counts.d1 + 2 * counts.d2 + 4 * counts.ends
 }
 
-// The signed number at a place.
+// The signed number at a place. It is cast, here and below, as `two_in` and `four_in` tell that a number fits: `try_from` would add an arm that no
+// input reaches.
 // Callers show that the place can be added to: it is a written number.
 pub fn signed_at(bytes: &[u8], at: usize) -> i32
     requires { at < 2 ^ 50 }
@@ -73,8 +74,7 @@ pub fn signed_at(bytes: &[u8], at: usize) -> i32
     n.cast_signed()
 }
 
-// Units from a place on, as many as are announced and have room. They are cast, here and below, as `two_in` and `four_in` tell that they fit: `try_from`
-// would add an arm that no input reaches.
+// Units from a place on, as many as are announced and have room.
 // Callers show that the place is a sum of counts of 4 bytes each, and that their own array is short.
 pub fn units_at(bytes: &[u8], at: usize, count: usize, units: &mut [u16]) -> usize
     requires { (at < 2 ^ 40) × (length units.old < 2 ^ 20) }

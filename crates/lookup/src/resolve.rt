@@ -10,6 +10,7 @@ use names::records::RECORD_WORDS;
 use record_names::record_words;
 
 // Puts what record `at` builds in place of where it stands.
+// That places fit 16 bits is required here, and is no type's fact: `resolve` has tested it once.
 fn resolve_one(bytes: &[u8], notes: &mut [u64], at: usize)
     requires { length bytes.now < 65536 }
     ensures { OneTold bytes.now notes.old notes.new at }

@@ -11,8 +11,8 @@ ghost use Rattle.messages.specs.told.Repeated.{pushed, pushed_to, first_two_of, 
 use foundation::Located;
 use wire::{WireError, WireValue, fields_from, varint_at};
 
-// The first two numbers of a list, mod 2^32, as far as it has them. The three states are those between which numbers are pushed. A step of a walk over
-// records is taken at `Both` alone; an `Option` of a pair for it would be a second type beside this one.
+// The first two numbers of a list, mod 2^32, as far as it has them. The three states are those between which numbers are pushed. A record's
+// step is taken at `Both` alone; an `Option` of a pair for it would be a second type beside this one.
 #[derive(Clone, Copy)]
 pub enum Two {
     Neither,

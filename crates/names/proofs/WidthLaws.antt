@@ -8,6 +8,8 @@ use native.Mathlib.Omega.{arith}
 use borrow.Author.Tests.{eqb-true}
 use lib.Dec.{eqb}
 use lib.ListN.{length}
+use Rattle.std.specs.Prelude.{IfSome}
+use Rattle.std.specs.Bool.{then_some}
 use Rattle.foundation.specs.Choices.{All}
 use Rattle.foundation.specs.Texts.{Text}
 use Rattle.foundation.proofs.ChoiceLaws.{if_ind}
@@ -72,8 +74,12 @@ unfolding utf8
 ascii-length [] a = refl
 ascii-length (c ∷ t) a = omega (arith, bytes_cons c t, width_one c a.0, ascii-length t a.1)
 
-pub bytes-length : (s : List ℕ) → is_ascii s ≡ true → length s ≡ length (utf8 (from_utf8 s))
+bytes-length : (s : List ℕ) → is_ascii s ≡ true → length s ≡ length (utf8 (from_utf8 s))
 bytes-length s a = let k = all_below s a in ascii-length s k ∙ ap (λ (t : Text). length (utf8 t)) (sym (from-ascii s k))
+
+pub bytes-at_once : (s : List ℕ) (b : Bool) → b ≡ is_ascii s → IfSome (then_some b (length s)) (λ size. size ≡ length (utf8 (from_utf8 s)))
+bytes-at_once s true e = bytes-length s (sym e)
+bytes-at_once s false e = tt
 
 -- Past the area nothing is written.
 pub put-past : {A : List ℕ} {at next : ℕ} (bytes : List ℕ) → length A ≤ at → next ≡ at + length bytes → PutText bytes at next A A

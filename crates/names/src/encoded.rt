@@ -76,11 +76,7 @@ impl Encoded for &[u8] {
     }
 
     fn size_at_once(self) -> Option<usize> {
-        if ascii_bytes(self) {
-            Some(self.len())
-        } else {
-            None
-        }
+        ascii_bytes(self).then_some(self.len())
     }
 }
 

@@ -91,17 +91,7 @@ pub fn predefined(index: u32) -> Option<Span>
 pub fn part_of<T>(s: &[T], part: Span) -> &[T]
     ensures { result.now ≡ take (part.end - part.start) (drop part.start s.now) }
 {
-    let Span { start, end } = part;
-    if end <= start {
-        return &s[0..0];
-    }
-    if s.len() <= start {
-        return &s[0..0];
-    }
-    if s.len() <= end {
-        return &s[start..];
-    }
-    &s[start..end]
+    s.get(part.start..part.end.min(s.len())).unwrap_or(&[])
 }
 
 // What a name is made of, if not of units of d2: a part of the list or of the payload.

@@ -103,7 +103,7 @@ impl From<WireError> for IndexError {
 // A place among the decoded bytes has 32 bits in a note.
 const PLACES: u64 = 4294967296;
 
-// Two places in one number.
+// Two places in one number. Two numbers of 32 bits and no `Span`, so that nothing is asked of a caller.
 pub fn packed(start: u32, end: u32) -> u64
     ensures { result ≡ packed_places start end }
 {
@@ -129,7 +129,8 @@ pub fn unpacked(places: u64, size: usize) -> Option<Span>
 pub const RECORD_WORDS: usize = 3;
 
 // The words of record `count`, which ends where the index `next` begins.
-// This and `note_records` aren't one with schema's `put_entry` and `note_entries`: those sum up no index, and one of both would take more.
+// This and `note_records` aren't one with schema's `put_entry` and `note_entries`: those sum up no index, and one function for both would take
+// more parameters and more laws.
 fn put_entry(notes: &mut [u64], count: usize, start: u32, end: u32, next: u64)
     requires { 3 * count + 2 < length notes.old }
     ensures { notes.new ≡ set (set notes.old (3 * count) (packed_places start end)) (3 * count + 2) next }

@@ -145,6 +145,7 @@ fn put_measured<E: Encoded>(text: E, change: Change, size: usize, area: &mut [u8
 
 // The characters of a name's source, changed, where their size is noted. Where there is room for none, nothing is walked.
 // Bytes and units are of two types, so each arm, here and in `put_walked`, calls the writer itself: no slice stands for both.
+// One function for both would take a writer that is generic over `Encoded`, which no closure is.
 fn put_noted(context: &Context<'_>, name: Name, change: Change, area: &mut [u8], at: usize) -> usize
     requires { (is_measured name.size ≡ true) × (at + name.size < 2 ^ 64) }
     ensures { PutText (sized_bytes name.size change (source_text context.now.payload.now context.now.d2.now name.source name.part)) at result area.old area.new }

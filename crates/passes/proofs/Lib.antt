@@ -1,3 +1,4 @@
 pub mod AreaLaws
 pub mod TaskLaws
+pub mod JoinedLaws
 pub mod PassLaws

@@ -1,3 +1,4 @@
 pub mod AreaTold
 pub mod TaskTold
+pub mod OpenedTold
 pub mod PassTold

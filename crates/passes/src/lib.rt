@@ -19,16 +19,17 @@ ghost use Rattle.passes.specs.told.PassTold.{of_index, of_decode, PassedTold, Fr
 
 use areas::write_in;
 use declarations::body::{Sections, body_in};
-use declarations::payload::open_lent;
 use encoding::{DecodeError, decode};
 use foundation::{Context, Located};
 use inputs::outcome::{Refusal, Sizes};
 use inputs::{Fault, Kind, Units};
 use names::records::IndexError;
+use opened::open_joined;
 use schema::{ALLOWANCE, Section, Stop};
 use sheet::{Output, State};
 
 mod areas; // areas.rt: what was measured, written into both areas
+mod opened; // opened.rt: the decoded bytes opened, their type table joined
 
 // Two areas that are written into: the caller's, or the scratch areas of the first pass.
 // `Output` of sheet has two as well; it doesn't hold an `AreaPair`, since each writer below would then reach them through one field more.
@@ -234,17 +235,17 @@ fn read_in(
 // The decoded bytes of a kind that carries declarations: opened, and read with all that is then lent.
 fn open_in(
     asked: Asked,
-    bytes: &[u8],
+    bytes: &mut [u8],
     units: &Units<'_>,
     notes: &mut [u64],
     scratch: &mut AreaPair<'_>,
     areas: &mut AreaPair<'_>,
 ) -> Result<Reply, PassError>
-    requires { InLimits bytes.now units.now.d2.now units.now.ends.now }
+    requires { InLimits bytes.old units.now.d2.now units.now.ends.now }
     ensures areas_kept { AreasKept areas.old areas.new }
-    ensures written { OnAreas (PassedTold asked (payload (kind_number asked.kind) (strings units.now.d2.now units.now.ends.now) bytes.now) (LentRoom bytes.now notes.new) result) areas.old areas.new }
+    ensures written { OnAreas (PassedTold asked (payload (kind_number asked.kind) (strings units.now.d2.now units.now.ends.now) bytes.old) (LentRoom bytes.old notes.new) result) areas.old areas.new }
 {
-    let opened = open_lent(bytes, units, notes)?;
+    let opened = open_joined(bytes, units, notes)?;
     let context = Context {
         payload: bytes,
         d2: units.d2,
@@ -271,5 +272,5 @@ pub fn decode_in(
     ensures written { OnAreas (PassedTold asked (reading_of (kind_number asked.kind) units.now.d1.now units.now.d2.now units.now.ends.now) (FrameRoom units.now.d1.now bytes.new notes.new) result) areas.old areas.new }
 {
     let length = decode(units.d1, bytes)?;
-    open_in(asked, &bytes[..length], units, notes, scratch, areas)
+    open_in(asked, &mut bytes[..length], units, notes, scratch, areas)
 }

@@ -29,7 +29,7 @@ fn unwrapped_part(s: &[u8], from: u32, to: u32) -> Option<Span>
 }
 
 // A name as a class name, made of another part of its source.
-fn qualified_part(name: Name, part: Span) -> Name
+pub(crate) fn qualified_part(name: Name, part: Span) -> Name
     ensures { result ≡ qualified_part name part }
 {
     Name {

@@ -2,6 +2,7 @@
 ghost use Rattle.std.specs.Prelude.{◌≡◌, ◌+◌, ◌*◌, ◌<◌};
 ghost use Rattle.record_names.specs.told.Note.{source_kind, source_of, noted_part, noted_name, noted, noted_class, class_size, class_of, NameFits, WordsTold};
 
+use crate::class_name::qualified_part;
 use foundation::Span;
 use names::name::{Name, Operation, Source};
 
@@ -124,10 +125,8 @@ fn class_of(name: Name, part: Span) -> Name
     ensures { result ≡ class_of name part }
 {
     Name {
-        part,
-        qualified: true,
         size: class_size(name.size, name.part.start, part.start),
-        ..name
+        ..qualified_part(name, part)
     }
 }
 

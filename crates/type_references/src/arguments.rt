@@ -49,6 +49,7 @@ pub(crate) fn argument_at(msg: Located<'_>, part: Span) -> Result<ArgumentHead, 
 }
 
 // Is an argument kept? It is a star, or its type is inline or at an index that the depth allows to look up.
+// `resolve_at` asks the same two things of an index, but needs the place of the entry.
 fn is_kept(msg: Located<'_>, left: usize, context: &Context<'_>) -> bool
     ensures { KeptTold (lent context.now) msg.entry.bytes.now msg.entry.base left result }
 {

@@ -105,6 +105,7 @@ pub(crate) fn parse_at(
 }
 
 // The type at an index of the type table, or nothing.
+// Schema's `entry_place` takes these steps too, but tells of what a reading has accepted.
 #[cycle(arguments_at_parse_at_resolve_at)]
 pub(crate) fn resolve_at(
     index: u32,

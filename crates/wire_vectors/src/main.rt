@@ -220,7 +220,10 @@ fn field_numbers(rt: &impl Print) -> io::Result<()> {
         rt,
         "field 1 in a tag of two bytes",
         Located::whole(b"\x88\x00\x05"),
-    )?;
+    )
+}
+
+fn large_field_numbers(rt: &impl Print) -> io::Result<()> {
     show(
         rt,
         "field 536,870,911",
@@ -269,5 +272,6 @@ fn main(rt: HostRuntime) -> io::Result<()> {
     cut_short(&rt)?;
     wire_types(&rt)?;
     field_numbers(&rt)?;
+    large_field_numbers(&rt)?;
     asked(&rt)
 }

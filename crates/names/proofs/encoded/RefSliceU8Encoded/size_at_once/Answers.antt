@@ -1,6 +1,5 @@
-use mathlib.Core.Path.{sym, ◌∙◌}
-use Rattle.names.proofs.WidthLaws.{bytes-length}
+use Rattle.names.proofs.WidthLaws.{bytes-at_once}
 use Rattle.names.proofs.encoded.RefSliceU8Encoded.size_at_once.Goals as goal
 
-pub returns-then-ascii_bytes : goal.returns-then-ascii_bytes
-returns-then-ascii_bytes c = bytes-length c.args.self.now (sym c.ascii_bytes.ensures ∙ c.if-ascii_bytes.true)
+pub returns : goal.returns
+returns c = rw c.then_some.ensures (bytes-at_once c.args.self.now c.ascii_bytes.result c.ascii_bytes.ensures)

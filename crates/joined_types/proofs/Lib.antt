@@ -1,0 +1,14 @@
+pub mod AlikeLaws
+pub mod FieldLaws
+pub mod HeaderLaws
+pub mod RunLaws
+pub mod MovedLaws
+pub mod JoiningLaws
+pub mod RestLaws
+pub mod TypeRestLaws
+pub mod SameReads
+pub mod TypeReadings
+pub mod BodyReadings
+pub mod PutBackLaws
+pub mod TableLaws
+pub mod FateLaws

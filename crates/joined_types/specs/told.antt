@@ -1,0 +1,3 @@
+pub mod Alike
+pub mod Runs
+pub mod Fates
