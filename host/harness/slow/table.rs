@@ -10,7 +10,7 @@ const ARRAY: u64 = 1;
 const INT: u64 = 2;
 
 /// Types inside one another that joining goes into: `LEVELS` of the reader's joined_types.
-const JOINED: usize = 32;
+const JOINED: usize = 64;
 
 pub fn inputs() -> Vec<Slow> {
     let mut all = entered_by_functions();
