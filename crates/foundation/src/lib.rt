@@ -32,7 +32,7 @@ pub struct Read<T> {
 }
 
 // Some of the decoded bytes, and the offset of the first among all of them: the definitions' `Part` (`told_part` of specs/told/Located).
-// Functions take it beside a field's number, a place or a writer, and no struct holds both: a part is asked for many numbers and read at many places.
+// Functions take it beside a field's number, a place or a writer, and no struct but the iterators `Fields` and `Bodies` holds both: a part is asked for many numbers and read at many places.
 #[derive(Clone, Copy)]
 pub struct Located<'a> {
     pub base: usize,
