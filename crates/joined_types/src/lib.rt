@@ -156,6 +156,7 @@ impl ArgumentSeen {
 
 // The argument in a message, and its type inline down to so many levels. Fields are joined in runs: one is joined when a field comes that stays.
 // A loop by a place, here and below: `Fields` of wire goes over bytes that stay, and these are written on the way.
+// This and `join_type` are of one shape: one loop for both would take a trait of what was seen, with the law of each, which is longer.
 #[cycle(join_argument_join_type)]
 fn join_argument(s: &mut [u8], types: usize, levels: usize)
     ensures { JoinedAs (SameArgument types levels) s.old s.new }
