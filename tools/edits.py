@@ -1,10 +1,9 @@
 #!/usr/bin/env python3
-"""The wrong edits of crates/*/must-fail, and whether the prover refuses each for what it gets wrong. Of a file with several edits rt tells only that
-something was refused, so each of them stands in a file of its own too.
+"""The wrong edits of crates/*/must-fail, and whether the prover refuses each for what it gets wrong. Each stands in a file of its own: of several in one
+file rt would tell only that something was refused.
 
 usage: tools/edits.py --check                  whether they fit the files
        tools/edits.py --refused LOG [CRATE..]  LOG: what `rt ci` or `rt must-fail` printed: whether each was refused at a goal of its function
-       tools/edits.py --split [CRATE..]        gives each of several edits that stand in one file a file of its own too
        tools/edits.py --names [CRATE..]        names the function of each edit of one; has edits that change names bring the proof along, after a change of
                                                the edits, the code or its proofs
 
@@ -17,7 +16,6 @@ Goals and steps are named after the code, as `if-tag-lt8` after `tag < 8`. An ed
 refused for that alone. So after its pairs in src/ stand the lines of the proof with the names that are then right; --names writes them."""
 import pathlib
 import re
-import shutil
 import sys
 import tempfile
 
@@ -116,12 +114,8 @@ def files(crates=()):
 def misfits(path):
     """Why the edits of a file don't fit the crate, or the file doesn't fit them."""
     parts, named = parts_of(path)
-    for part in parts if len(parts) > 1 else ():
-        alone = path.with_name(f'{part.label}.edit')
-        if not alone.exists():
-            yield f'{part.label}: rt tells only that one of several was refused; tools/edits.py --split gives each a file too'
-        elif not same_pairs(part, parts_of(alone)[0]):
-            yield f'{part.label}: {alone.name} is another edit'
+    if len(parts) > 1:
+        yield f'{", ".join(part.label for part in parts)}: of several edits rt tells only that one was refused, so each needs a file'
     for part in parts:
         for (file, at, _), (_, old, _) in zip(part.places(), part.pairs):
             if at is None:
@@ -133,13 +127,8 @@ def misfits(path):
         changed = part.changed(known)
         if not changed or not set(part.named) <= changed:
             yield f'{part.label}: it does not change {", ".join(part.named)}, or not only functions'
-    if len(parts) == 1 and parts[0].label != path.stem:
+    if parts[0].label != path.stem:
         yield f'{parts[0].label}: its label is not the name of its file'
-
-
-def same_pairs(part, others):
-    """Whether the file of one edit has that edit, the lines of its proof left out."""
-    return len(others) == 1 and part.pairs == [pair for pair in others[0].pairs if not pair[0].startswith('proofs/')]
 
 
 def tried(log):
@@ -149,13 +138,13 @@ def tried(log):
 
 def unrefused(path, said):
     """Why an edit was not refused as it must be."""
-    (part, *more), _ = parts_of(path)
+    (part, *_), _ = parts_of(path)
     words = said.get((part.crate, path.stem), 'it was not tried')
     if not words.startswith(AS_IT_MUST_BE):
         yield words
         return
     why, known = words[len(AS_IT_MUST_BE):], functions_of(part.crate)
-    if more or not part.named:
+    if not part.named:
         return
     if why.startswith(' (only by a limit'):
         yield f'refused, but{why[:200]}'
@@ -169,22 +158,6 @@ def is_at(why, function):
     """Whether what rt tells first is a goal of a function."""
     unmet, refused = re.match(UNMET, why), re.match(REFUSED, why)
     return bool(unmet and function.has(unmet['file'], int(unmet['line'])) or refused and refused['place'] == function.place)
-
-
-def split(crates):
-    """Gives each edit of a file with several a file of its own too."""
-    for path in files(crates):
-        parts, _ = parts_of(path)
-        if len(parts) == 1:
-            continue
-        places = {part.label: path.with_name(f'{part.label}.edit') for part in parts}
-        if len(places) < len(parts):
-            sys.exit(f'edits.py: {path.parent.parent.name}/{path.stem}: two of its edits have one name')
-        for part in parts:
-            if places[part.label].exists():
-                continue
-            places[part.label].write_text('\n'.join(part.lines()) + '\n')
-        print(f'{path.parent.parent.name}/{path.stem}:', ', '.join(places))
 
 
 def apart(edits, known):
@@ -221,11 +194,11 @@ def bring_along(crates):
         for crate in sorted({path.parent.parent.name for path in files(crates)}):
             edits, known = [], functions_of(crate)
             for path in files([crate]):
-                part, *others = parts_of(path)[0]
+                part = parts_of(path)[0][0]
                 part.pairs = [pair for pair in part.pairs if not pair[0].startswith('proofs/')] if part.named else part.pairs
                 changed = sorted(part.changed(known))
                 part.named = part.named or (changed if len(changed) == 1 else [])
-                if part.named and not others:
+                if part.named:
                     edits.append((path, part))
             before = follow.names(ROOT / 'crates' / crate) if edits else None
             for group in apart(edits, known):
@@ -249,25 +222,21 @@ def bring_along(crates):
 
 def main(words):
     command, rest = words[:1], words[1:]
-    if command not in (['--check'], ['--refused'], ['--split'], ['--names']) or command == ['--check'] and rest or command == ['--refused'] and not rest:
+    if command not in (['--check'], ['--refused'], ['--names']) or command == ['--check'] and rest or command == ['--refused'] and not rest:
         sys.exit(__doc__)
     if command == ['--names']:
         bring_along(rest)
-        return False
-    if command == ['--split']:
-        split(rest)
         return False
     crates, said = rest[1:], None
     if command == ['--refused']:
         with open(rest[0], encoding='utf-8', errors='replace') as f:
             said = tried(f.read())
-    wrong = count = 0
+    wrong = 0
     for path in files(crates):
-        count += len(parts_of(path)[0]) == 1
         for why in misfits(path) if said is None else unrefused(path, said):
             print(f'! {path.parent.parent.name}/{path.stem}: {why}')
             wrong += 1
-    print(f'edits: {count} in {len(files(crates))} files, {wrong} not as they must be')
+    print(f'edits: {len(files(crates))}, {wrong} not as they must be')
     return wrong > 0
 
 
