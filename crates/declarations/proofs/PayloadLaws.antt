@@ -40,7 +40,8 @@ use Rattle.schema.specs.told.TableTold.{TypeIndexTold}
 use Rattle.schema.specs.declared.table.TypeIndex.{TypeIndex}
 use Rattle.declarations.specs.Payload.{body_of, payload}
 use Rattle.declarations.specs.told.PayloadTold.{body_from, BodyAt, BodyOpened, NotedOpened, OpenedAt, OpenedTold, LentTold}
-use Rattle.schema.specs.told.SchemaTold.{EntriesOf}
+use Rattle.schema.specs.told.SchemaTold.{EntriesOf, entries_in}
+use Rattle.schema.proofs.AlikeLaws.{deepest_itself}
 use Rattle.foundation.specs.declared.Tables.{Tables}
 use Rattle.declarations.specs.declared.payload.Opened.{Opened}
 use Rattle.std.proofs.Common.{Result, Ok, Err}
@@ -253,6 +254,7 @@ module _ (bytes d2 ends notes : List ℕ) (limit : ℕ) (c : limit ≡ codes_fro
   lent-body o t coded sized k m s = record {
     opened = opened_longer bytes part sized o.at o.tables kept t;
     sizes = s;
+    deepest = deepest_itself bytes (entries_in o.tables sized) o.tables.types;
   }
     where
       codes : Keeps limit all coded

@@ -94,17 +94,20 @@ pub struct Tables {
     pub first_nullable: Option<u32>,
 }
 
-// What every reader is lent: the decoded bytes; d2 and where its strings end; the notes of the name table's records, and after them those of
-// the type table's entries; and how many there are of each.
+// What every reader is lent: the decoded bytes; the same bytes as an entry of the type table is read where no look-up is left (schema's `DeepestOf`), which
+// are the same slice where there is no type table; d2 and where its strings end; the notes of the name table's records, and after them those of the type
+// table's entries; and how many there are of each.
 // It has no limit as an invariant: what reads one name or one entry asks for none. Where a walk needs limits, it requires them (`Ready`).
 // Functions take it beside a name, a message or a writer, and no struct holds both: each call makes another pair of them.
 #[derive(Clone, Copy)]
 pub struct Context<'a> {
     pub payload: &'a [u8],
+    pub deepest: &'a [u8],
     pub d2: &'a [u16],
     pub ends: &'a [u32],
     pub notes: &'a [u64],
     pub tables: Tables,
+    pub ghost as_long: { length deepest.now ≡ length payload.now },
 }
 
 impl<'a> Context<'a> {
@@ -114,6 +117,7 @@ impl<'a> Context<'a> {
     {
         Context {
             payload,
+            deepest: payload,
             d2: &[],
             ends: &[],
             notes: &[],

@@ -18,7 +18,7 @@ use Rattle.schema.specs.Reading as Reading
 use Rattle.schema.specs.Reading.{Read, pure, lift, TypeTable, Scope, scope, name_in, class_name_in}
 use Rattle.schema.specs.Types.{declared_type, no_table, type_table_in}
 use Rattle.schema.specs.Members.{signature_of, signature_in, field_of, forgiven, field_in, parameter_in, parameters_in, constructor_in, function_in, property_in, alias_in, Head, head, head_in, constructors_in, function_field, property_field, alias_field, type_table_field, lists_in, after_table, body_in}
-use Rattle.joined_types.specs.told.Alike.{Alike, AlikeOption, SameTypes, SameTable}
+use Rattle.schema.specs.told.Alike.{Alike, AlikeOption, SameTypes, SameTable}
 use Rattle.joined_types.proofs.SameReads.{SameRead, same-path, same-read, same-bind, same-if_some, same-named, same-each, same-list_in, same-of_signature}
 use Rattle.joined_types.proofs.TypeReadings.{same-index, same-varint_of, same-name_in, same-class_name_in, SameScope, same-declared_type}
 

@@ -1,6 +1,6 @@
 -- The walks of `join_type` and `join_argument`: what stands in their loops, and each step by what becomes of the field.
 -- Assumes nothing.
-use mathlib.Core.Path.{◌≡◌, refl, sym, subst, ◌∙◌}
+use mathlib.Core.Path.{◌≡◌, refl, ap, sym, subst, ◌∙◌}
 use mathlib.Core.Bool.{Bool, true, false}
 use mathlib.Core.List.{List}
 use Prim.Native.Nat.{ℕ, zero, suc, ◌+◌, ◌-◌, ◌≤◌, ◌<◌}
@@ -24,13 +24,13 @@ use Rattle.joined_types.specs.declared.Fate.{Fate}
 use Rattle.joined_types.specs.declared.Fate.TheVariants as fate
 use Rattle.joined_types.specs.declared.TypeSeen.{TypeSeen}
 use Rattle.joined_types.specs.declared.ArgumentSeen.{ArgumentSeen}
-use Rattle.joined_types.specs.told.Alike.{Dropped, SameType, SameArgument, JoinedAs}
+use Rattle.schema.specs.told.Alike.{Dropped, SameType, SameArgument, JoinedAs}
 use Rattle.joined_types.specs.told.Runs.{RunJoined}
 use Rattle.joined_types.specs.told.Fates.{NoArgument, TypeFate, ArgumentFate}
 use Rattle.joined_types.proofs.JoiningLaws.{Lasting, Joining, same_field_read, joining_start, joining_run, joining_passed, joining_kept, joining_body, joining_end}
 use Rattle.joined_types.proofs.PutBackLaws.{put, put-back, put-joined}
 use Rattle.joined_types.proofs.RestLaws.{Unasked}
-use Rattle.joined_types.proofs.AlikeLaws.{alike-itself, type-itself}
+use Rattle.schema.proofs.AlikeLaws.{alike-itself, type-itself}
 use Rattle.joined_types.proofs.TypeRestLaws.{
   TypeRest,
   ArgumentRest,
@@ -202,4 +202,5 @@ module _ (n levels : ℕ) {s t : List ℕ} {seen : ArgumentSeen} {run at : ℕ} 
               joining_body (joining_run argument-lasting w j) 0 x (told-joined argument_inside f g j) argument-begins is-inline.1 (put-back t' ys p b.0 b.1 Q i) λ base.
               rw (is-inline.0, projected-as, inlined-as, indexed-as)
               (argument_body Q (type-itself n levels) seen.projected seen.inlined seen.indexed (part_between base t' p.start p.end)
-              (part_between base (put t' ys p b.0 b.1) p.start p.end) ((put-joined t' ys p b.0 b.1 Q i).alike (base + p.start)))
+              (part_between base (put t' ys p b.0 b.1) p.start p.end) (ap (λ (k : ℕ). (base + p.start, k)) (sym (put-joined t' ys p b.0 b.1 Q i).many))
+              ((put-joined t' ys p b.0 b.1 Q i).alike (base + p.start)))

@@ -20,9 +20,9 @@ use Rattle.wire.specs.declared.Field as code
 use Rattle.wire.proofs.Later.{Later, field-later}
 use Rattle.wire.proofs.WalkLaws.{whole, field-inside, cut_field}
 use Rattle.messages.proofs.BodyLaws.{body_next}
-use Rattle.joined_types.specs.told.Alike.{Alike, JoinedAs}
+use Rattle.schema.specs.told.Alike.{Alike, JoinedAs}
 use Rattle.joined_types.specs.told.Runs.{SameAround, OneField, unchanged, one_field, RunJoined, joined_field}
-use Rattle.joined_types.proofs.AlikeLaws.{alike-itself, alike_weaken}
+use Rattle.schema.proofs.AlikeLaws.{alike-itself, alike_weaken}
 use Rattle.joined_types.proofs.FieldLaws.{take_fewer, take_later, goes_by, field_kept, field_anywhere}
 
 -- A relation of two messages that holds with one field more before each of them, or before the first alone.
@@ -91,7 +91,7 @@ joining_start W R s h = record {
 pub joining_end : {W R : Message → Message → Type 0} {s t : List ℕ} {at : ℕ} → ((m : Message) → R m m) → Joining W R s t at at → JoinedAs W s t
 joining_end {W} {R} {s} {t} {at} h j = j.stays t j.many refl λ base. rw j.rest (alike-itself R h (cut (rest_of base s at)))
 
-drop_later : (j k : ℕ) (s t : List ℕ) → j ≤ k → drop j t ≡ drop j s → drop k t ≡ drop k s
+pub drop_later : (j k : ℕ) (s t : List ℕ) → j ≤ k → drop j t ≡ drop j s → drop k t ≡ drop k s
 drop_later j k s t h e =
     let n : j + (k - j) ≡ k = omega arith in
     rw (← n, ← drop-drop (k - j) j t, ← drop-drop (k - j) j s, e)

@@ -1,4 +1,3 @@
-pub mod AlikeLaws
 pub mod FieldLaws
 pub mod HeaderLaws
 pub mod RunLaws
@@ -8,7 +7,9 @@ pub mod RestLaws
 pub mod TypeRestLaws
 pub mod SameReads
 pub mod TypeReadings
+pub mod DeepestLaws
 pub mod BodyReadings
 pub mod PutBackLaws
 pub mod TableLaws
+pub mod EntriesLaws
 pub mod FateLaws

@@ -30,7 +30,7 @@ use Rattle.schema.specs.declared.argument.Projection.{Projection}
 use Rattle.schema.specs.declared.argument.ArgumentHead.{ArgumentHead}
 use Rattle.schema.specs.declared.argument.ArgumentHead.TheVariants as argument
 use Rattle.schema.specs.told.ArgumentTold.{ArgumentHeadTold, ArgumentHeadIs}
-use Rattle.joined_types.specs.told.Alike.{Dropped}
+use Rattle.schema.specs.told.Alike.{Dropped}
 use Rattle.joined_types.specs.told.Fates.{NoTypeTold, DroppedTold, EntriesCounted}
 use Rattle.joined_types.proofs.FieldLaws.{ValueAgain, field_again}
 

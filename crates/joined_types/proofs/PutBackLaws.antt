@@ -9,7 +9,7 @@ use lib.Seq.{length-take-le, take_at, drop_at}
 use borrow.Rule.Slice.PartMut.{put_mid, post_of, mid_len, same_len_mid, take_put, drop_put}
 use Rattle.foundation.specs.declared.Span.{Span}
 use Rattle.wire.specs.Wire.{Message}
-use Rattle.joined_types.specs.told.Alike.{JoinedAs}
+use Rattle.schema.specs.told.Alike.{JoinedAs}
 use Rattle.joined_types.specs.told.Runs.{SameAround}
 
 module _ (s ys : List ℕ) (p : Span) (h : p.start ≤ p.end) (g : p.end ≤ length s) where

@@ -16,7 +16,7 @@ use Rattle.wire.specs.Messages.{messages}
 use Rattle.declaration_rows.specs.Declarations.{Signature}
 use Rattle.schema.specs.Reading.{Read, pure, ◌>>=◌, lift, enter, keep, kept, each}
 use Rattle.schema.specs.Members.{named, list_in, of_signature}
-use Rattle.joined_types.specs.told.Alike.{Alike, AlikeOption, Thinned, done, keeps, drops}
+use Rattle.schema.specs.told.Alike.{Alike, AlikeOption, Thinned, done, keeps, drops}
 
 pub record SameRead {A : Type 0} (m m' : Read A) : Type 0 where
   pub at : (l : ℕ) → m l ≡ m' l

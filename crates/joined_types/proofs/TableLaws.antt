@@ -24,10 +24,10 @@ use Rattle.wire.specs.declared.WireValue.TheVariants as wire
 use Rattle.wire.specs.declared.Field as code
 use Rattle.wire.proofs.WalkLaws.{bind_ok, ok_same, field-inside}
 use Rattle.messages.specs.told.Asked.{bodies, piece_if}
-use Rattle.joined_types.specs.told.Alike.{Alike, AlikeOption, SameType, SameTypes, next_entry, SameTable, JoinedAs}
+use Rattle.schema.specs.told.Alike.{Alike, AlikeOption, SameType, SameTypes, next_entry, SameTable, JoinedAs}
 use Rattle.joined_types.specs.told.Runs.{SameAround}
 use Rattle.joined_types.specs.told.Fates.{EntriesCounted, BodyJoined}
-use Rattle.joined_types.proofs.AlikeLaws.{alike-itself, alike-cons, alike-some, option-itself, type-itself, types-itself}
+use Rattle.schema.proofs.AlikeLaws.{alike-itself, alike-cons, alike-some, option-itself, type-itself, types-itself}
 use Rattle.joined_types.proofs.JoiningLaws.{Carries, Joining, joining_start, joining_end, joining_kept, joining_body}
 use Rattle.joined_types.proofs.PutBackLaws.{put-back, put-joined}
 use Rattle.joined_types.proofs.BodyReadings.{SameBody, bodies-alike}

@@ -18,8 +18,8 @@ use Rattle.names.specs.Names.{Names, string, qualified_name}
 use Rattle.declaration_rows.specs.Declarations.{star, Ty, Argument, projected, blank, types_of}
 use Rattle.schema.specs.Reading.{Read, pure, ◌>>=◌, lift, enter, Scope, name_in, class_name_in, allowance}
 use Rattle.schema.specs.Types.{Walk, max_depth, nullable_from, resolve_at, type_in, projection_of, projection_in, argument_in, parse_at, type_at, declared_type}
-use Rattle.joined_types.specs.told.Alike.{Alike, AlikeOption, NoEntry, Dropped, Thinned, ArgumentsBy, TypesBy, SameType, SameArgument, SameTypes, no_entries, next_entry}
-use Rattle.joined_types.proofs.AlikeLaws.{alike-itself, option-itself, by-itself, type-itself}
+use Rattle.schema.specs.told.Alike.{Alike, AlikeOption, NoEntry, Dropped, Thinned, ArgumentsBy, TypesBy, SameType, SameArgument, SameTypes, no_entries, next_entry}
+use Rattle.schema.proofs.AlikeLaws.{alike-itself, option-itself, by-itself, type-itself}
 use Rattle.joined_types.proofs.SameReads.{SameRead, same-path, same-read, same-then, same-enter, same-if, same-bind, same-if_some, alike-then, alike-if_some, thinned-kept}
 
 -- What is read of a field goes by its first value.

@@ -10,15 +10,20 @@ use Rattle.foundation.specs.Results.{Part}
 use Rattle.fields.specs.Fields.{Type-argument, Type-nullable, Type-class_name, Type-Argument-projection, Type-Argument-type, Type-Argument-type_id}
 use Rattle.wire.specs.Wire.{body, Field, field, Message, cut}
 use Rattle.wire.specs.Messages.{values, value, bytes_of, message, messages}
-use Rattle.joined_types.specs.told.Alike.{Alike, AlikeOption, Dropped, Thinned, ArgumentsBy, TypesBy, SameType}
+use Rattle.schema.specs.told.Alike.{Alike, AlikeOption, extent, Dropped, Thinned, ArgumentsBy, TypesBy, SameType}
 use Rattle.joined_types.proofs.JoiningLaws.{Carries, Passes, Lasting}
-use Rattle.joined_types.proofs.AlikeLaws.{alike-itself, option-itself, thinned-itself, argument-itself}
+use Rattle.schema.proofs.AlikeLaws.{alike-itself, option-itself, thinned-itself, argument-itself}
 use Rattle.joined_types.proofs.RestLaws.{
   Unless,
   Unasked,
   value_both,
   value-met,
   value-passed,
+  SamePlaced,
+  placed-both,
+  placed-met,
+  placed-passed,
+  placed-body,
   messages-both,
   messages-passed,
   messages-body,
@@ -45,6 +50,7 @@ pub record TypeRest (P : Message → Message → Type 0) (n : ℕ) (named flagge
 -- Of an argument: whether its projection, its type and its index have been met.
 pub record ArgumentRest (P : Message → Message → Type 0) (projected inlined indexed : Bool) (m m' : Message) : Type 0 where
   pub projection : Unless projected (value Type-Argument-projection m ≡ value Type-Argument-projection m')
+  pub placed : Unless inlined (SamePlaced Type-Argument-type m m')
   pub inline : Unless inlined (Alike (AlikeOption P) (message Type-Argument-type m) (message Type-Argument-type m'))
   pub index : Unless indexed (value Type-Argument-type_id m ≡ value Type-Argument-type_id m')
 
@@ -54,7 +60,7 @@ module _ (P : Message → Message → Type 0) where
   type_whole n m m' r = record { name = r.name; nullable = r.nullable; arguments = r.arguments }
 
   pub argument_whole : (m m' : Message) → ArgumentRest P false false false m m' → ArgumentsBy P m m'
-  argument_whole m m' r = record { projection = r.projection; indexed = r.index; inline = r.inline }
+  argument_whole m m' r = record { projection = r.projection; indexed = r.index; placed = r.placed; inline = r.inline }
 
 pub types_whole : (n k : ℕ) (m m' : Message) → TypeRest (SameType n k) n false false m m' → SameType n (suc k) m m'
 unfolding SameType
@@ -116,15 +122,17 @@ module _ (P : Message → Message → Type 0) (s : (m : Message) → P m m) wher
     argument_lasting = record {
       same = λ m. record {
         projection = unless_of projected refl;
+        placed = unless_of inlined refl;
         inline = unless_of inlined (alike-itself (AlikeOption P) (option-itself P s) (message Type-Argument-type m));
         index = unless_of indexed refl;
       };
       either = λ f m m' r. record {
         projection = unless_map projected (value_both Type-Argument-projection f m m') r.projection;
+        placed = unless_map inlined (placed-both Type-Argument-type m m' f) r.placed;
         inline = unless_map inlined (message-both P Type-Argument-type m m' s f) r.inline;
         index = unless_map indexed (value_both Type-Argument-type_id f m m') r.index;
       };
-      joined = λ v m m' r. record { projection = r.projection; inline = r.inline; index = r.index };
+      joined = λ v m m' r. record { projection = r.projection; placed = r.placed; inline = r.inline; index = r.index };
     }
 
     pub argument_kept : {projected' inlined' indexed' : Bool} (f : Field) → projected' ≡ (projected || eqb f.number Type-Argument-projection)
@@ -132,17 +140,20 @@ module _ (P : Message → Message → Type 0) (s : (m : Message) → P m m) wher
         → Carries (ArgumentRest P projected' inlined' indexed') (ArgumentRest P projected inlined indexed) f f
     argument_kept f a b c m m' r = record {
       projection = value-met Type-Argument-projection f m m' projected (subst (λ (t : Bool). Unless t (value Type-Argument-projection m ≡ value Type-Argument-projection m')) a r.projection);
+      placed = placed-met Type-Argument-type m m' f inlined
+          (subst (λ (t : Bool). Unless t (SamePlaced Type-Argument-type m m')) b r.placed);
       inline = message-met P Type-Argument-type m m' s f inlined
           (subst (λ (t : Bool). Unless t (Alike (AlikeOption P) (message Type-Argument-type m) (message Type-Argument-type m'))) b r.inline);
       index = value-met Type-Argument-type_id f m m' indexed (subst (λ (t : Bool). Unless t (value Type-Argument-type_id m ≡ value Type-Argument-type_id m')) c r.index);
     }
 
     -- the type inline, with a body alike
-    pub argument_body : (q q' : Part) → Alike P (cut q) (cut q')
+    pub argument_body : (q q' : Part) → extent q ≡ extent q' → Alike P (cut q) (cut q')
         → Carries (ArgumentRest P projected true indexed) (ArgumentRest P projected inlined indexed) (field Type-Argument-type (body q)) (field Type-Argument-type (body q'))
     unfolding values
-    argument_body q q' h m m' r = record {
+    argument_body q q' e h m m' r = record {
       projection = r.projection;
+      placed = placed-body Type-Argument-type m m' q q' inlined e;
       inline = message-body P Type-Argument-type m m' q q' inlined h;
       index = r.index;
     }
@@ -151,6 +162,7 @@ module _ (P : Message → Message → Type 0) (s : (m : Message) → P m m) wher
         → (f.number ≡ Type-Argument-type_id → indexed ≡ true) → Passes (ArgumentRest P projected inlined indexed) f
     argument_passed f a b c m m' r = record {
       projection = value-passed Type-Argument-projection f m m' projected a r.projection;
+      placed = placed-passed Type-Argument-type m m' f inlined b r.placed;
       inline = message-passed P Type-Argument-type m m' f inlined b r.inline;
       index = value-passed Type-Argument-type_id f m m' indexed c r.index;
     }

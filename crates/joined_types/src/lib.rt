@@ -1,13 +1,14 @@
 // Entries of the type table in which the fields that no reading asks for are joined into one: entering an entry then costs what it keeps. No message
-// changes its length or its place. What is kept: specs/told/Alike.antt; what joining a run of fields changes: specs/told/Runs.antt; what becomes of
-// a field: specs/told/Fates.antt.
+// changes its length or its place. What is kept: schema's specs/told/Alike.antt; what joining a run of fields changes: specs/told/Runs.antt; what
+// becomes of a field: specs/told/Fates.antt.
 #![tactic(auto)]
 
 ghost use Rattle.std.specs.Prelude.{◌≡◌, ◌≤◌, ◌||◌, eqb, length};
 ghost use Rattle.fields.specs.Fields.{Type-nullable, Type-class_name, Type-Argument-projection, Type-Argument-type, Type-Argument-type_id, TypeTable-type};
 ghost use Rattle.wire.specs.told.WireTold.{Inside};
 ghost use Rattle.messages.specs.told.Asked.{piece_if};
-ghost use Rattle.joined_types.specs.told.Alike.{SameType, SameArgument, SameTable, JoinedAs};
+ghost use Rattle.schema.specs.told.Alike.{SameType, SameArgument, SameTable, JoinedAs, DeepestOf};
+ghost use Rattle.schema.specs.told.SchemaTold.{entries_in};
 ghost use Rattle.joined_types.specs.told.Runs.{RunJoined};
 ghost use Rattle.joined_types.specs.told.Fates.{joined_levels, NoTypeTold, DroppedTold, TypeFate, ArgumentFate, EntriesCounted, BodyJoined};
 
@@ -15,13 +16,14 @@ use fields::{
     CLASS_TYPE_TABLE, TYPE_ARGUMENT, TYPE_ARGUMENT_PROJECTION, TYPE_ARGUMENT_TYPE,
     TYPE_ARGUMENT_TYPE_ID, TYPE_CLASS_NAME, TYPE_NULLABLE, TYPE_TABLE_TYPE,
 };
-use foundation::{Located, Span, wide};
+use foundation::{Context, Located, Span, wide};
 use messages::{bodies_from, check};
 use schema::argument::{ArgumentHead, argument_head};
+use schema::types::entry_at;
 use wire::{Field, field_at};
 
 // How many types inside one another are joined. One that is deeper is entered only after these, and each of them is one of the types that may be entered.
-const LEVELS: usize = 64;
+const LEVELS: usize = 128;
 
 // The fields from a place to another become one that no reading asks for: number 15, length-delimited, with a length of three bytes. It is written over
 // the first four of their bytes, and the others are its body. Fewer than five bytes stay, and those that need a longer length.
@@ -272,5 +274,29 @@ pub fn join_body(s: &mut [u8])
             return;
         }
         at = read.next;
+    }
+}
+
+// In a copy of the decoded bytes, the entries of the type table are joined as they are read where no look-up is left: there each argument by its index
+// is dropped. Entries are noted in the order in which they stand. Where one is noted elsewhere, the copy is the decoded bytes themselves again.
+// Callers show that it is a copy: `open_in` of `passes` has just made it.
+pub fn join_entries(context: &Context<'_>, deepest: &mut [u8])
+    requires { deepest.old ≡ context.now.payload.now }
+    ensures { DeepestOf context.now.payload.now deepest.new (entries_in context.now.tables context.now.notes.now) context.now.tables.types }
+{
+    let Ok(types) = u32::try_from(context.tables.types) else {
+        return;
+    };
+    let mut last = 0;
+    for i in 0..types {
+        let Some(entry) = entry_at(context, i) else {
+            continue;
+        };
+        if entry.start < last {
+            deepest.copy_from_slice(context.payload);
+            return;
+        }
+        join_type(&mut deepest[entry.start..entry.end], 0, LEVELS);
+        last = entry.end;
     }
 }

@@ -72,7 +72,7 @@ fn alone(asked: Asked, areas: &mut AreaPair<'_>) -> Result<Reply, Refusal>
     }
 }
 
-// A d1 of so many units at most, in a frame with room for its bytes, for their notes, and for the first pass.
+// A d1 of so many units at most, in a frame with room for its bytes, for a copy of them, for their notes, and for the first pass.
 fn in_frame_of<const BYTES: usize, const NOTES: usize, const SHEET: usize, const TEXT: usize>(
     asked: Asked,
     units: &Units<'_>,
@@ -83,6 +83,7 @@ fn in_frame_of<const BYTES: usize, const NOTES: usize, const SHEET: usize, const
     ensures written { OnAreas (TaskTold asked (reading_of (kind_number asked.kind) units.now.d1.now units.now.d2.now units.now.ends.now) result) areas.old areas.new }
 {
     let mut bytes = [0u8; BYTES];
+    let mut spare = [0u8; BYTES];
     let mut notes = [0u64; NOTES];
     let mut scratch_sheet = [0u8; SHEET];
     let mut scratch_text = [0u8; TEXT];
@@ -90,7 +91,15 @@ fn in_frame_of<const BYTES: usize, const NOTES: usize, const SHEET: usize, const
         sheet: &mut scratch_sheet,
         text: &mut scratch_text,
     };
-    let passed = decode_in(asked, units, &mut bytes, &mut notes, &mut scratch, areas);
+    let passed = decode_in(
+        asked,
+        units,
+        &mut bytes,
+        &mut spare,
+        &mut notes,
+        &mut scratch,
+        areas,
+    );
     match passed {
         Ok(reply) => Ok(reply),
         Err(PassError::Refused(refusal)) => Err(refusal),
@@ -98,8 +107,22 @@ fn in_frame_of<const BYTES: usize, const NOTES: usize, const SHEET: usize, const
     }
 }
 
-// A longer d1, in the frame that is enough: of 183 KB up to 8,192 units, of 557 KB for any.
-// It is never made a part of its caller: a frame of many pages there would cost a small class more than its reading.
+// A d1 of at most 1,024 units: a frame of 7 KB up to 256, as most classes have, else of 27 KB.
+// It and `in_longer` are never made a part of their caller: a long class would take the room of a short one's frame besides.
+#[inline(never)]
+fn in_shorter(asked: Asked, units: &Units<'_>, areas: &mut AreaPair<'_>) -> Result<Reply, Refusal>
+    requires { InLimits units.now.d1.now units.now.d2.now units.now.ends.now × (length units.now.d1.now ≤ 1024) }
+    ensures areas_kept { AreasKept areas.old areas.new }
+    ensures written { OnAreas (TaskTold asked (reading_of (kind_number asked.kind) units.now.d1.now units.now.d2.now units.now.ends.now) result) areas.old areas.new }
+{
+    if units.d1.len() <= 256 {
+        return in_frame_of::<256, 560, 512, 1024>(asked, units, areas);
+    }
+    in_frame_of::<1024, 2096, 2048, 6144>(asked, units, areas)
+}
+
+// A longer d1, in the frame that is enough: of 191 KB up to 8,192 units, of 590 KB for any.
+// A frame of many pages in its caller would cost a small class more than its reading.
 #[inline(never)]
 fn in_longer(asked: Asked, units: &Units<'_>, areas: &mut AreaPair<'_>) -> Result<Reply, Refusal>
     requires { InLimits units.now.d1.now units.now.d2.now units.now.ends.now }
@@ -112,18 +135,15 @@ fn in_longer(asked: Asked, units: &Units<'_>, areas: &mut AreaPair<'_>) -> Resul
     in_frame_of::<32768, 51232, 49152, 65536>(asked, units, areas)
 }
 
-// A kind that carries declarations: a frame of 6 KB up to 256 units, as most classes have, of 26 KB up to 1,024, else a longer one.
+// A kind that carries declarations, in the frame that is enough: nine classes of ten have at most 1,024 units of d1.
 // It requires what `fault_of` has found of the input: refusals 1 to 4 are the entries' own.
 fn in_frame(asked: Asked, units: &Units<'_>, areas: &mut AreaPair<'_>) -> Result<Reply, Refusal>
     requires { InLimits units.now.d1.now units.now.d2.now units.now.ends.now }
     ensures areas_kept { AreasKept areas.old areas.new }
     ensures written { OnAreas (TaskTold asked (reading_of (kind_number asked.kind) units.now.d1.now units.now.d2.now units.now.ends.now) result) areas.old areas.new }
 {
-    if units.d1.len() <= 256 {
-        return in_frame_of::<256, 560, 512, 1024>(asked, units, areas);
-    }
     if units.d1.len() <= 1024 {
-        return in_frame_of::<1024, 2096, 2048, 6144>(asked, units, areas);
+        return in_shorter(asked, units, areas);
     }
     in_longer(asked, units, areas)
 }

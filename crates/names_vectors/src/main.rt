@@ -93,6 +93,7 @@ fn look_up(
     lookup::resolve::resolve(table, &mut notes, count);
     let context = Context {
         payload: table,
+        deepest: table,
         d2: units,
         ends,
         notes: &notes,

@@ -68,6 +68,7 @@ module _ (kind : ℕ) (e : Lent) (at : ℕ) (lent_at : LentAt e at) where
     names = record { strings = refl; fit = k.fit; sizes = lent_at.sizes k.fit; records = o.names };
     entries = o.is.noted;
     nullable = o.is.nullable;
+    deepest = lent_at.deepest;
   }
 
   by-body : lent_reading kind e ≡ body_of kind named o.is.body allowance

@@ -18,7 +18,10 @@ use Rattle.declarations.specs.Payload.{payload}
 use Rattle.std.proofs.Common.{Result, Ok, Err}
 use Rattle.inputs.specs.told.KindTold.{kind_number}
 use Rattle.declaration_rows.specs.Declarations.{Declarations}
-use Rattle.declarations.specs.told.PayloadTold.{LentRoom}
+use Rattle.foundation.specs.declared.Tables.{Tables}
+use Rattle.schema.specs.told.SchemaTold.{lent_of, entries_in}
+use Rattle.schema.specs.told.Alike.{DeepestOf}
+use Rattle.declarations.specs.told.PayloadTold.{LentAt, LentRoom}
 use Rattle.passes.specs.told.AreaTold.{strings, InLimits}
 use Rattle.passes.specs.told.TaskTold.{TaskTold}
 use Rattle.passes.specs.told.PassTold.{PassedTold, FrameRoom}
@@ -116,3 +119,8 @@ pub frame-as-long : (xs ys : List ℕ) → length xs ≡ length ys → (asked : 
 frame-as-long xs ys e asked r d1 notes (Ok reply) S S' T T' h = h
 frame-as-long xs ys e asked r d1 notes (Err (first.Refused refusal)) S S' T T' h = h
 frame-as-long xs ys e asked r d1 notes (Err first.NoRoom) S S' T T' (h, p, q) = ((λ room. h (record { bytes-long = omega (arith, e, room.bytes-long); notes-long = room.notes-long })), p, q)
+
+-- What is lent, with other bytes as an entry is read where no look-up is left.
+pub deepest-lent : {bytes d2 ends notes : List ℕ} {tables : Tables} {at : ℕ} → LentAt (lent_of bytes bytes d2 ends notes tables) at
+    → (deepest : List ℕ) → DeepestOf bytes deepest (entries_in tables notes) tables.types → LentAt (lent_of bytes deepest d2 ends notes tables) at
+deepest-lent w deepest d = record { opened = w.opened; sizes = w.sizes; deepest = d }

@@ -24,12 +24,12 @@ use foundation::{Context, Located};
 use inputs::outcome::{Refusal, Sizes};
 use inputs::{Fault, Kind, Units};
 use names::records::IndexError;
-use opened::open_joined;
+use opened::{deepest_of, open_joined};
 use schema::{ALLOWANCE, Section, Stop};
 use sheet::{Output, State};
 
 mod areas; // areas.rt: what was measured, written into both areas
-mod opened; // opened.rt: the decoded bytes opened, their type table joined
+mod opened; // opened.rt: the decoded bytes opened, their type table joined; the same bytes where no look-up is left
 
 // Two areas that are written into: the caller's, or the scratch areas of the first pass.
 // `Output` of sheet has two as well; it doesn't hold an `AreaPair`, since each writer below would then reach them through one field more.
@@ -236,6 +236,7 @@ fn read_in(
 fn open_in(
     asked: Asked,
     bytes: &mut [u8],
+    spare: &mut [u8],
     units: &Units<'_>,
     notes: &mut [u64],
     scratch: &mut AreaPair<'_>,
@@ -246,8 +247,10 @@ fn open_in(
     ensures written { OnAreas (PassedTold asked (payload (kind_number asked.kind) (strings units.now.d2.now units.now.ends.now) bytes.old) (LentRoom bytes.old notes.new) result) areas.old areas.new }
 {
     let opened = open_joined(bytes, units, notes)?;
+    let deepest = deepest_of(bytes, notes, opened.tables, spare);
     let context = Context {
         payload: bytes,
+        deepest,
         d2: units.d2,
         ends: units.ends,
         notes,
@@ -257,12 +260,14 @@ fn open_in(
     Ok(reply)
 }
 
-// d1 of a kind that carries declarations, within its limit.
+// d1 of a kind that carries declarations, within its limit. `spare` is for a copy of the decoded bytes: as many as they are, or reading is only slower.
+// The areas of the frame go apart: tried as one struct by value, and the check knows no loan of a part of one of its slices.
 // Callers show `InLimits`: metadata from the answer of `fault_of`, which has found no fault. It is no invariant of `Units`: `fault_of` is asked of any input.
 pub fn decode_in(
     asked: Asked,
     units: &Units<'_>,
     bytes: &mut [u8],
+    spare: &mut [u8],
     notes: &mut [u64],
     scratch: &mut AreaPair<'_>,
     areas: &mut AreaPair<'_>,
@@ -272,5 +277,13 @@ pub fn decode_in(
     ensures written { OnAreas (PassedTold asked (reading_of (kind_number asked.kind) units.now.d1.now units.now.d2.now units.now.ends.now) (FrameRoom units.now.d1.now bytes.new notes.new) result) areas.old areas.new }
 {
     let length = decode(units.d1, bytes)?;
-    open_in(asked, &mut bytes[..length], units, notes, scratch, areas)
+    open_in(
+        asked,
+        &mut bytes[..length],
+        spare,
+        units,
+        notes,
+        scratch,
+        areas,
+    )
 }

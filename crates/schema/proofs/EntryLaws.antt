@@ -25,13 +25,19 @@ use Rattle.messages.specs.told.Asked.{span}
 
 module _ (payload notes : List ℕ) (first count i : ℕ) {j : ℕ} (e : j ≡ i) where
   pub entry_past : count ≤ j → EntryTold payload (drop first notes) count i None
-  entry_past h = record { is = λ types o. elem_none types i (omega (arith, o.many)); inside = tt; below = tt }
+  entry_past h = record {
+    is = λ types o. elem_none types i (omega (arith, o.many));
+    inside = tt;
+    below = tt;
+    placed = λ below ordered short. absurd (omega arith);
+  }
+
+  there : get_or (drop first notes) i 0 ≡ get_or notes (first + j) 0
+  there = get_or-drop first notes i 0 ∙ ap (λ (k : ℕ). get_or notes (first + k) 0) (sym e)
 
   at : (types : List Message) → EntriesOf payload (drop first notes) count types → (m : Message) → get_elem? types i ≡ some m
       → EntryAt payload (start_of (get_or notes (first + j) 0)) (end_of (get_or notes (first + j) 0)) m
-  at types o m q =
-      let there : get_or (drop first notes) i 0 ≡ get_or notes (first + j) 0 = get_or-drop first notes i 0 ∙ ap (λ (k : ℕ). get_or notes (first + k) 0) (sym e) in
-      subst (λ (p : ℕ). EntryAt payload (start_of p) (end_of p) m) there (o.each i m q)
+  at types o m q = subst (λ (p : ℕ). EntryAt payload (start_of p) (end_of p) m) there (o.each i m q)
 
   nowhere : (types : List Message) → ((m : Message) → get_elem? types i ≡ some m → ⊥) → get_elem? types i ≡ none
   nowhere types h = go (get_elem? types i) refl
@@ -46,8 +52,14 @@ module _ (payload notes : List ℕ) (first count i : ℕ) {j : ℕ} (e : j ≡ i
     is = λ types o. let m = elem_there types i (omega (arith, o.many)) in (m.0, m.1, rw (f, g) (at types o m.0 m.1).cuts);
     inside = (k, l);
     below = omega arith;
+    placed = (f ∙ ap start_of (sym there), g ∙ ap end_of (sym there));
   }
-  entry-unpacked h None u = record { is = λ types o. nowhere types λ m q. let x = at types o m q in u x.ordered x.inside; inside = tt; below = tt }
+  entry-unpacked h None u = record {
+    is = λ types o. nowhere types λ m q. let x = at types o m q in u x.ordered x.inside;
+    inside = tt;
+    below = tt;
+    placed = λ below ordered short. absurd (u (rw (← there) ordered) (rw (← there) short));
+  }
 
 -- the names that are lent
 pub names-are : {payload d2 ends notes : List ℕ} {count : ℕ} {n : Names} → NamesOf payload d2 ends notes count n

@@ -19,3 +19,4 @@ pub mod GivenLaws
 pub mod EachLaws
 pub mod HeadLaws
 pub mod ReceiverLaws
+pub mod AlikeLaws

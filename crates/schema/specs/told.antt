@@ -9,3 +9,4 @@ pub mod HeadTold
 pub mod ArgumentTold
 pub mod ReceiversTold
 pub mod TypeSizes
+pub mod Alike

@@ -2,7 +2,7 @@
 -- Assumes nothing.
 use mathlib.Core.Path.{◌≡◌, refl, ap, sym, subst, ◌∙◌}
 use mathlib.Core.Bool.{Bool, true, false}
-use mathlib.Core.List.{List}
+use mathlib.Core.List.{List, [], ◌∷◌}
 use mathlib.Core.Option.{Option, none, some}
 use Prim.Native.Nat.{ℕ, zero, suc, ◌+◌, ◌-◌, ◌≤◌, ◌<◌}
 use native.Mathlib.Nat.{zero-add, add_assoc, add_comm}
@@ -36,6 +36,8 @@ use Rattle.schema.proofs.ArgumentLaws.{argument-star, star-is, inline-typed, inl
 use Rattle.schema.proofs.TypeLaws.{resolve_nothing, resolve_deep, resolve_entry}
 use Rattle.schema.proofs.FoundLaws.{never_given, bind_given, first-same, Passed, next_is, passed-all, next, next-given}
 use Rattle.type_references.specs.told.ParseTold.{TypeIs, TypeFieldInside, TypeFieldTold, ArgumentTold, KeptTold, CountTold}
+use Rattle.type_references.specs.told.Pending.{Twinned}
+use Rattle.type_references.proofs.TwinLaws.{checked-alike, twinned-cut}
 use Rattle.type_references.specs.declared.arguments.TypeField.{TypeField}
 use Rattle.type_references.specs.declared.arguments.TypeField.TheVariants as field
 use Rattle.type_references.proofs.PendingLaws.{argument_type, type-nowhere, type-indexed, argument-reads}
@@ -111,10 +113,10 @@ own_projection : {p : ℕ} {m : Message} → NoStar p m → NoStar (projection_i
 own_projection n = record { is = refl; no-star = λ e. n.no-star (sym n.is ∙ e) }
 
 -- Where an argument's type stands.
-module _ (base : ℕ) (msg : List ℕ) (start end : ℕ) (ordered : start ≤ end) {x : ArgumentHead}
+module _ (base : ℕ) (msg last : List ℕ) (start end : ℕ) (ordered : start ≤ end) (short : end ≤ length msg) {x : ArgumentHead}
     (t : ArgumentHeadTold (base + start) (part_from start end msg) x) where
-  pub argument-starred : x ≡ head.Star → ArgumentTold base msg start end (Ok head.Star)
-  argument-starred g = record { is = star-is (base + start) (part_from start end msg) t g; inside = tt }
+  pub argument-starred : x ≡ head.Star → ArgumentTold base msg last start end (Ok head.Star)
+  argument-starred g = record { is = λ m c u. star-is (base + start) (part_from start end msg) t g m c; inside = tt }
 
   module _ {p : Projection} {a b : ℕ} (g : x ≡ head.Inline p (span a b)) where
     bytes-here : BytesTold (base + start) (part_from start end msg) Type-Argument-type (Some (span a b))
@@ -127,51 +129,68 @@ module _ (base : ℕ) (msg : List ℕ) (start end : ℕ) (ordered : start ≤ en
     typed-here = inline-typed (base + start) (part_from start end msg) t g
 
     -- the same bytes, as a part of the whole message
-    same-part : cut (◌from◌ (base + (start + a)) (part_from (start + a) (start + b) msg)) ≡ cut (part_between (base + start) (part_from start end msg) a b)
-    same-part =
+    part-here : part_between base msg (start + a) (start + b) ≡ part_between (base + start) (part_from start end msg) a b
+    part-here =
         let i = bytes-here.inside in
-        ap (λ (n : ℕ). cut (◌from◌ n (part_from (start + a) (start + b) msg))) (sym (add_assoc base start a))
-        ∙ ap (λ (l : List ℕ). cut (◌from◌ (base + start + a) l)) (sym (part-part msg start end a b i.0 i.1))
+        ap (λ (n : ℕ). ◌from◌ n (part_from (start + a) (start + b) msg)) (sym (add_assoc base start a))
+        ∙ ap (◌from◌ (base + start + a)) (sym (part-part msg start end a b i.0 i.1))
 
-    module _ (w : Result Unit WireError) (k : CheckedTold (cut (◌from◌ (base + (start + a)) (part_from (start + a) (start + b) msg))) w) where
-      checked-here : CheckedTold (cut (part_between (base + start) (part_from start end msg) a b)) w
-      checked-here = subst (λ (r : Res Message). CheckedTold r w) same-part k
+    same-part : cut (◌from◌ (base + (start + a)) (part_from (start + a) (start + b) msg)) ≡ cut (part_between (base + start) (part_from start end msg) a b)
+    same-part = ap cut part-here
 
-      argument-cut : w ≡ Ok tt → ArgumentTold base msg start end (Ok (head.Inline p (span (start + a) (start + b))))
+    bytes-is : (m : Message) → cut (◌from◌ (base + start) (part_from start end msg)) ≡ ok m
+        → bytes_of Type-Argument-type m ≡ some (part_between base msg (start + a) (start + b))
+    bytes-is m c = bytes-here.is m c ∙ ap some (sym part-here)
+
+    module _ (w : Result Unit WireError) (k : CheckedTold (cut (◌from◌ (base + (start + a)) (part_from (start + a) (start + b) last))) w) where
+      -- It is cut in the other bytes, and so here.
+      checked-here : (m : Message) → cut (◌from◌ (base + start) (part_from start end msg)) ≡ ok m → Twinned base last start end (m ∷ [])
+          → CheckedTold (cut (part_between (base + start) (part_from start end msg) a b)) w
+      checked-here m c t =
+          let i = inline_in in
+          let alike = twinned-cut t (omega arith) (omega (arith, i)) i.2 msg (omega (arith, i)) (bytes-is m c) in
+          subst (λ (r : Res Message). CheckedTold r w) same-part (checked-alike _ _ alike w k)
+
+      argument-cut : w ≡ Ok tt → ArgumentTold base msg last start end (Ok (head.Inline p (span (start + a) (start + b))))
       argument-cut h =
           let part = part_from start end msg in
-          let whole_is = message-cut Type-Argument-type (base + start) part bytes-here refl checked-here h in
           record {
-            is = λ m c. let it = whole_is.is m c in (it.0, same-part ∙ it.1, it.2, typed-here m c);
+            is = λ m c t.
+                let it = (message-cut Type-Argument-type (base + start) part bytes-here refl (checked-here m c t) h).is m c in
+                (it.0, same-part ∙ it.1, it.2, bytes-is m c, typed-here m c);
             inside = (omega (arith, inline_in), omega (arith, inline_in), omega (arith, inline_in));
           }
 
-      argument-uncut : {error : WireError} → w ≡ Err error → ArgumentTold base msg start end (Err error)
-      argument-uncut h =
-          let uncut = message-refused Type-Argument-type (base + start) (part_from start end msg) bytes-here refl checked-here h in
-          record { is = λ m c. (uncut.is m c, own_projection (typed-here m c)); inside = tt }
+      argument-uncut : {error : WireError} → w ≡ Err error → ArgumentTold base msg last start end (Err error)
+      argument-uncut h = record {
+        is = λ m c t. (
+          (message-refused Type-Argument-type (base + start) (part_from start end msg) bytes-here refl (checked-here m c t) h).is m c,
+          own_projection (typed-here m c),
+        );
+        inside = tt;
+      }
 
     -- the same part, moved to where the argument stands
     module _ (i : Span) (s : i.start ≡ a + start) (e : i.end ≡ b + start) (w : Result Unit WireError)
-        (k : CheckedTold (cut (◌from◌ (base + i.start) (part_from i.start i.end msg))) w) where
+        (k : CheckedTold (cut (◌from◌ (base + i.start) (part_from i.start i.end last))) w) where
       moved-is : i ≡ span (start + a) (start + b)
       moved-is = ap (λ (n : ℕ). span n i.end) (s ∙ add_comm a start) ∙ ap (λ (n : ℕ). span (start + a) n) (e ∙ add_comm b start)
 
-      moved-checked : CheckedTold (cut (◌from◌ (base + (start + a)) (part_from (start + a) (start + b) msg))) w
-      moved-checked = subst (λ (j : Span). CheckedTold (cut (◌from◌ (base + j.start) (part_from j.start j.end msg))) w) moved-is k
+      moved-checked : CheckedTold (cut (◌from◌ (base + (start + a)) (part_from (start + a) (start + b) last))) w
+      moved-checked = subst (λ (j : Span). CheckedTold (cut (◌from◌ (base + j.start) (part_from j.start j.end last))) w) moved-is k
 
-      pub argument-inline : w ≡ Ok tt → ArgumentTold base msg start end (Ok (head.Inline p i))
+      pub argument-inline : w ≡ Ok tt → ArgumentTold base msg last start end (Ok (head.Inline p i))
       argument-inline h =
-          subst (λ (j : Span). ArgumentTold base msg start end (Ok (head.Inline p j))) (sym moved-is) (argument-cut w moved-checked h)
+          subst (λ (j : Span). ArgumentTold base msg last start end (Ok (head.Inline p j))) (sym moved-is) (argument-cut w moved-checked h)
 
-      pub argument-refused : {error : WireError} → w ≡ Err error → ArgumentTold base msg start end (Err error)
+      pub argument-refused : {error : WireError} → w ≡ Err error → ArgumentTold base msg last start end (Err error)
       argument-refused h = argument-uncut w moved-checked h
 
-  pub argument-by-index : {p : Projection} {n : ℕ} → x ≡ head.ByIndex p n → ArgumentTold base msg start end (Ok (head.ByIndex p n))
+  pub argument-by-index : {p : Projection} {n : ℕ} → x ≡ head.ByIndex p n → ArgumentTold base msg last start end (Ok (head.ByIndex p n))
   argument-by-index g =
       let part = part_from start end msg in
       record {
-        is = λ m c. (
+        is = λ m c u. (
           message_none Type-Argument-type m ((indexed-bytes (base + start) part t g).is m c),
           indexed-index (base + start) part t g m c,
           indexed-typed (base + start) part t g m c,
@@ -179,11 +198,11 @@ module _ (base : ℕ) (msg : List ℕ) (start end : ℕ) (ordered : start ≤ en
         inside = tt;
       }
 
-  pub argument-absent : x ≡ head.Nothing → ArgumentTold base msg start end (Ok head.Nothing)
+  pub argument-absent : x ≡ head.Nothing → ArgumentTold base msg last start end (Ok head.Nothing)
   argument-absent g =
       let part = part_from start end msg in
       record {
-        is = λ m c. (
+        is = λ m c u. (
           message_none Type-Argument-type m ((nothing-bytes (base + start) part t g).is m c),
           nothing-index (base + start) part t g m c,
           own_projection (nothing-typed (base + start) part t g m c).1,
@@ -192,7 +211,7 @@ module _ (base : ℕ) (msg : List ℕ) (start end : ℕ) (ordered : start ≤ en
       }
 
   -- one whose type is not inline
-  pub argument-other : (y : ArgumentHead) → x ≡ y → ((p : Projection) (b : Span) → y ≡ head.Inline p b → ⊥) → ArgumentTold base msg start end (Ok y)
+  pub argument-other : (y : ArgumentHead) → x ≡ y → ((p : Projection) (b : Span) → y ≡ head.Inline p b → ⊥) → ArgumentTold base msg last start end (Ok y)
   argument-other head.Star g h = argument-starred g
   argument-other (head.Inline p b) g h = absurd (h p b refl)
   argument-other (head.ByIndex p i) g h = argument-by-index g

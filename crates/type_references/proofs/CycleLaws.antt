@@ -16,7 +16,7 @@ use Rattle.sheet.specs.declared.State.{State}
 use Rattle.schema.specs.Reading.{Scope, kept, allowance}
 use Rattle.schema.specs.Types.{argument_in, type_at}
 use Rattle.schema.specs.told.SchemaTold.{Lent, Scoped, entries_in, Ready, Spends, WalkedSpends}
-use Rattle.schema.specs.told.TypesTold.{or_nullable, rows_in, EntryIs, EntryTold, ParseTold}
+use Rattle.schema.specs.told.TypesTold.{or_nullable, rows_in, EntryIs, EntryTold}
 use Rattle.foundation.specs.declared.Tables.{Tables}
 use Rattle.schema.specs.declared.Stop.{Stop}
 use Rattle.schema.proofs.TypeLaws.{spends_none, spends_then, ready-after}
@@ -28,6 +28,7 @@ use Rattle.type_references.specs.told.ParseTold.{
   EnteredOne,
   EnterTold,
   ArgumentsTold,
+  TwinTold,
   WaitingRoom,
   as_types,
   as_bytes,
@@ -44,6 +45,9 @@ use Rattle.type_references.specs.told.ParseTold.{
   ParseRoom,
 }
 use Rattle.type_references.proofs.PendingLaws.{walked_then}
+use Rattle.type_references.proofs.StackLaws.{fits-types}
+use Rattle.type_references.proofs.TwinLaws.{alone-last}
+use Rattle.joined_types.proofs.DeepestLaws.{twins}
 use Rattle.type_references.proofs.WalkLaws.{loop-start, loop-end}
 use Rattle.std.specs.declared.option.Option.{Option}
 use Rattle.std.specs.declared.option.Option.TheVariants.{Some, None}
@@ -64,20 +68,12 @@ falls-arguments left bytes e h = omega arith
 pub falls-look_up : (left bytes : ℕ) {deep t : ℕ} → 3 * remaining left bytes + 1 ≡ t → deep ≤ left → 3 * remaining deep 0 < t
 falls-look_up left bytes e h = omega arith
 
+-- an inline argument that is read on its own has fewer bytes, and no more of the depth
+pub falls-inline : (left bytes : ℕ) {deep t : ℕ} (fewer : ℕ) → 3 * remaining left bytes + 1 ≡ t → deep ≤ left → fewer < bytes → 3 * remaining deep fewer + 2 < t
+falls-inline left bytes fewer e h k = omega arith
+
 falls-inside : (left bytes : ℕ) {t : ℕ} → 3 * remaining left 0 ≡ t → (left ≡ 0 → ⊥) → bytes ≤ 32768 → 3 * remaining (left - 1) bytes + 2 < t
 falls-inside left bytes e h k = omega arith
-
-pub falls_entry : (left : ℕ) {t : ℕ} → 3 * remaining left 0 ≡ t → (left ≡ 0 → ⊥) → (payload : List ℕ) → length payload ≤ 32768
-    → (a b : ℕ) → a ≤ b → b ≤ length payload → 3 * remaining (left - 1) (length (take (b - a) (drop a payload))) + 2 < t
-falls_entry left e h payload k a b p q =
-    falls-inside left (length (take (b - a) (drop a payload))) e h (omega (arith, entry_inside payload a b p q))
-
--- An area with room.
-pub fits-types : {e : Lent} {base : ℕ} {msg : List ℕ} {types room : ℕ} → types ≤ room → FitsType e base msg types room
-fits-types h = lent_area (as_types h) (λ z. omega arith)
-
-pub fits-bytes : {e : Lent} {base : ℕ} {msg : List ℕ} {types room : ℕ} → e.tables.types ≡ 0 → length msg < room → FitsType e base msg types room
-fits-bytes z h = lent_area (as_bytes z (omega arith)) (λ k. absurd (omega arith))
 
 -- A type is alone if no argument is found in its message, and so is an entry if none is found in its.
 pub alone : {e : Lent} {base : ℕ} {msg : List ℕ} {x : Option Span} → NextBodyTold base msg Type-argument 0 x → x ≡ None → Alone e base msg
@@ -100,17 +96,33 @@ module _ (e : Lent) {index : ℕ} {x : Option Span} (t : EntryTold e.payload (en
       let same : j.0 ≡ m = ok_same (sym j.2 ∙ k) in
       subst (λ (y : Message). bodies Type-argument y ≡ []) same (h c o j.0 j.1)
 
-  -- What is asked for where an entry of the type table is read.
+  pub falls_entry : {left n : ℕ} → 3 * remaining left 0 ≡ n → (left ≡ 0 → ⊥) → (bytes : List ℕ) → length bytes ≡ length e.payload → length e.payload ≤ 32768
+      → 3 * remaining (left - 1) (length (take (b - a) (drop a bytes))) + 2 < n
+  falls_entry {left} f h bytes long k =
+      let i = entry_in e.payload (entries_in e.tables e.notes) e.tables.types index t g in
+      falls-inside left (length (take (b - a) (drop a bytes))) f h (omega (arith, entry_inside bytes a b i.0 (omega (arith, i.1, long)), long))
+
+  -- What is asked for where an entry of the type table is read, and where it is read among the other bytes.
   entry-fits : {types room : ℕ} → FitsEntry e index types room → FitsType e a (take (b - a) (drop a e.payload)) types room
   entry-fits (roomy l) = fits-types l
   entry-fits (nowhere z) = absurd (omega (arith, entry_below e.payload (entries_in e.tables e.notes) e.tables.types index t g))
   entry-fits (no_entry_area z h) = no_area z (entry-alone h)
 
-  pub entry-room : {nest : List Waiting} {left : ℕ} {s : State} → Ready e s → left ≤ 64 → FitsEntry e index s.types (length nest)
-      → ParseRoom e (take (b - a) (drop a e.payload)) nest a (left - 1) s
-  entry-room h k f =
-      let i = entry_in e.payload (entries_in e.tables e.notes) e.tables.types index t g in
-      record { ready = h; inside = entry_inside e.payload a b i.0 i.1; deep = omega arith; room = entry-fits f }
+  last-entry-fits : {types room : ℕ} → FitsEntry e index types room → FitsType e a (take (b - a) (drop a e.deepest)) types room
+  last-entry-fits (roomy l) = fits-types l
+  last-entry-fits (nowhere z) = absurd (omega (arith, entry_below e.payload (entries_in e.tables e.notes) e.tables.types index t g))
+  last-entry-fits (no_entry_area z h) = no_area z (alone-last e t g h)
+
+  module _ {nest : List Waiting} {left : ℕ} {s : State} (h : Ready e s) (k : left ≤ 64) (f : FitsEntry e index s.types (length nest)) where
+    pub entry-room : ParseRoom e (take (b - a) (drop a e.payload)) nest a (left - 1) s
+    entry-room =
+        let i = entry_in e.payload (entries_in e.tables e.notes) e.tables.types index t g in
+        record { ready = h; inside = entry_inside e.payload a b i.0 i.1; deep = omega arith; room = entry-fits f }
+
+    pub last-entry-room : length e.deepest ≡ length e.payload → ParseRoom e (take (b - a) (drop a e.deepest)) nest a (left - 1) s
+    last-entry-room long =
+        let i = entry_in e.payload (entries_in e.tables e.notes) e.tables.types index t g in
+        record { ready = h; inside = omega (arith, entry_inside e.deepest a b i.0 (omega (arith, i.1))); deep = omega arith; room = last-entry-fits f }
 
 walked_spends : {s s₁ : State} (w : Walked) → Spends s s₁ → WalkedSpends s₁ w → WalkedSpends s w
 walked_spends (Ok s') h k = spends_then h k
@@ -119,10 +131,10 @@ walked_spends (Err stop) h k = tt
 -- A type is entered, or refused; then its arguments.
 module _ {e : Lent} {msg : List ℕ} {base left role projection : ℕ} {nullable : Bool} {s : State} {w : Walked} {S S₁ T T₁ : List ℕ}
     (n : EnterTold e msg base left role projection nullable s w S S₁ T T₁) where
-  pub parse-unentered : {stop : Stop} → w ≡ Err stop → ParseTold e msg base left role projection nullable s (Err stop) S S₁ T T₁
+  pub parse-unentered : {last : List ℕ} {stop : Stop} → w ≡ Err stop → TwinTold e msg last base left role projection nullable s (Err stop) S S₁ T T₁
   parse-unentered q = record {
     spends = tt;
-    is = λ c o m k d l. subst (λ (x : Walked). EnteredIs c d m role projection nullable s x S S₁ T T₁) q (n.is c o m k d l);
+    is = λ c o m k z d l. subst (λ (x : Walked). EnteredIs c d m role projection nullable s x S S₁ T T₁) q (n.is c o m k d l);
   }
 
   module _ {s₁ : State} (q : w ≡ Ok s₁) {less : ℕ} (f : less ≡ left - 1) where
@@ -145,32 +157,32 @@ module _ {e : Lent} {msg : List ℕ} {base left role projection : ℕ} {nullable
           room = entered-area h.room k;
         }
 
-    pub parse-entered : {r : Walked} {S₂ T₂ : List ℕ} → ArgumentsTold e msg base less s₁ r S₁ S₂ T₁ T₂ → ParseTold e msg base left role projection nullable s r S S₂ T T₂
-    parse-entered {r} {S₂} {T₂} u = record {
+    pub parse-entered : {last : List ℕ} {r : Walked} {S₂ T₂ : List ℕ} → ArgumentsTold e msg last base less s₁ r S₁ S₂ T₁ T₂ → TwinTold e msg last base left role projection nullable s r S S₂ T T₂
+    parse-entered {last} {r} {S₂} {T₂} u = record {
       spends = walked_spends r (subst (WalkedSpends s) q n.spends) u.spends;
-      is = λ c o m k d l.
+      is = λ c o m k z d l.
           let entered = subst (λ (x : Walked). EnteredIs c d m role projection nullable s x S S₁ T T₁) q (n.is c o m k d l) in
           let ms = entered.0 in
           walked_then (λ t. rows_in role projection (or_nullable nullable t)) argument_rows (type_at allowance c d m s.types)
           (kept (argument_in (type_at allowance c) c (d + 1)) ms s₁.types) entered.1 entered.4 entered.3 r S₂ T₂
-          (u.is c o m k ms entered.2 (d + 1) (omega arith));
+          (u.is c o m k ms entered.2 (twins base last m z.0 z.1 z.2 ms entered.2) (d + 1) (omega arith));
     }
 
     -- a type with no argument
-    parse-alone : Alone e base msg → ParseTold e msg base left role projection nullable s (Ok s₁) S S₁ T T₁
-    parse-alone h = parse-entered (record { spends = spends_none s₁; is = λ c o. (none c o).is c o })
+    parse-alone : (last : List ℕ) → length last ≡ length msg → Alone e base msg → TwinTold e msg last base left role projection nullable s (Ok s₁) S S₁ T T₁
+    parse-alone last long h = parse-entered (record { spends = spends_none s₁; is = λ c o. (none c o).is c o })
       where
         next : (c : Scope) → Scoped e c → NextBodyTold base (take (length msg) msg) Type-argument 0 None
         next c o = subst (λ (l : List ℕ). NextBodyTold base l Type-argument 0 None) (sym (take-length msg))
             (record { is = λ m k. h c o m (ap cut (sym (whole base msg)) ∙ k); inside = tt; later = tt; begins = tt })
 
-        none : (c : Scope) → Scoped e c → ArgumentsTold e msg base less s₁ (Ok s₁) S₁ S₁ T₁ T₁
-        none c o = loop-end (loop-start {nest = []}) (next c o) refl refl
+        none : (c : Scope) → Scoped e c → ArgumentsTold e msg last base less s₁ (Ok s₁) S₁ S₁ T₁ T₁
+        none c o = loop-end (loop-start long {nest = []}) (next c o) refl refl
 
-    stops : {room : ℕ} → FitsType e base msg s.types room → room ≡ 0 → ParseTold e msg base left role projection nullable s (Ok s₁) S S₁ T T₁
-    stops (lent_area h z) k = let one = subst (EnteredOne s) q n.one in absurd (omega (arith, z k, one))
-    stops (no_area z h) k = parse-alone h
+    stops : {room : ℕ} (last : List ℕ) → length last ≡ length msg → FitsType e base msg s.types room → room ≡ 0 → TwinTold e msg last base left role projection nullable s (Ok s₁) S S₁ T T₁
+    stops last long (lent_area h z) k = let one = subst (EnteredOne s) q n.one in absurd (omega (arith, z k, one))
+    stops last long (no_area z h) k = parse-alone last long h
 
-    pub parse-stops : {nest : List Waiting} → ParseRoom e msg nest base left s → length nest ≡ 0
-        → ParseTold e msg base left role projection nullable s (Ok s₁) S S₁ T T₁
-    parse-stops h k = stops h.room k
+    pub parse-stops : {nest : List Waiting} (last : List ℕ) → length last ≡ length msg → ParseRoom e msg nest base left s → length nest ≡ 0
+        → TwinTold e msg last base left role projection nullable s (Ok s₁) S S₁ T T₁
+    parse-stops last long h k = stops last long h.room k

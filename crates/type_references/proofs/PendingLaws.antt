@@ -23,7 +23,7 @@ use Rattle.schema.specs.Types.{resolve_at, type_in, projection_in, argument_in, 
 use Rattle.declaration_rows.specs.Rows.{argument_role, types_rows}
 use Rattle.schema.specs.told.ArgumentTold.{NoStar}
 use Rattle.schema.specs.told.SchemaTold.{WalkedTold, PickedTold}
-use Rattle.schema.specs.told.TypesTold.{or_nullable, rows_in}
+use Rattle.schema.specs.told.TypesTold.{or_nullable, rows_in, picked_of}
 use Rattle.schema.proofs.ArgumentLaws.{types_cons, argument-star, argument-typed}
 use Rattle.type_references.specs.told.Pending.{rows_read, prefixed, shown_rows, kept_rows, argument_rows, Wait, waits, pending}
 use Rattle.std.specs.declared.option.Option.TheVariants.{Some, None}
@@ -191,6 +191,11 @@ module _ (c : Scope) (d : ℕ) (m : Message) (l : ℕ) where
   unfolding type_in
   type-unentered e f = rw (e, f)
 
+  type-entered : {inner : Message} → message Type-Argument-type m ≡ ok (some inner) → {t : Ty} {b : ℕ}
+      → type_at allowance c d inner l ≡ ok (t, b) → argument_type c d m l ≡ ok (some t, b)
+  unfolding type_in
+  type-entered e f = rw (e, f)
+
   module _ (e : message Type-Argument-type m ≡ ok none) where
     pub type-nowhere : index Type-Argument-type_id m ≡ none → argument_type c d m l ≡ ok (none, l)
     unfolding type_in
@@ -219,6 +224,15 @@ module _ (c : Scope) (d : ℕ) (m : Message) (l : ℕ) where
       pub argument-indexed : {i : ℕ} → index Type-Argument-type_id m ≡ some i
           → argument_in (type_at allowance c) c d m l ≡ with_projection p (resolve_at (type_at allowance c) c d i l)
       argument-indexed f = argument-reads ∙ ap (with_projection p) (type-indexed e f)
+
+-- a type inline that is read on its own
+pub inline-told : (c : Scope) (d : ℕ) (m : Message) {p : ℕ} → NoStar p m → {inner : Message} → message Type-Argument-type m ≡ ok (some inner)
+    → (s : State) (w : Walked) (S S' T T' : List ℕ)
+    → WalkedTold (type_at allowance c d inner s.types) (λ t. rows_in argument_role p (or_nullable false t)) s w S S' T T'
+    → PickedTold (argument_in (type_at allowance c) c d m s.types) shown_rows s (picked_of w) S S' T T'
+inline-told c d m {p} n {inner} e s (Ok s') S S' T T' (t, b, f, put) =
+    (projected p t, b, argument-reads c d m s.types n ∙ ap (with_projection p) (type-entered c d m s.types e f), put)
+inline-told c d m n e s (Err stop) S S' T T' f = argument-unentered c d m s.types n e f
 
 -- What may not be there, as an argument of that projection.
 pub picked_projected : (p : ℕ) (r : Res (Option Ty × ℕ)) (s : State) (z : Picked) (S S' T T' : List ℕ) → PickedTold r (rows_in argument_role p) s z S S' T T'

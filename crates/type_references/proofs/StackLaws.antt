@@ -1,4 +1,4 @@
--- What waits in the lent area: what stays as it is below a height, and what a push and a pop leave.
+-- What waits in the lent area: that it has room, what stays as it is below a height, and what a push and a pop leave.
 -- Assumes nothing.
 use mathlib.Core.Path.{◌≡◌, refl, ap, sym, subst, ◌∙◌}
 use mathlib.Core.List.{List, [], ◌∷◌}
@@ -7,8 +7,17 @@ use native.Mathlib.Numerals.{add-one}
 use native.Mathlib.Omega.{arith}
 use lib.ListN.{length, take, set}
 use lib.Seq.{get_or-take, get_or-set_same, take-set-le, take-take}
+use Rattle.schema.specs.told.SchemaTold.{Lent}
+use Rattle.type_references.specs.told.ParseTold.{as_types, as_bytes, FitsType, lent_area}
 use Rattle.type_references.specs.told.Pending.{Wait, waiting_at, Pends, Stacked, PendingInside, weight}
 use Rattle.type_references.specs.declared.waiting.Waiting.{Waiting}
+
+-- An area with room.
+pub fits-types : {e : Lent} {base : ℕ} {msg : List ℕ} {types room : ℕ} → types ≤ room → FitsType e base msg types room
+fits-types h = lent_area (as_types h) (λ z. omega arith)
+
+pub fits-bytes : {e : Lent} {base : ℕ} {msg : List ℕ} {types room : ℕ} → e.tables.types ≡ 0 → length msg < room → FitsType e base msg types room
+fits-bytes z h = lent_area (as_bytes z (omega arith)) (λ k. absurd (omega arith))
 
 -- What is the same below a height.
 module _ (nest nest' : List Waiting) where
@@ -26,15 +35,15 @@ module _ (nest nest' : List Waiting) where
       let below : weight nest' h ≡ weight nest h = weight-same h (take_less h (suc h) (omega arith) e) in
       ap (λ (w : Waiting). suc (w.end - w.at) + weight nest' h) here ∙ ap (λ (n : ℕ). suc ((waiting_at nest h).end - (waiting_at nest h).at) + n) below
 
-  pub stacked-same : (base : ℕ) (msg : List ℕ) (height : ℕ) (ws : List Wait) → take height nest' ≡ take height nest
-      → Stacked base msg nest height ws → Stacked base msg nest' height ws
-  stacked-same base msg height [] e s = s
-  stacked-same base msg height (w ∷ ws) e (h, f, p, s) =
+  pub stacked-same : (base : ℕ) (msg last : List ℕ) (height : ℕ) (ws : List Wait) → take height nest' ≡ take height nest
+      → Stacked base msg last nest height ws → Stacked base msg last nest' height ws
+  stacked-same base msg last height [] e s = s
+  stacked-same base msg last height (w ∷ ws) e (h, f, p, s) =
       let here : waiting_at nest' h ≡ waiting_at nest h = same-below height h (omega arith) e in (
         h,
         f,
-        subst (λ (x : Waiting). Pends base msg x.at x.end x.left w) (sym here) p,
-        stacked-same base msg h ws (take_less h height (omega arith) e) s,
+        subst (λ (x : Waiting). Pends base msg last x.at x.end x.left w) (sym here) p,
+        stacked-same base msg last h ws (take_less h height (omega arith) e) s,
       )
 
   pub inside-same : (msg : List ℕ) (left height i : ℕ) → i < height → take height nest' ≡ take height nest → PendingInside msg left (waiting_at nest i)
@@ -59,13 +68,13 @@ module _ (nest : List Waiting) (height : ℕ) (x : Waiting) (room : height < len
   unfolding weight
   weight-push = rw (add-one height, push-here, weight-same nest nest' height push-below)
 
-  pub stacked-push : (base : ℕ) (msg : List ℕ) (w : Wait) (ws : List Wait) → Pends base msg x.at x.end x.left w
-      → Stacked base msg nest height ws → Stacked base msg nest' (height + 1) (w ∷ ws)
-  stacked-push base msg w ws p s = (
+  pub stacked-push : (base : ℕ) (msg last : List ℕ) (w : Wait) (ws : List Wait) → Pends base msg last x.at x.end x.left w
+      → Stacked base msg last nest height ws → Stacked base msg last nest' (height + 1) (w ∷ ws)
+  stacked-push base msg last w ws p s = (
     height,
     add-one height,
-    subst (λ (y : Waiting). Pends base msg y.at y.end y.left w) (sym push-here) p,
-    stacked-same nest nest' base msg height ws push-below s,
+    subst (λ (y : Waiting). Pends base msg last y.at y.end y.left w) (sym push-here) p,
+    stacked-same nest nest' base msg last height ws push-below s,
   )
 
 -- The last one is taken.
@@ -75,26 +84,26 @@ unfolding weight
 weight_pop nest zero h = absurd (omega arith)
 weight_pop nest (suc height) h = let one_less : suc height - 1 ≡ height = omega arith in rw one_less
 
-pub record Popped (base : ℕ) (msg : List ℕ) (nest : List Waiting) (height : ℕ) (ws : List Wait) : Type 0 where
-  pub last : Wait
+pub record Popped (base : ℕ) (msg last : List ℕ) (nest : List Waiting) (height : ℕ) (ws : List Wait) : Type 0 where
+  pub top : Wait
   pub others : List Wait
-  pub are : ws ≡ last ∷ others
-  pub pends : Pends base msg (waiting_at nest (height - 1)).at (waiting_at nest (height - 1)).end (waiting_at nest (height - 1)).left last
-  pub stacked : Stacked base msg nest (height - 1) others
+  pub are : ws ≡ top ∷ others
+  pub pends : Pends base msg last (waiting_at nest (height - 1)).at (waiting_at nest (height - 1)).end (waiting_at nest (height - 1)).left top
+  pub stacked : Stacked base msg last nest (height - 1) others
 
-pub stacked_pop : (base : ℕ) (msg : List ℕ) (nest : List Waiting) (height : ℕ) (ws : List Wait) → (height ≡ 0 → ⊥) → Stacked base msg nest height ws
-    → Popped base msg nest height ws
-stacked_pop base msg nest height [] n s = absurd (n s)
-stacked_pop base msg nest height (w ∷ ws) n (h, f, p, s) =
+pub stacked_pop : (base : ℕ) (msg last : List ℕ) (nest : List Waiting) (height : ℕ) (ws : List Wait) → (height ≡ 0 → ⊥) → Stacked base msg last nest height ws
+    → Popped base msg last nest height ws
+stacked_pop base msg last nest height [] n s = absurd (n s)
+stacked_pop base msg last nest height (w ∷ ws) n (h, f, p, s) =
     let z : h ≡ height - 1 = omega arith in
     record {
-      last = w;
+      top = w;
       others = ws;
       are = refl;
       pends = rw (← z) p;
-      stacked = subst (λ (k : ℕ). Stacked base msg nest k ws) z s;
+      stacked = subst (λ (k : ℕ). Stacked base msg last nest k ws) z s;
     }
 
-pub stacked_empty : (base : ℕ) (msg : List ℕ) (nest : List Waiting) (height : ℕ) (ws : List Wait) → height ≡ 0 → Stacked base msg nest height ws → ws ≡ []
-stacked_empty base msg nest height [] e s = refl
-stacked_empty base msg nest height (w ∷ ws) e (h, f, p, s) = absurd (omega arith)
+pub stacked_empty : (base : ℕ) (msg last : List ℕ) (nest : List Waiting) (height : ℕ) (ws : List Wait) → height ≡ 0 → Stacked base msg last nest height ws → ws ≡ []
+stacked_empty base msg last nest height [] e s = refl
+stacked_empty base msg last nest height (w ∷ ws) e (h, f, p, s) = absurd (omega arith)

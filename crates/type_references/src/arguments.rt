@@ -1,5 +1,5 @@
 // The arguments of a type: where the type of each stands, and how many are kept. What is told: specs/told/ParseTold.antt.
-ghost use Rattle.std.specs.Prelude.{◌≤◌, length};
+ghost use Rattle.std.specs.Prelude.{◌≡◌, ◌≤◌, length};
 ghost use Rattle.schema.specs.told.SchemaTold.{lent};
 ghost use Rattle.type_references.specs.told.ParseTold.{TypeFieldTold, ArgumentTold, KeptTold, CountTold};
 
@@ -31,17 +31,22 @@ pub(crate) fn type_field(msg: Located<'_>, slot: TypeSlot) -> Result<Option<Type
 }
 
 // The argument in a part of a message: a star, or its projection and its type, which is inline in the message, by its index, or not there. A type
-// that is inline is cut; that of a star is not. It requires that the part lies in the message, so that it can be sliced.
-pub(crate) fn argument_at(msg: Located<'_>, part: Span) -> Result<ArgumentHead, WireError>
-    requires { (part.start ≤ part.end) × (part.end ≤ length msg.bytes.now) }
-    ensures { ArgumentTold msg.entry.base msg.entry.bytes.now part.start part.end result }
+// that is inline is cut; that of a star is not. It is cut in `last`, the message as it is read where no look-up is left: there it is cut alike, and
+// its arguments by an index, of which there may be thousands, cost nothing. It requires that the part lies in the message, so that it can be sliced.
+pub(crate) fn argument_at(
+    msg: Located<'_>,
+    last: Located<'_>,
+    part: Span,
+) -> Result<ArgumentHead, WireError>
+    requires { (part.start ≤ part.end) × (part.end ≤ length msg.bytes.now) × (last.base ≡ msg.base) × (length last.bytes.now ≡ length msg.bytes.now) }
+    ensures { ArgumentTold msg.entry.base msg.entry.bytes.now last.entry.bytes.now part.start part.end result }
 {
     let head = argument_head(msg.part(part));
     let ArgumentHead::Inline { projection, body } = head else {
         return Ok(head);
     };
     let inner = body.moved(part.start);
-    check(msg.part(inner))?;
+    check(last.part(inner))?;
     Ok(ArgumentHead::Inline {
         projection,
         body: inner,

@@ -1,9 +1,10 @@
 // A type is entered: its row, with how many of its arguments are kept. What is told: specs/told/ParseTold.antt.
-ghost use Rattle.std.specs.Prelude.{false, [], ◌∷◌, ◌-◌, ◌≤◌};
+ghost use Rattle.std.specs.Prelude.{◌≡◌, false, [], ◌∷◌, ◌-◌, ◌≤◌};
 ghost use Rattle.names.specs.told.Name.{name_text};
 ghost use Rattle.sheet.specs.Rows.{row};
 ghost use Rattle.sheet.specs.told.Put.{SameAreas, WroteRows};
-ghost use Rattle.declaration_rows.specs.Rows.{argument_role, type_cells};
+ghost use Rattle.declaration_rows.specs.Rows.{type_cells};
+ghost use Rattle.declaration_rows.specs.declared.Role.TheVariants.{Argument};
 ghost use Rattle.declaration_rows.specs.told.Written.{role_number};
 ghost use Rattle.schema.specs.told.ArgumentTold.{projection_number};
 ghost use Rattle.schema.specs.told.SchemaTold.{lent, Ready};
@@ -31,11 +32,38 @@ pub(crate) struct Shown {
     pub projection: Projection,
 }
 
+impl Shown {
+    // As an argument.
+    pub(crate) fn argument(projection: Projection) -> Shown
+        ensures { result ≡ record { role = Argument; projection = projection } }
+    {
+        Shown {
+            role: Role::Argument,
+            projection,
+        }
+    }
+}
+
 // Where a type stands: how its record shows it, and how it is reached.
 #[derive(Clone, Copy)]
 pub(crate) struct TypePlace {
     pub shown: Shown,
     pub reached: Reached,
+}
+
+impl TypePlace {
+    // An argument's own type, inline in it. The type table says nothing of it.
+    pub(crate) fn inline(projection: Projection, left: usize) -> TypePlace
+        ensures { result ≡ record { shown = record { role = Argument; projection = projection }; reached = record { nullable = false; left = left } } }
+    {
+        TypePlace {
+            shown: Shown::argument(projection),
+            reached: Reached {
+                nullable: false,
+                left,
+            },
+        }
+    }
 }
 
 // A type's record.
@@ -87,10 +115,7 @@ pub(crate) fn enter_star(context: &Context<'_>, out: &mut Output<'_>) -> Result<
     if out.state.types == 0 {
         return Err(Stop::TooManyTypes);
     }
-    let shown = Shown {
-        role: Role::Argument,
-        projection: Projection::Star,
-    };
+    let shown = Shown::argument(Projection::Star);
     put_type(shown, false, context, None, 0, out);
     Ok(())
 }
@@ -119,29 +144,4 @@ pub(crate) fn enter_type(
     let name = class_name_at(own.name, context);
     put_type(place.shown, nullable, context, name, count, out);
     Ok(())
-}
-
-// An argument's own type, inline in it, is entered in the same way. The type table says nothing of it.
-pub(crate) fn enter_argument(
-    msg: Located<'_>,
-    projection: Projection,
-    left: usize,
-    context: &Context<'_>,
-    out: &mut Output<'_>,
-) -> Result<(), Stop>
-    requires { Ready (lent context.now) out.old.state }
-    ensures same_areas { SameAreas out.old out.new }
-    ensures written { Writes (EnterTold (lent context.now) msg.entry.bytes.now msg.entry.base left argument_role (projection_number projection) false) out.old (walked result out.new) out.new }
-{
-    let place = TypePlace {
-        shown: Shown {
-            role: Role::Argument,
-            projection,
-        },
-        reached: Reached {
-            nullable: false,
-            left,
-        },
-    };
-    enter_type(msg, place, context, out)
 }

@@ -48,7 +48,7 @@ fn type_in_area<const N: usize>(
     ensures written { Writes (ParseTold (lent context.now) msg.entry.bytes.now msg.entry.base place.reached.left (role_number place.shown.role) (projection_number place.shown.projection) place.reached.nullable) out.old (walked result out.new) out.new }
 {
     let mut nest = [NOTHING_WAITS; N];
-    parse_at(msg, place, context, &mut nest, out)
+    parse_at(msg, msg, place, context, &mut nest, out)
 }
 
 // The same in the area that is enough for it. Most have no argument, so that nothing waits: they are lent an empty one, which costs nothing to

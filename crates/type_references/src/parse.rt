@@ -1,20 +1,19 @@
 // Types and their arguments. `parse_at`, `arguments_at` and `resolve_at` are one cycle: what falls along it is one number of the depth left, of
 // which a look-up takes one, and the bytes of the message (`remaining`). Types inside types are a loop, since an input can nest 2,048 of them:
-// what falls there is the bytes left. What is told: specs/told/ParseTold.antt and schema's specs/told/TypesTold.antt.
-ghost use Rattle.std.specs.Prelude.{◌≤◌, length};
+// what falls there is the bytes left. Arguments by an index that are dropped because no look-up is left cost nothing where `context.deepest` is without
+// them. What is told: specs/told/ParseTold.antt and schema's specs/told/TypesTold.antt.
+ghost use Rattle.std.specs.Prelude.{◌≡◌, ◌≤◌, length};
 ghost use Rattle.sheet.specs.told.Put.{SameAreas};
 ghost use Rattle.declaration_rows.specs.told.Written.{role_number};
 ghost use Rattle.schema.specs.told.ArgumentTold.{projection_number};
 ghost use Rattle.schema.specs.told.SchemaTold.{lent, Ready};
-ghost use Rattle.schema.specs.told.TypesTold.{ParseTold};
 ghost use Rattle.schema.specs.told.WroteTold.{walked, Writes};
 ghost use Rattle.type_references.specs.told.OptionalTold.{LookedTold};
-ghost use Rattle.type_references.specs.told.ParseTold.{ArgumentsTold, FitsEntry, NestRoom, ParseRoom};
+ghost use Rattle.type_references.specs.told.ParseTold.{ArgumentsTold, FitsEntry, NestRoom, ParseRoom, TwinTold};
 
 use crate::arguments::argument_at;
-use crate::enter::{Shown, TypePlace, enter_argument, enter_star, enter_type};
+use crate::enter::{Shown, TypePlace, enter_star, enter_type};
 use crate::waiting::Waiting;
-use declaration_rows::Role;
 use fields::TYPE_ARGUMENT;
 use foundation::{Context, Located, Span};
 use messages::next_body;
@@ -25,18 +24,20 @@ use sheet::Output;
 
 // The arguments of the type in a message, one after the other, and theirs. `left` is left at them; what waits stands in `nest`, and a look-up is
 // lent what is free of it. A loop by hand, since no list holds what it goes over: after an inline argument it goes on inside it, and the rest waits. `height`
-// counts what waits.
+// counts what waits. `last` is the message as it is read where no look-up is left: an inline argument that leaves none to its own arguments is read there, on
+// its own, and what waits stays as it was.
 #[cycle(arguments_at_parse_at_resolve_at)]
 fn arguments_at(
     msg: Located<'_>,
+    last: Located<'_>,
     left: usize,
     context: &Context<'_>,
     nest: &mut [Waiting],
     out: &mut Output<'_>,
 ) -> Result<(), Stop>
-    requires { NestRoom (lent context.now) msg.bytes.now nest.old msg.base left out.old.state }
+    requires { NestRoom (lent context.now) msg.bytes.now nest.old msg.base left out.old.state × (last.base ≡ msg.base) × (length last.bytes.now ≡ length msg.bytes.now) }
     ensures same_areas { SameAreas out.old out.new }
-    ensures written { Writes (ArgumentsTold (lent context.now) msg.entry.bytes.now msg.entry.base left) out.old (walked result out.new) out.new }
+    ensures written { Writes (ArgumentsTold (lent context.now) msg.entry.bytes.now last.entry.bytes.now msg.entry.base left) out.old (walked result out.new) out.new }
 {
     let mut at = 0;
     let mut end = msg.bytes.len();
@@ -56,10 +57,16 @@ fn arguments_at(
             continue;
         };
         at = part.end;
-        match argument_at(msg, part)? {
+        match argument_at(msg, last, part)? {
             ArgumentHead::Star => enter_star(context, out)?,
             ArgumentHead::Inline { projection, body } => {
-                enter_argument(msg.part(body), projection, deep, context, out)?;
+                let place = TypePlace::inline(projection, deep);
+                if deep == 1 {
+                    let inner = last.part(body);
+                    parse_at(inner, inner, place, context, &mut nest[height..], out)?;
+                    continue;
+                }
+                enter_type(msg.part(body), place, context, out)?;
                 nest[height] = Waiting::of(at, end, deep);
                 height += 1;
                 at = body.start;
@@ -67,10 +74,7 @@ fn arguments_at(
                 deep = deep.saturating_sub(1);
             }
             ArgumentHead::ByIndex { projection, index } => {
-                let shown = Shown {
-                    role: Role::Argument,
-                    projection,
-                };
+                let shown = Shown::argument(projection);
                 resolve_at(index, deep, shown, context, &mut nest[height..], out)?;
             }
             ArgumentHead::Nothing => {}
@@ -78,18 +82,19 @@ fn arguments_at(
     }
 }
 
-// A type whose message is cut. One with no argument may be lent an empty area.
+// A type whose message is cut. One with no argument may be lent an empty area. `last` is the message as it is read where no look-up is left.
 #[cycle(arguments_at_parse_at_resolve_at)]
 pub(crate) fn parse_at(
     msg: Located<'_>,
+    last: Located<'_>,
     place: TypePlace,
     context: &Context<'_>,
     nest: &mut [Waiting],
     out: &mut Output<'_>,
 ) -> Result<(), Stop>
-    requires { ParseRoom (lent context.now) msg.bytes.now nest.old msg.base place.reached.left out.old.state }
+    requires { ParseRoom (lent context.now) msg.bytes.now nest.old msg.base place.reached.left out.old.state × (last.base ≡ msg.base) × (length last.bytes.now ≡ length msg.bytes.now) }
     ensures same_areas { SameAreas out.old out.new }
-    ensures written { Writes (ParseTold (lent context.now) msg.entry.bytes.now msg.entry.base place.reached.left (role_number place.shown.role) (projection_number place.shown.projection) place.reached.nullable) out.old (walked result out.new) out.new }
+    ensures written { Writes (TwinTold (lent context.now) msg.entry.bytes.now last.entry.bytes.now msg.entry.base place.reached.left (role_number place.shown.role) (projection_number place.shown.projection) place.reached.nullable) out.old (walked result out.new) out.new }
 {
     enter_type(msg, place, context, out)?;
     if nest.len() == 0 {
@@ -97,6 +102,7 @@ pub(crate) fn parse_at(
     }
     arguments_at(
         msg,
+        last,
         place.reached.left.saturating_sub(1),
         context,
         nest,
@@ -104,7 +110,7 @@ pub(crate) fn parse_at(
     )
 }
 
-// The type at an index of the type table, or nothing.
+// The type at an index of the type table, or nothing. One that leaves no look-up to its arguments is read among the bytes that are for that.
 // Schema's `entry_place` takes these steps too, but tells of what a reading has accepted.
 #[cycle(arguments_at_parse_at_resolve_at)]
 pub(crate) fn resolve_at(
@@ -130,6 +136,10 @@ pub(crate) fn resolve_at(
         left: left - 1,
     };
     let place = TypePlace { shown, reached };
+    let last = Located::of(context.deepest, entry);
+    if reached.left <= 1 {
+        return parse_at(last, last, place, context, nest, out);
+    }
     let msg = Located::of(context.payload, entry);
-    parse_at(msg, place, context, nest, out)
+    parse_at(msg, last, place, context, nest, out)
 }

@@ -10,7 +10,7 @@ const ARRAY: u64 = 1;
 const INT: u64 = 2;
 
 /// Types inside one another that joining goes into: `LEVELS` of the reader's joined_types.
-const JOINED: usize = 64;
+const JOINED: usize = 128;
 
 pub fn inputs() -> Vec<Slow> {
     let mut all = entered_by_functions();
@@ -18,6 +18,7 @@ pub fn inputs() -> Vec<Slow> {
     all.extend(inside());
     all.extend(nested());
     all.extend(at_depth_64());
+    all.extend(inline_at_depth_64());
     all.extend(broken());
     all.extend(of_one_walk());
     all
@@ -132,7 +133,7 @@ fn inside() -> Vec<Slow> {
 /// Types inline in an entry, one in another; the innermost holds what costs much. Each visit enters all of them.
 fn nested() -> Vec<Slow> {
     let mut all = Vec::new();
-    for levels in [2, 3, JOINED - 1, JOINED, JOINED + 1, 2 * JOINED, 257] {
+    for levels in [2, 3, 65, JOINED - 1, JOINED, JOINED + 1, 2 * JOINED, 400] {
         for (words, piece) in pieces() {
             let functions = function().repeat(TYPES as usize / levels);
             let innermost = array(&many(&piece, functions.len() + 8 * levels + 100));
@@ -143,29 +144,80 @@ fn nested() -> Vec<Slow> {
     all
 }
 
-/// Arguments by index that are dropped by their depth alone: joining can't know it of an entry. The last of 32 entries is entered 2,000 times.
+/// Arguments by index that are dropped by their depth alone: where a look-up is left they are kept. The last of 32 entries is entered 2,000 times.
 fn at_depth_64() -> Vec<Slow> {
     let by_index = |count: usize| many(&looked_up_argument(0), count);
     let strange = [number(1, 1), number(3, 0)].concat();
+    let parameters = bytes(3, &function_with(0, &bytes(6, &[number(2, 0), number(5, 0)].concat()).repeat(61)));
     vec![
-        slow("arguments by index at depth 64", &function(), &chained(30, &[], array(&by_index(1000)))),
-        slow("the same with a projection", &function(), &chained(30, &[], array(&many(&bytes(2, &strange), 1000)))),
+        slow("arguments by index at depth 64", &function(), &chained(30, 125, array(&by_index(1000)))),
+        slow("the same with a projection", &function(), &chained(30, 125, array(&many(&bytes(2, &strange), 1000)))),
         slow(
             "the same of a class that is no array",
             &function(),
-            &chained(30, &[], [number(6, INT), by_index(1000)].concat()),
+            &chained(30, 125, [number(6, INT), by_index(1000)].concat()),
         ),
         slow("the same with types inline between", &function(), &chained_inline(array(&by_index(1100)))),
         slow("arguments by index at depth 64, of a type inline", &deep_function(), &[array(&by_index(7000))]),
+        slow(
+            "32 arrays one in another by index, each function's type with its descriptor: arguments by index in the last",
+            &function().repeat(63),
+            &arrays_in_a_chain(array(&by_index(1500))),
+        ),
+        slow(
+            "the same of 61 parameters of one function, whose descriptor is longer than 256 bytes: an argument is kept behind them",
+            &parameters,
+            &arrays_in_a_chain([array(&by_index(2000)), inline_argument(&number(6, INT))].concat()),
+        ),
+        slow(
+            "the same beside 1,750 functions, which make the body be walked twice",
+            &[parameters.clone(), bytes(3, &number(2, 0)).repeat(1750)].concat(),
+            &arrays_in_a_chain([array(&by_index(8500)), inline_argument(&number(6, INT))].concat()),
+        ),
     ]
 }
 
-/// So many entries that each hold the next one, then one that is held 16 times and holds the last 125 times.
-fn chained(before: usize, rest: &[u8], last: Vec<u8>) -> Vec<Vec<u8>> {
+/// The same in types inline, one in another, of an entry that is entered where look-ups are left: only the innermost type's arguments stand at depth 64.
+/// With an odd number of them the function's own type is inline, and holds the first entry.
+fn inline_at_depth_64() -> Vec<Slow> {
+    let mut all = Vec::new();
+    for levels in [1, 2, 3, 4, 10, 20, 40] {
+        let (member, before) =
+            if levels % 2 == 0 { (function(), 30 - levels / 2) } else { (inline_function(), 29 - levels / 2) };
+        let innermost = array(&many(&looked_up_argument(0), 1000));
+        let around = |before: &[u8], after: &[u8]| {
+            (0..levels).fold(innermost.clone(), |ty, _| [before, &inline_argument(&ty), after].concat())
+        };
+        let mut with = |words: &str, types: usize, last: Vec<u8>| {
+            let words =
+                format!("arguments by index at depth 64 of the last type inline in an entry, of {levels}{words}");
+            all.push(slow(words, &member, &chained(before, 2000 / types / 16, last)));
+        };
+        with("", levels + 1, around(&[], &[]));
+        with(", each after a star", 2 * levels + 1, around(&star(&[]), &[]));
+        with(", each before a star", 2 * levels + 1, around(&[], &star(&[])));
+    }
+    all
+}
+
+/// A function whose return type is inline, with the first entry as its argument.
+fn inline_function() -> Vec<u8> {
+    bytes(3, &function_with(0, &bytes(3, &looked_up_argument(0))))
+}
+
+/// So many entries that each hold the next one, then one that is held 16 times and holds the last so many times.
+fn chained(before: usize, count: usize, last: Vec<u8>) -> Vec<Vec<u8>> {
     let next = |place: usize| looked_up_argument(place as u64 + 1);
-    let mut entries: Vec<Vec<u8>> = (0..before - 1).map(|place| [&next(place), rest].concat()).collect();
+    let mut entries: Vec<Vec<u8>> = (0..before - 1).map(next).collect();
     entries.push(next(before - 1).repeat(16));
-    entries.push(next(before).repeat(125));
+    entries.push(next(before).repeat(count));
+    entries.push(last);
+    entries
+}
+
+/// Arrays that each hold the next one, down to depth 64, then one more entry.
+fn arrays_in_a_chain(last: Vec<u8>) -> Vec<Vec<u8>> {
+    let mut entries: Vec<Vec<u8>> = (1..32).map(|next| array(&looked_up_argument(next))).collect();
     entries.push(last);
     entries
 }

@@ -18,6 +18,7 @@ use Rattle.declaration_rows.specs.Declarations.{Declarations}
 use Rattle.schema.specs.Reading.{TypeTable, allowance}
 use Rattle.schema.specs.Types.{type_table_in}
 use Rattle.schema.specs.told.SchemaTold.{Lent, lent_of, EntriesOf, entries_in}
+use Rattle.schema.specs.told.Alike.{DeepestOf}
 use Rattle.foundation.specs.declared.Tables.{Tables}
 use Rattle.declarations.specs.Payload.{body_of, payload}
 use Rattle.declarations.specs.declared.payload.Opened.{Opened}
@@ -75,6 +76,7 @@ OpenedTold bytes notes (Err index.NoRoom) = NotesRoom bytes notes → ⊥
 pub record LentAt (e : Lent) (at : ℕ) : Type 0 where
   pub opened : OpenedAt e.payload e.notes at e.tables
   pub sizes : ends_fit 0 e.ends (length e.d2) ≡ true → SizesOf e.d2 e.ends e.notes
+  pub deepest : DeepestOf e.payload e.deepest (entries_in e.tables e.notes) e.tables.types
 
 -- room for it
 pub record LentRoom (bytes notes : List ℕ) : Type 0 where
@@ -82,6 +84,6 @@ pub record LentRoom (bytes notes : List ℕ) : Type 0 where
   pub long : 3 * length bytes ≤ 2 * codes_from (length notes)
 
 abbrev pub LentTold : List ℕ → List ℕ → List ℕ → List ℕ → Result Opened IndexError → Type 0
-LentTold bytes d2 ends notes (Ok o) = LentAt (lent_of bytes d2 ends notes o.tables) o.at
+LentTold bytes d2 ends notes (Ok o) = LentAt (lent_of bytes bytes d2 ends notes o.tables) o.at
 LentTold bytes d2 ends notes (Err (index.Wire error)) = (kind : ℕ) (strings : ℕ → Res (Option Text)) → payload kind strings bytes ≡ wire_refused error
 LentTold bytes d2 ends notes (Err index.NoRoom) = LentRoom bytes notes → ⊥

@@ -12,7 +12,7 @@ use Rattle.wire.specs.declared.WireValue.TheVariants as wire
 use Rattle.messages.specs.told.Asked.{bodies}
 use Rattle.names.specs.Names.{Names}
 use Rattle.schema.specs.Members.{body_in}
-use Rattle.joined_types.specs.told.Alike.{Dropped}
+use Rattle.schema.specs.told.Alike.{Dropped}
 use Rattle.joined_types.specs.declared.Fate.{Fate}
 use Rattle.joined_types.specs.declared.Fate.TheVariants as fate
 use Rattle.joined_types.specs.declared.TypeSeen.{TypeSeen}
@@ -20,7 +20,7 @@ use Rattle.joined_types.specs.declared.ArgumentSeen.{ArgumentSeen}
 
 -- how many types inside one another are joined
 abbrev pub joined_levels : ℕ
-joined_levels = 64
+joined_levels = 128
 
 -- An argument that, if it is cut, is dropped wherever it is read. Of another nothing is told.
 abbrev pub NoTypeTold : ℕ → ℕ → List ℕ → Bool → Type 0

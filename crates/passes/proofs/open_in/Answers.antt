@@ -1,7 +1,7 @@
 use Rattle.std.proofs.Common.{Ok}
 use Rattle.std.proofs.lemmas.Result.{err_from_is_err_and}
 use Rattle.passes.proofs.PassLaws.{opened-stops}
-use Rattle.passes.proofs.JoinedLaws.{joined-limits, joined-passes}
+use Rattle.passes.proofs.JoinedLaws.{joined-limits, joined-passes, deepest-lent}
 use Rattle.passes.proofs.open_in.Goals as goal
 
 pub open_joined-requires : goal.open_joined-requires
@@ -17,7 +17,7 @@ returns-in_err-opened-clause-written c =
     (rw p.1 (opened-stops a.asked o.new.bytes u.d2.now u.ends.now o.new.notes c.in_err-opened.field-0.0 c.in_err-opened.ensures.opened p.0 p.2 a.areas.now.sheet.now a.areas.now.text.now))
 
 pub read_in-requires : goal.read_in-requires
-read_in-requires c = (joined-limits c.open_joined.ensures.joined c.requires, c.in_ok-opened.ensures.opened)
+read_in-requires c = (joined-limits c.open_joined.ensures.joined c.requires, deepest-lent c.in_ok-opened.ensures.opened _ c.deepest_of-deepest.ensures)
 
 pub returns-in_err-reply-clause-written : goal.returns-in_err-reply-clause-written
 returns-in_err-reply-clause-written c =

@@ -22,6 +22,7 @@ use Rattle.sheet.specs.Rows.{Row}
 use Rattle.sheet.specs.told.Put.{PutRows}
 use Rattle.sheet.specs.declared.State.{State}
 use Rattle.schema.specs.Reading.{Scope, allowance}
+use Rattle.schema.specs.told.Alike.{DeepestOf}
 use Rattle.schema.specs.declared.Stop.{Stop}
 use Rattle.schema.specs.declared.Stop.TheVariants.{Wire, TooManyTypes}
 
@@ -43,18 +44,20 @@ stop_place TooManyTypes = 0
 abbrev pub stop_refused : {A : Type 0} → Stop → Res A
 stop_refused stop = refused (stop_cause stop) (stop_place stop)
 
--- What is lent to every function: the decoded bytes; d2 and where its strings end; the index of the name table's records, and after it
+-- What is lent to every function: the decoded bytes, and as they are read where no look-up is left; d2 and where its strings end; the index of the name table's records, and after it
 -- where the type table's entries stand among the decoded bytes.
 pub record Lent : Type 0 where
   pub payload : List ℕ
+  pub deepest : List ℕ
   pub d2 : List ℕ
   pub ends : List ℕ
   pub notes : List ℕ
   pub tables : Tables
 
-abbrev pub lent_of : List ℕ → List ℕ → List ℕ → List ℕ → Tables → Lent
-lent_of payload d2 ends notes tables = record {
+abbrev pub lent_of : List ℕ → List ℕ → List ℕ → List ℕ → List ℕ → Tables → Lent
+lent_of payload deepest d2 ends notes tables = record {
   payload = payload;
+  deepest = deepest;
   d2 = d2;
   ends = ends;
   notes = notes;
@@ -62,7 +65,7 @@ lent_of payload d2 ends notes tables = record {
 }
 
 abbrev pub lent : Context → Lent
-lent c = lent_of c.payload.now c.d2.now c.ends.now c.notes.now c.tables
+lent c = lent_of c.payload.now c.deepest.now c.d2.now c.ends.now c.notes.now c.tables
 
 -- an entry of the type table from start to end of the decoded bytes
 pub record EntryAt (payload : List ℕ) (start end : ℕ) (m : Message) : Type 0 where
@@ -97,11 +100,12 @@ pub record NamesOf (payload d2 ends notes : List ℕ) (count : ℕ) (n : Names) 
   pub sizes : SizesOf d2 ends notes
   pub records : NotesOf payload notes count n.records
 
--- What is lent is the scope's: the index of its names, its type table.
+-- What is lent is the scope's: the index of its names, its type table, and this as it is read where no look-up is left.
 pub record Scoped (e : Lent) (s : Scope) : Type 0 where
   pub names : NamesOf e.payload e.d2 e.ends e.notes e.tables.records s.names
   pub entries : EntriesOf e.payload (entries_in e.tables e.notes) e.tables.types s.table.types
   pub nullable : s.table.first_nullable ≡ index_told e.tables.first_nullable
+  pub deepest : DeepestOf e.payload e.deepest (entries_in e.tables e.notes) e.tables.types
 
 -- How many bytes a name takes at most, and a type's record.
 abbrev pub name_limit : ℕ

@@ -1,6 +1,6 @@
 -- What the readers of types tell. Depth is counted down: `left` is what is left of `max_depth` at the depth d.
 -- Assumes nothing.
-use Rattle.std.specs.Prelude.{◌≡◌, Bool, ◌||◌, List, ℕ, ◌-◌, ◌≤◌, ◌<◌, length}
+use Rattle.std.specs.Prelude.{◌≡◌, Bool, ◌||◌, List, ℕ, ◌-◌, ◌≤◌, ◌<◌, length, get_or}
 use Rattle.std.proofs.Math.Option.{Option, none, some}
 use Rattle.std.proofs.Math.ListN.{get_elem?}
 use Rattle.std.specs.declared.option.Option.TheVariants.{Some}
@@ -8,6 +8,7 @@ use Rattle.std.specs.declared.result.Result.TheVariants.{Ok, Err}
 use Rattle.foundation.specs.Results.{ok, ◌from◌}
 use Rattle.wire.specs.Wire.{Message, cut}
 use Rattle.characters.specs.told.Places.{part_from}
+use Rattle.names.specs.told.Index.{start_of, end_of}
 use Rattle.sheet.specs.Rows.{Row}
 use Rattle.sheet.specs.declared.State.{State}
 use Rattle.declaration_rows.specs.Declarations.{invariant, no_types, Ty, with_type}
@@ -46,10 +47,18 @@ abbrev pub EntryBelow : ℕ → ℕ → rust.Option Span → Type 0
 EntryBelow count i (Some p) = i < count
 EntryBelow count i None = Unit {0}
 
+-- It stands where its note says. Where nothing is found, no entry is noted there, or an empty one.
+abbrev pub EntryPlaced : List ℕ → List ℕ → ℕ → ℕ → rust.Option Span → Type 0
+EntryPlaced payload entries count i (Some p) = (p.start ≡ start_of (get_or entries i 0)) × (p.end ≡ end_of (get_or entries i 0))
+EntryPlaced payload entries count i None =
+    i < count → start_of (get_or entries i 0) ≤ end_of (get_or entries i 0) → end_of (get_or entries i 0) ≤ length payload
+    → end_of (get_or entries i 0) ≤ start_of (get_or entries i 0)
+
 pub record EntryTold (payload entries : List ℕ) (count i : ℕ) (r : rust.Option Span) : Type 0 where
   pub is : (types : List Message) → EntriesOf payload entries count types → EntryIs payload (get_elem? types i) r
   pub inside : EntryInside payload r
   pub below : EntryBelow count i r
+  pub placed : EntryPlaced payload entries count i r
 
 -- a type
 pub record ParseTold (e : Lent) (msg : List ℕ) (base left role projection : ℕ) (nullable : Bool) (s : State) (r : Walked) (S S' T T' : List ℕ) : Type 0 where

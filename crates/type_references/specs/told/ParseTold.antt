@@ -1,14 +1,14 @@
 -- What the readers of types tell. Depth is counted down: `left` is what is left of `max_depth` at the depth d.
 -- Assumes nothing.
-use Rattle.std.specs.Prelude.{◌≡◌, Bool, List, [], ℕ, ◌+◌, ◌-◌, ◌≤◌, ◌<◌, length}
+use Rattle.std.specs.Prelude.{◌≡◌, Bool, List, [], ◌∷◌, ℕ, ◌+◌, ◌-◌, ◌≤◌, ◌<◌, length}
 use Rattle.std.proofs.Math.Option.{Option, none, some}
 use Rattle.std.proofs.Math.ListN.{get_elem?}
-use Rattle.foundation.specs.Choices.{is_some}
+use Rattle.foundation.specs.Choices.{is_some, All}
 use Rattle.foundation.specs.Results.{Res, ok, ◌from◌}
 use Rattle.fields.specs.Fields.{Type-argument, Type-Argument-type, Type-Argument-type_id}
 use Rattle.wire.specs.Wire.{Message, cut}
-use Rattle.wire.specs.Messages.{message, messages, index}
-use Rattle.wire.specs.told.WireTold.{wire_refused}
+use Rattle.wire.specs.Messages.{message, messages, index, bytes_of}
+use Rattle.wire.specs.told.WireTold.{wire_refused, part_between}
 use Rattle.messages.specs.told.Asked.{bodies}
 use Rattle.characters.specs.told.Places.{part_from}
 use Rattle.sheet.specs.Rows.{Row}
@@ -22,8 +22,9 @@ use Rattle.schema.specs.told.SchemaTold.{Lent, Scoped, Ready, WalkedSpends, Walk
 use Rattle.schema.specs.told.PlacesTold.{TableOf}
 use Rattle.schema.specs.told.ArgumentTold.{projection_number, NoStar}
 use Rattle.schema.specs.told.TypesTold.{or_nullable, rows_in}
+use Rattle.schema.specs.told.Alike.{SameAtLast, ArgumentTwin}
 use Rattle.foundation.specs.declared.Tables.{Tables}
-use Rattle.type_references.specs.told.Pending.{rows_read, prefixed, shown_rows, argument_rows}
+use Rattle.type_references.specs.told.Pending.{rows_read, prefixed, shown_rows, argument_rows, Twinned}
 use Rattle.type_references.specs.declared.arguments.TypeField.{TypeField}
 use Rattle.type_references.specs.declared.arguments.TypeField.TheVariants as field
 use Rattle.type_references.specs.declared.waiting.Waiting.{Waiting}
@@ -54,7 +55,8 @@ TypeFieldInside b (Err error) = Unit {0}
 abbrev pub ArgumentIs : ℕ → List ℕ → Message → Result ArgumentHead WireError → Type 0
 ArgumentIs base msg m (Ok head.Star) = projection_in m ≡ star
 ArgumentIs base msg m (Ok (head.Inline p b)) =
-    (inner : Message) × (cut (◌from◌ (base + b.start) (part_from b.start b.end msg)) ≡ ok inner) × (message Type-Argument-type m ≡ ok (some inner)) × NoStar (projection_number p) m
+    (inner : Message) × (cut (part_between base msg b.start b.end) ≡ ok inner) × (message Type-Argument-type m ≡ ok (some inner))
+    × (bytes_of Type-Argument-type m ≡ some (part_between base msg b.start b.end)) × NoStar (projection_number p) m
 ArgumentIs base msg m (Ok (head.ByIndex p i)) =
     (message Type-Argument-type m ≡ ok none) × (index Type-Argument-type_id m ≡ some i) × NoStar (projection_number p) m
 ArgumentIs base msg m (Ok head.Nothing) =
@@ -73,9 +75,9 @@ pub record TypeFieldTold (base : ℕ) (msg : List ℕ) (f g : ℕ) (r : Result (
   pub is : (m : Message) → cut (◌from◌ base msg) ≡ ok m → TypeIs base msg f g m r
   pub inside : TypeFieldInside (length msg) r
 
--- the argument from a to b of a message
-pub record ArgumentTold (base : ℕ) (msg : List ℕ) (a b : ℕ) (r : Result ArgumentHead WireError) : Type 0 where
-  pub is : (m : Message) → cut (◌from◌ (base + a) (part_from a b msg)) ≡ ok m → ArgumentIs base msg m r
+-- The argument from a to b of a message. The type inline in it is alike in `last` where no look-up is left.
+pub record ArgumentTold (base : ℕ) (msg last : List ℕ) (a b : ℕ) (r : Result ArgumentHead WireError) : Type 0 where
+  pub is : (m : Message) → cut (◌from◌ (base + a) (part_from a b msg)) ≡ ok m → Twinned base last a b (m ∷ []) → ArgumentIs base msg m r
   pub inside : ArgumentInside a b r
 
 -- An argument is kept, if it is read at all.
@@ -126,12 +128,22 @@ pub record EnterTold (e : Lent) (msg : List ℕ) (base left role projection : �
   pub is : (c : Scope) → Scoped e c → (m : Message) → cut (◌from◌ base msg) ≡ ok m → (d : ℕ) → left ≡ max_depth - d
       → EnteredIs c d m role projection nullable s r S S' T T'
 
--- All arguments of a type, one after the other; `left` is left at them.
-pub record ArgumentsTold (e : Lent) (msg : List ℕ) (base left : ℕ) (s : State) (r : Walked) (S S' T T' : List ℕ) : Type 0 where
+-- All arguments of a type, one after the other; `left` is left at them. Their types inline are alike in `last` where no look-up is left.
+pub record ArgumentsTold (e : Lent) (msg last : List ℕ) (base left : ℕ) (s : State) (r : Walked) (S S' T T' : List ℕ) : Type 0 where
   pub spends : WalkedSpends s r
   pub is : (c : Scope) → Scoped e c → (m : Message) → cut (◌from◌ base msg) ≡ ok m → (ms : List Message) → messages Type-argument m ≡ ok ms
-      → (d : ℕ) → left ≡ max_depth - d
+      → All (ArgumentTwin base last) ms → (d : ℕ) → left ≡ max_depth - d
       → WalkedTold (kept (argument_in (type_at allowance c) c d) ms s.types) argument_rows s r S S' T T'
+
+-- A type's message is alike in other bytes where no look-up is left.
+abbrev pub Twin : ℕ → List ℕ → Message → Type 0
+Twin base last m = (m' : Message) × (cut (◌from◌ base last) ≡ ok m') × SameAtLast m m'
+
+-- A type of which that holds.
+pub record TwinTold (e : Lent) (msg last : List ℕ) (base left role projection : ℕ) (nullable : Bool) (s : State) (r : Walked) (S S' T T' : List ℕ) : Type 0 where
+  pub spends : WalkedSpends s r
+  pub is : (c : Scope) → Scoped e c → (m : Message) → cut (◌from◌ base msg) ≡ ok m → Twin base last m → (d : ℕ) → left ≡ max_depth - d
+      → WalkedTold (type_at allowance c d m s.types) (λ t. rows_in role projection (or_nullable nullable t)) s r S S' T T'
 
 -- The area that is lent has room for all that may wait: for as many as types may still be entered, or, where there is no type to look up, for as
 -- many as the message has bytes.

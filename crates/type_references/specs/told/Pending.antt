@@ -2,6 +2,7 @@
 -- Assumes nothing.
 use Rattle.std.specs.Prelude.{◌≡◌, List, [], ◌∷◌, ◌++◌, ℕ, zero, suc, ◌+◌, ◌-◌, ◌≤◌, length, get_or}
 use Rattle.std.proofs.Math.Option.{Option, none, some}
+use Rattle.foundation.specs.Choices.{All}
 use Rattle.foundation.specs.Results.{Res, ok, refused, ◌from◌}
 use Rattle.fields.specs.Fields.{Type-argument}
 use Rattle.wire.specs.Wire.{Message, cut}
@@ -13,6 +14,7 @@ use Rattle.schema.specs.Reading.{Read, pure, ◌>>=◌, kept, Scope, allowance}
 use Rattle.schema.specs.Types.{max_depth, argument_in, type_at}
 use Rattle.declaration_rows.specs.Rows.{argument_role, types_rows}
 use Rattle.schema.specs.told.TypesTold.{rows_in}
+use Rattle.schema.specs.told.Alike.{ArgumentTwin}
 use Rattle.type_references.specs.declared.waiting.Waiting.{Waiting}
 
 -- what is read, as the rows that it comes to
@@ -54,19 +56,30 @@ pending c (w ∷ ws) =
 abbrev pub waiting_at : List Waiting → ℕ → Waiting
 waiting_at nest height = get_or nest height (record { at = 0; end = 0; left = 0 })
 
+-- Some arguments, which stand from a place to an end of a message, are some of those of a type that stands around them. In other bytes, which begin
+-- where the message does, a type that is alike where no look-up is left stands at the place of each type inline in them.
+pub record Twinned (base : ℕ) (last : List ℕ) (at end : ℕ) (arguments : List Message) : Type 0 where
+  pub start : ℕ
+  pub until : ℕ
+  pub after : start ≤ at
+  pub before : end ≤ until
+  pub short : until ≤ length last
+  pub each : All (ArgumentTwin (base + start) (part_from start until last)) arguments
+
 -- What waits from a place to an end of the message: its arguments from there on.
-pub record Pends (base : ℕ) (msg : List ℕ) (at end left : ℕ) (w : Wait) : Type 0 where
+pub record Pends (base : ℕ) (msg last : List ℕ) (at end left : ℕ) (w : Wait) : Type 0 where
   pub rest : Message
   pub cuts : cut (◌from◌ (base + at) (part_from at end msg)) ≡ ok rest
   pub many : messages Type-argument rest ≡ ok w.arguments
   pub deep : left ≡ max_depth - w.depth
+  pub twins : Twinned base last at end w.arguments
 
 -- What the area holds below a height, the last one first.
-abbrev pub Stacked : ℕ → List ℕ → List Waiting → ℕ → List Wait → Type 0
-Stacked base msg nest height [] = height ≡ 0
-Stacked base msg nest height (w ∷ ws) =
-    (h : ℕ) × (height ≡ suc h) × Pends base msg (waiting_at nest h).at (waiting_at nest h).end (waiting_at nest h).left w
-    × Stacked base msg nest h ws
+abbrev pub Stacked : ℕ → (msg last : List ℕ) → List Waiting → ℕ → List Wait → Type 0
+Stacked base msg last nest height [] = height ≡ 0
+Stacked base msg last nest height (w ∷ ws) =
+    (h : ℕ) × (height ≡ suc h) × Pends base msg last (waiting_at nest h).at (waiting_at nest h).end (waiting_at nest h).left w
+    × Stacked base msg last nest h ws
 
 -- That it stands inside the message, whatever is lent, no less deep than a type's arguments.
 pub record PendingInside (msg : List ℕ) (left : ℕ) (w : Waiting) : Type 0 where

@@ -4,11 +4,11 @@ use mathlib.Core.Path.{refl, ap}
 use mathlib.Core.List.{List, [], ◌∷◌}
 use mathlib.Core.Option.{Option, none, some}
 use Prim.Native.Nat.{ℕ, zero, suc}
-use Rattle.foundation.specs.Results.{Res, ok, refused, ◌>>=◌}
+use Rattle.foundation.specs.Results.{Res, ok, refused, ◌>>=◌, ◌from◌}
 use Rattle.fields.specs.Fields.{Type-argument, Type-Argument-type}
-use Rattle.wire.specs.Wire.{Message}
+use Rattle.wire.specs.Wire.{Message, cut}
 use Rattle.wire.specs.Messages.{message, messages}
-use Rattle.joined_types.specs.told.Alike.{Alike, AlikeOption, Dropped, Thinned, ArgumentsBy, TypesBy, SameType, SameTypes, no_entries, next_entry}
+use Rattle.schema.specs.told.Alike.{Alike, AlikeOption, Dropped, Thinned, ArgumentsBy, TypesBy, SameType, SameTypes, no_entries, next_entry, SameAtLast, JoinedAs, DeepestOf}
 
 -- What is the same in both is alike.
 pub alike-itself : {A : Type 0} (P : A → A → Type 0) → ((a : A) → P a a) → (r : Res A) → Alike P r r
@@ -27,6 +27,7 @@ pub argument-itself : (P : Message → Message → Type 0) → ((m : Message) �
 argument-itself P h a = record {
   projection = refl;
   indexed = refl;
+  placed = refl;
   inline = alike-itself (AlikeOption P) (option-itself P h) (message Type-Argument-type a);
 }
 
@@ -65,3 +66,13 @@ pub alike-some : {A : Type 0} (R : A → A → Type 0) (r r' : Res A) → Alike 
 alike-some R (ok a) (ok b) h = h
 alike-some R (ok a) (refused c p) h = h
 alike-some {A} R (refused c p) r' h = ap (λ (r : Res A). r >>= λ a. ok (some a)) h
+
+-- A copy of the decoded bytes that is the same is read alike.
+pub at-last-itself : (m : Message) → SameAtLast m m
+at-last-itself m = record { levels = 0; same = type-itself 0 0 m }
+
+pub joined-itself : (P : Message → Message → Type 0) → ((m : Message) → P m m) → (s : List ℕ) → JoinedAs P s s
+joined-itself P h s = record { many = refl; alike = λ base. alike-itself P h (cut (◌from◌ base s)) }
+
+pub deepest_itself : (payload entries : List ℕ) (count : ℕ) → DeepestOf payload payload entries count
+deepest_itself payload entries count = record { many = refl; each = λ i below ordered inside. joined-itself SameAtLast at-last-itself _ }

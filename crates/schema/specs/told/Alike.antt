@@ -1,11 +1,14 @@
 -- Messages of which the reading of types gives the same, whatever stands in them besides: what joining fields that no reading asks for keeps.
 -- Assumes nothing.
-use Rattle.std.specs.Prelude.{◌≡◌, false, List, [], ◌∷◌, ℕ, zero, suc, ◌≤◌, eqb, length}
+use Rattle.std.specs.Prelude.{◌≡◌, false, List, [], ◌∷◌, ℕ, zero, suc, ◌+◌, ◌-◌, ◌≤◌, ◌<◌, eqb, length, get_or}
 use Rattle.std.proofs.Math.Option.{Option, none, some}
-use Rattle.foundation.specs.Results.{Res, ok, refused, ◌from◌}
+use Rattle.foundation.specs.Choices.{map_option}
+use Rattle.foundation.specs.Results.{Res, ok, refused, Part, ◌from◌}
 use Rattle.fields.specs.Fields.{Type-argument, Type-nullable, Type-class_name, Type-Argument-projection, Type-Argument-type, Type-Argument-type_id, TypeTable-type, TypeTable-first_nullable}
 use Rattle.wire.specs.Wire.{Message, cut}
-use Rattle.wire.specs.Messages.{value, index, message, messages}
+use Rattle.wire.specs.Messages.{value, bytes_of, index, message, messages}
+use Rattle.characters.specs.told.Places.{part_from}
+use Rattle.names.specs.told.Index.{start_of, end_of}
 use Rattle.declaration_rows.specs.Declarations.{star}
 use Rattle.schema.specs.Types.{projection_in}
 
@@ -37,10 +40,15 @@ pub data Thinned {A : Type 0} (P : A → A → Type 0) (D : A → Type 0) : List
   keeps : {a b : A} {xs ys : List A} → P a b → Thinned P D xs ys → Thinned P D (a ∷ xs) (b ∷ ys)
   drops : {a : A} {xs ys : List A} → D a → Thinned P D xs ys → Thinned P D (a ∷ xs) ys
 
--- Two arguments with the same projection and index, and with types of which P holds.
+-- where a part begins and how long it is
+abbrev pub extent : Part → ℕ × ℕ
+extent p = (p.at, length p.bytes)
+
+-- Two arguments with the same projection and index, and with types inline of which P holds, which stand at the same place.
 pub record ArgumentsBy (P : Message → Message → Type 0) (a b : Message) : Type 0 where
   pub projection : value Type-Argument-projection a ≡ value Type-Argument-projection b
   pub indexed : value Type-Argument-type_id a ≡ value Type-Argument-type_id b
+  pub placed : map_option extent (bytes_of Type-Argument-type a) ≡ map_option extent (bytes_of Type-Argument-type b)
   pub inline : Alike (AlikeOption P) (message Type-Argument-type a) (message Type-Argument-type b)
 
 -- Two types with the same class name and flag, and with arguments alike but for those that are dropped.
@@ -71,3 +79,23 @@ pub record SameTable (k : ℕ) (m m' : Message) : Type 0 where
 pub record JoinedAs (P : Message → Message → Type 0) (s s' : List ℕ) : Type 0 where
   pub many : length s' ≡ length s
   pub alike : (base : ℕ) → Alike P (cut (◌from◌ base s)) (cut (◌from◌ base s'))
+
+-- Two types that are read alike where no look-up is left: there each index is past the table.
+pub record SameAtLast (m m' : Message) : Type 0 where
+  pub levels : ℕ
+  pub same : SameType 0 levels m m'
+
+-- A type inline, in a part, if it is there: at the same place of other bytes, which begin at base, stands one that is cut alike, and is alike where no look-up is left.
+abbrev pub TwinAt : ℕ → List ℕ → Option Part → Type 0
+TwinAt base last none = Unit {0}
+TwinAt base last (some p) = Alike SameAtLast (cut p) (cut (◌from◌ p.at (part_from (p.at - base) (p.at - base + length p.bytes) last)))
+
+-- so the type inline in an argument
+abbrev pub ArgumentTwin : ℕ → List ℕ → Message → Type 0
+ArgumentTwin base last a = TwinAt base last (bytes_of Type-Argument-type a)
+
+-- What the entries of a type table become in a copy of the decoded bytes: each stands where it stood, and is read alike where no look-up is left.
+pub record DeepestOf (payload deepest entries : List ℕ) (count : ℕ) : Type 0 where
+  pub many : length deepest ≡ length payload
+  pub each : (i : ℕ) → i < count → start_of (get_or entries i 0) ≤ end_of (get_or entries i 0) → end_of (get_or entries i 0) ≤ length payload
+      → JoinedAs SameAtLast (part_from (start_of (get_or entries i 0)) (end_of (get_or entries i 0)) payload) (part_from (start_of (get_or entries i 0)) (end_of (get_or entries i 0)) deepest)
