@@ -2,10 +2,12 @@
 """usage: made_inputs.py FOLDER
 
 Writes made inputs, each as the program takes it (docs/MANUAL.md, "The program"), and what is right for it by the specification, the line and the
-numbers that are told of its room: FOLDER/NAME.input, FOLDER/NAME.line, FOLDER/NAME.room. They are empty, at the limits, or hold types as deep as
-they can be read, or texts that fit no area.
+numbers that are told of its room: FOLDER/NAME.input, FOLDER/NAME.line, FOLDER/NAME.room; and, unless it is refused short of 11, the input with
+all strings of d2 blanked that its reading doesn't fall to: FOLDER/NAME.blanked. They are empty, at the limits, or hold types as deep as they can be
+read, or texts that fit no area.
 
-usage: made_inputs.py --room LINE       the numbers of the room by a line, of a sheet or of a refusal but for 11 and 12"""
+usage: made_inputs.py --room LINE       the numbers of the room by a line, of a sheet or of a refusal but for 11 and 12
+       made_inputs.py --blanked INPUT INDEX ..      an input without the units of all strings but these, on standard output"""
 import os, struct, sys
 
 sys.dont_write_bytecode = True
@@ -26,6 +28,14 @@ def nested(types):
     message = b''
     for _ in range(types - 1):
         message = field(2, field(2, message))
+    return b'\0' + field(3, b'\x10\0' + field(3, message))
+
+
+def named(types):
+    """The same with a class name for each type: the strings 1, 3, 5 and so on."""
+    message = b'\x30' + varint(2 * types - 1)
+    for i in range(types - 1, 0, -1):
+        message = field(2, field(2, message)) + b'\x30' + varint(2 * i - 1)
     return b'\0' + field(3, b'\x10\0' + field(3, message))
 
 
@@ -64,6 +74,15 @@ def types_line(types):
     for i in range(types):
         sheet += '06' + ('01' if i == 0 else '05') + '00' + 'ffffffff' + ('0000' if i == types - 1 else '0100') + '02'
     return f'0 0 {sheet}07ffffffff090000 66'
+
+
+def names_line(types):
+    """Of a function whose types stand in one another, with a name of one character each."""
+    sheet = FUNCTION
+    for i in range(types):
+        sheet += '06' + ('01' if i == 0 else '05') + '00' + struct.pack('<HH', 1 + i, 1).hex() + ('0000' if i == types - 1 else '0100') + '02'
+    text = 'f' + 'N' * types + '()LN;'
+    return f"0 0 {sheet}07{struct.pack('<HH', 1 + types, 5).hex()}090000 {text.encode().hex()}"
 
 
 def argument(projection, *types):
@@ -146,6 +165,7 @@ MADE = {
     'no ends': (ends_apart([]), '3 0 - -'),
     'types looked up, 32 deep': (given(2, 1, b'\0' + looked_up(0), ['f']), types_line(33)),
     'types looked up in a long d1': (given(2, 1, b'\0' + looked_up(20000), ['f']), types_line(33)),
+    '180 types deep in 1,020 units': (given(2, 1, b'\0' + nested(180), ['f']), types_line(180)),
     '2,048 types deep': (given(2, 1, b'\0' + nested(2048), ['f']), types_line(2048)),
     'a class in the old form': (given(1, 1, OLD, VAT), VAT_LINE),
     'the same class with the marker': (given(1, 1, MARKED, VAT), VAT_LINE),
@@ -159,12 +179,47 @@ MADE = {
     '2,047 stars': (given(2, 1, of_arguments(STAR * 2047), ['f']), arguments_line([3] * 2047)),
     '2,048 stars': (given(2, 1, of_arguments(STAR * 2048), ['f']), '10 0 - -'),
     '2,049 types deep': (given(2, 1, b'\0' + nested(2049), ['f']), '10 0 - -'),
+    '2,048 names deep': (given(2, 1, b'\0' + named(2048), ['f', *['N', 'unused'] * 2047, 'N']), names_line(2048)),
 }
+
+# Which strings of d2 are fallen to, where it isn't the only one, f, of a package, or none of a k whose payload isn't read.
+USED = {
+    'a class in the old form': [0, 2],
+    'the same class with the marker': [0, 2],
+    '2,048 names deep': [0, *range(1, 4096, 2)],
+}
+
+
+def used(name, data):
+    return USED.get(name, [0] if struct.unpack('<i', data[:4]) == (2,) else [])
+
+
+def numbers(data, at, form):
+    """A count and as many numbers, and where they end."""
+    count, = struct.unpack_from('<I', data, at)
+    return struct.unpack_from(f'<{count}{form}', data, at + 4), at + 4 + count * struct.calcsize(form)
+
+
+def blanked(data, kept):
+    """An input of which all strings of d2 but those of these indices are empty."""
+    _, after_d1 = numbers(data, 16, 'H')
+    d2, after_d2 = numbers(data, after_d1, 'H')
+    ends, _ = numbers(data, after_d2, 'I')
+    units, new_ends = [], []
+    for i, (start, end) in enumerate(zip((0, *ends), ends)):
+        units += d2[start:end] if i in kept else ()
+        new_ends.append(len(units))
+    return data[:after_d1] + struct.pack(f'<I{len(units)}H', len(units), *units) + struct.pack(f'<I{len(ends)}I', len(ends), *new_ends)
 
 
 def main(args):
     if len(args) == 2 and args[0] == '--room':
         return print(room_line(args[1]))
+    if len(args) >= 2 and args[0] == '--blanked':
+        with open(args[1], 'rb') as f:
+            data = blanked(f.read(), set(map(int, args[2:])))
+        sys.stdout.buffer.write(data)
+        return
     if len(args) != 1:
         sys.exit(__doc__)
     whole = {name: (data, line, room_line(line)) for name, (data, line) in MADE.items()}
@@ -172,6 +227,9 @@ def main(args):
     for name, (data, line, room) in whole.items():
         with open(f'{args[0]}/{name}.input', 'wb') as f:
             f.write(data)
+        if line.split()[0] in ('0', '11'):
+            with open(f'{args[0]}/{name}.blanked', 'wb') as f:
+                f.write(blanked(data, set(used(name, data))))
         for suffix, text in (('line', line), ('room', room)):
             with open(f'{args[0]}/{name}.{suffix}', 'w', encoding='ascii') as f:
                 f.write(text + '\n')

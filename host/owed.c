@@ -1,6 +1,6 @@
 /* A stand-in for the library that tests what a caller owes of the memory (include/sheet_reader.h): no pointer is NULL, each is aligned for its
  * type. host/test links the host programs with it. sheet_read and the conversions answer 5; sheet_room tells a sheet of 23 bytes and no text, so that
- * a program that goes by it lends what it would lend for a head alone. */
+ * a program that goes by it lends what it would lend for a head alone; sheet_strings tells that no string is fallen to. */
 #include <stdio.h>
 #include <stdlib.h>
 
@@ -22,6 +22,19 @@ void sheet_room(int32_t k, int32_t major, int32_t minor, int32_t patch, const ui
     for (int i = 0; i < SHEET_ROOM_ANSWER; i++) answer[i] = 0;
     answer[SHEET_LENGTH] = 23;
     answer[SHEET_ROOM_HEAD] = answer[SHEET_ROOM_ALIASES] = 1;
+}
+
+void sheet_strings(int32_t k, int32_t major, int32_t minor, int32_t patch, const uint16_t *d1, size_t d1_count, const uint16_t *d2,
+                   size_t d2_count, const uint32_t *ends, size_t ends_count, uint8_t *used, size_t used_count,
+                   uint64_t answer[SHEET_STRINGS_ANSWER]) {
+    (void)k, (void)major, (void)minor, (void)patch, (void)d1_count, (void)d2_count, (void)ends_count;
+    owed("d1", d1, sizeof *d1);
+    owed("d2", d2, sizeof *d2);
+    owed("ends", ends, sizeof *ends);
+    owed("used", used, 1);
+    owed("answer", answer, sizeof *answer);
+    for (size_t i = 0; i < used_count; i++) used[i] = 0;
+    for (int i = 0; i < SHEET_STRINGS_ANSWER; i++) answer[i] = 0;
 }
 
 void sheet_read(int32_t k, int32_t major, int32_t minor, int32_t patch, const uint16_t *d1, size_t d1_count, const uint16_t *d2,

@@ -1,6 +1,6 @@
 /* The sheet reader as C functions: the metadata of one compiled Kotlin class in, a call sheet out (sheet_read); before that, if wanted, how much
- * room the sheet takes (sheet_room); and two functions that convert d1 between its old form and the one with the marker. docs/MANUAL.md tells all
- * of it.
+ * room the sheet takes (sheet_room), and which strings of d2 must stay as they are (sheet_strings); and two functions that convert d1 between its
+ * old form and the one with the marker. docs/MANUAL.md tells all of it.
  *
  * Build the archive with `./sheet build`, and link target/staticlib/libsheet_calls.a (x86-64 Linux). It needs no other library,
  * allocates nothing, keeps nothing between calls and may be called from several threads at once.
@@ -39,13 +39,22 @@ enum {
     SHEET_CONVERTED_ANSWER = 3   /* how many numbers answer has */
 };
 
+/* What sheet_strings puts into answer. */
+enum {
+    SHEET_STRINGS_NUMBER = 0,  /* 0: told; else refused, see below */
+    SHEET_STRINGS_DETAIL = 1,  /* as of sheet_read */
+    SHEET_STRINGS_USED = 2,    /* how many strings the reading falls to, 0 if refused */
+    SHEET_STRINGS_ANSWER = 3   /* how many numbers answer has */
+};
+
 /* Refusals. All areas are then as they were.
  *
  * sheet_read gives 1 to 14 and 17. They are tested in the order of their numbers, but 7 to 10, 13, 14 and 17 as the payload is read: of these the first that is
  * met is given. An offset counts the payload's bytes from 0: where d1 begins with a unit 0, the byte at offset n is its unit n + 1. It is that of
  * the first byte of the varint or fixed number that was read, also where not even that is there.
  *
- * sheet_old_to_new gives 1, 5, 15, 6 and 12, sheet_new_to_old 1, 5, 15, 6, 16 and 12, tested in this order. */
+ * sheet_room gives what sheet_read does but for 11 and 12, sheet_strings the same and then 12. sheet_old_to_new gives 1, 5, 15, 6 and 12,
+ * sheet_new_to_old 1, 5, 15, 6, 16 and 12, tested in this order. */
 enum {
     SHEET_READ = 0,
     SHEET_D1_TOO_LONG = 1,         /* more than SHEET_UNIT_LIMIT units */
@@ -60,7 +69,7 @@ enum {
     SHEET_TOO_MANY_TYPES = 10,     /* more than SHEET_TYPE_LIMIT */
     SHEET_TEXT_TOO_LONG = 11,      /* longer than text_size or SHEET_TEXT_LIMIT: lend SHEET_TEXT_LIMIT bytes */
     SHEET_SHEET_TOO_LONG = 12,     /* longer than sheet_size: lend more; SHEET_LONGEST is always enough. Of a conversion: it has more units than
-                                    * units_count */
+                                    * units_count. Of sheet_strings: d2 has more strings than used_count */
     SHEET_PAST_MESSAGE = 13,       /* a length, or a fixed number, runs past its message; detail: the length's or the number's offset */
     SHEET_FIELD_TOO_LARGE = 14,    /* a field number is above 32 bits; detail: its tag's offset */
     SHEET_WRONG_FORM = 15,         /* conversions: d1 has the other form. It begins with a unit 0 (old to new), or it doesn't (new to old) */
@@ -110,6 +119,7 @@ enum {
  * first answer[SHEET_TEXT_LENGTH] bytes of its own. All other bytes of both areas are as they were; after a refusal all of them are.
  *
  * Strings of d2 that the reading doesn't fall to don't matter to the answer, but their number does: docs/MANUAL.md, "Strings that may be blanked".
+ * sheet_strings tells which they are.
  */
 void sheet_read(int32_t k, int32_t major, int32_t minor, int32_t patch,
                 const uint16_t *d1, size_t d1_count,
@@ -165,6 +175,30 @@ void sheet_room(int32_t k, int32_t major, int32_t minor, int32_t patch,
                 const uint16_t *d2, size_t d2_count,
                 const uint32_t *ends, size_t ends_count,
                 uint64_t answer[SHEET_ROOM_ANSWER]);
+
+/* Tells which strings of d2 the reading of a class falls to. The others may be blanked, all at once: whatever stands in their place, sheet_read and
+ * sheet_room then give the same answer, as long as the number of strings stays (docs/MANUAL.md, "Strings that may be blanked").
+ *
+ *   k .. ends_count          as for sheet_read
+ *   used, used_count         the area for what is told: a byte for each string of d2; SHEET_STRING_LIMIT bytes are always enough
+ *   answer                   SHEET_STRINGS_ANSWER numbers, always written
+ *
+ * What the caller owes is what it owes sheet_read, with used in the place of sheet and text.
+ *
+ * Stack: less than 96 KiB for a d1 of at most 1,024 units, less than 900 KiB for any other; lend a thread 1 MiB.
+ *
+ * What the caller gets: if answer[SHEET_STRINGS_NUMBER] is 0, used[n] is 1 where the reading falls to string n and 0 where it doesn't, for each n
+ * below ends_count, and answer[SHEET_STRINGS_USED] is how many are 1. Bytes past the strings are as they were; after a refusal all of them are.
+ * Number and detail of a refusal are those of sheet_room: nothing is told of the strings of a class that is refused. The text isn't looked
+ * at, so that a class whose text fits no area is told of. 12 is given where used_count is less than ends_count, and tested last: only a class that
+ * is not refused gets it.
+ */
+void sheet_strings(int32_t k, int32_t major, int32_t minor, int32_t patch,
+                   const uint16_t *d1, size_t d1_count,
+                   const uint16_t *d2, size_t d2_count,
+                   const uint32_t *ends, size_t ends_count,
+                   uint8_t *used, size_t used_count,
+                   uint64_t answer[SHEET_STRINGS_ANSWER]);
 
 /* Convert d1. With the marker it is a unit 0 and then a unit for each byte of the payload. The old form, which compilers wrote before that, has no
  * marker: the bytes' bits one after the other, each byte's lowest first, in groups of seven, the last filled with zero bits, and a unit is its

@@ -1,10 +1,11 @@
-"""The reader itself, the room and the conversions of d1: the functions of the library (include/sheet_reader.h), called in this process."""
+"""The reader itself, the room, the strings that a reading falls to and the conversions of d1: the functions of the library (include/sheet_reader.h), called in this process."""
 import array, collections, ctypes
 
 import library_build
 from sheets import LISTS, RECORDS, TEXT_LIMIT
 
 SHEET_LONGEST = 413695  # areas of this size and of TEXT_LIMIT are always long enough
+STRING_LIMIT = 4096  # a class with more strings is refused, so that an area of so many bytes is always long enough for what is told of them
 # of a conversion: its function, and how many units it gives at most
 OLD_TO_NEW, NEW_TO_OLD = ('sheet_old_to_new', 28673), ('sheet_new_to_old', 37448)
 
@@ -13,6 +14,8 @@ Answer = collections.namedtuple('Answer', 'number detail sheet text types')
 Room = collections.namedtuple('Room', 'number detail sheet text types records texts')
 FIRST_RECORDS = 5  # the place of the records of kind 1
 FIRST_TEXT = FIRST_RECORDS + len(RECORDS)  # the place of the first list's text
+# of the strings of a class: whether the reading falls to each
+Strings = collections.namedtuple('Strings', 'number detail used')
 Converted = collections.namedtuple('Converted', 'number detail units')
 
 
@@ -34,6 +37,7 @@ class Library:
             library = ctypes.CDLL(path)
             self.sheet_read = typed(library.sheet_read, [number] * 4 + [pointer, size] * 5 + [pointer])
             self.sheet_room = typed(library.sheet_room, [number] * 4 + [pointer, size] * 3 + [pointer])
+            self.sheet_strings = typed(library.sheet_strings, [number] * 4 + [pointer, size] * 4 + [pointer])
             self.conversions = {way: typed(library[way[0]], [pointer, size] * 2 + [pointer]) for way in (OLD_TO_NEW, NEW_TO_OLD)}
         except (OSError, AttributeError) as why:
             raise library_build.BuildFailed(f'{path} is no library of the reader: {why}') from None
@@ -57,6 +61,14 @@ class Library:
         """The room for a class_input.Metadata."""
         told = self.call(self.sheet_room, m, [], FIRST_TEXT + len(LISTS))
         return Room(*told[:FIRST_RECORDS], dict(enumerate(told[FIRST_RECORDS:FIRST_TEXT], 1)), dict(zip(LISTS, told[FIRST_TEXT:])))
+
+    def strings(self, m):
+        """Which strings of d2 the reading of a class_input.Metadata falls to."""
+        used = ctypes.create_string_buffer(STRING_LIMIT)
+        number, detail, count = self.call(self.sheet_strings, m, [(used, STRING_LIMIT)], 3)
+        told = [byte == 1 for byte in used.raw[:0 if number else len(m.ends)]]
+        assert sum(told) == count
+        return Strings(number, detail, told)
 
     def convert(self, way, units):
         """The units of the other form; `way` is OLD_TO_NEW or NEW_TO_OLD."""

@@ -5,15 +5,15 @@ Damaged class files in every form of ./sheet: COUNT copies of the examples and o
 kotlin.Metadata of wrong kinds, types nested in one another, d1 in its old form), changed in some places of the file, of bytes alone, or of what the annotation
 holds; then a tenth as many damaged jars.
 A fault is an exception that the tool doesn't expect, JSON that doesn't keep to the schema, a character in the output that doesn't print, an
-offset of the reader's at which the tool's own walk of the payload finds nothing broken, or a room that isn't that of the sheet that is read. The
-same seed gives the same run. At the end stands what came of them; the exit status is 1 if there was a fault, with the class in a file that is
+offset of the reader's at which the tool's own walk of the payload finds nothing broken, a room that isn't that of the sheet that is read, or a
+sheet that changes with strings that it is said not to fall to. The same seed gives the same run. At the end stands what came of them; the exit status is 1 if there was a fault, with the class in a file that is
 named."""
-import collections, io, json, os, random, sys, tempfile, time, traceback, zipfile
+import collections, copy, io, json, os, random, sys, tempfile, time, traceback, zipfile
 
 sys.dont_write_bytecode = True
 sys.setrecursionlimit(20000)
 import class_input, library, made_class, output, payloads, runs, schema, sheet_json, sheets
-from commands import check, convert, read, room
+from commands import check, convert, read, room, strings
 
 ROOT = os.path.dirname(os.path.dirname(os.path.realpath(__file__)))
 with open(os.path.join(ROOT, 'docs', 'sheet.schema.json'), encoding='utf-8') as f:
@@ -157,6 +157,24 @@ class CheckedRoom(Checked):
             raise AssertionError(f'the room {one.room} is not that of what is read')
 
 
+class CheckedStrings(Checked):
+    """The strings that a class is read without: `reading`, a run, gives the same answer to a class with other ones in their place."""
+
+    def __init__(self, reading):
+        self.reading = reading
+
+    def read(self, one):
+        self.told(sheet_json.marked_json(one))
+        metadata = class_input.ClassFile(one.found.data()).metadata()
+        other = copy.copy(metadata)
+        other.d2, other.ends = [], []
+        for units, used in one.strings:
+            other.d2 += units if used else [0x78] * (len(units) == 0)
+            other.ends.append(len(other.d2))
+        if len(other.d2) <= 32768 and self.reading.answer(other) != self.reading.answer(metadata):
+            raise AssertionError('the answer changes with strings that the reading does not fall to')
+
+
 class CheckedConversions(Checked):
     """The same of conversions."""
 
@@ -169,9 +187,10 @@ def forms():
     shows = [read.form([]), read.form(['--records']), read.form(['--line']), read.form(['--json']), Checked(), check.FindingsInText(check.Tally())]
     reading = [runs.Run(show, 'sheet') for show in shows]
     rooms = [runs.RoomRun(show, 'sheet') for show in (room.RoomInText(), CheckedRoom(reading[0]))]
+    of_strings = [runs.StringsRun(show, 'sheet') for show in (strings.StringsInText(), CheckedStrings(reading[0]))]
     conversions = [convert.Conversions(show, 'sheet', way) for show, way in (
         (convert.ConvertedInText(), library.OLD_TO_NEW), (CheckedConversions(), library.OLD_TO_NEW), (CheckedConversions(), library.NEW_TO_OLD))]
-    return reading + rooms + conversions
+    return reading + rooms + of_strings + conversions
 
 
 def keep(data, suffix):

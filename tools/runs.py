@@ -46,6 +46,15 @@ class Measured:
         return self.room.text <= sheets.TEXT_LIMIT
 
 
+class Marked:
+    """A class of which was told which strings its reading falls to: where it was found, its JVM name, and of each string of d2 its units and whether it
+    is fallen to."""
+
+    def __init__(self, found, name, metadata, used):
+        self.found, self.name = found, name
+        self.strings = [(metadata.d2[start:end], told) for start, end, told in zip([0, *metadata.ends], metadata.ends, used)]
+
+
 class Run:
     """`show` has a method for each thing that may come of a class: read(what `result` gives), refused(found, name, Refusal),
     not_a_class(found, why). What is asked of the library is its sheet; a subclass may ask something else."""
@@ -134,3 +143,14 @@ class RoomRun(Run):
 
     def result(self, found, class_file, _, room):
         return Measured(found, class_file.name(), room)
+
+
+class StringsRun(Run):
+    """A run that asks which strings the readings of classes fall to; what it shows is a Marked."""
+    DONE = 'looked at'
+
+    def asked(self, metadata):
+        return self.library.strings(metadata)
+
+    def result(self, found, class_file, metadata, answer):
+        return Marked(found, class_file.name(), metadata, answer.used)

@@ -143,6 +143,17 @@ def checked_json(one, findings):
                          for j in findings]}
 
 
+def text_json(units):
+    """A string of d2 by its UTF-16 units. A surrogate that stands alone stays one."""
+    return b''.join(unit.to_bytes(2, 'little') for unit in units).decode('utf-16-le', 'surrogatepass')
+
+
+def marked_json(one):
+    """A runs.Marked."""
+    return {**where(one.found, one.name), 'state': 'strings told', 'used': sum(used for _, used in one.strings),
+            'strings': [{'index': index, 'used': used, 'text': text_json(units)} for index, (units, used) in enumerate(one.strings)]}
+
+
 def measured_json(one):
     """A runs.Measured. Records are counted by kind and text by lists, also those that a class has none of."""
     room = one.room

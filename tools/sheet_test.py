@@ -622,6 +622,96 @@ class Room(InFolder):
         self.assertEqual(sheet('room', self.path('missing.class'))[0], 4)
 
 
+def used_strings():
+    """Of each example the indices of the strings of d2 that its reading falls to, and how many strings there are: the second reading gave them."""
+    told = {}
+    for line in example('used_strings', '.txt').decode().splitlines():
+        name, _, strings = line.partition(': ')
+        used, count = strings.removeprefix('none').split('of ')
+        told[name] = [int(index) for index in used.split()], int(count)
+    return told
+
+
+class Strings(InFolder):
+    def strings(self, name):
+        """k, mv, d1 and the strings of an example."""
+        m = class_input.ClassFile(example(name, '.class')).metadata()
+        texts = [''.join(map(chr, m.d2[start:end])) for start, end in zip([0, *m.ends], m.ends)]
+        return m.k, m.version, [''.join(map(chr, m.d1))], texts
+
+    def test_examples(self):
+        told = used_strings()
+        self.assertEqual(list(told), NAMES)
+        for name, (used, count) in told.items():
+            texts = self.strings(name)[3]
+            self.assertEqual(len(texts), count, name)
+            status, out, said = sheet('strings', f'examples/{name}.class')
+            width = len(str(count - 1))
+            lines = [f"  {i:>{width}}  {'fallen to     ' if i in used else 'may be blanked'}  \"{text}\"" for i, text in enumerate(texts)]
+            self.assertEqual((status, said), (0, ''))
+            self.assertEqual(out.splitlines(), [f'{count} strings: {len(used)} fallen to, {count - len(used)} may be blanked', *lines], name)
+            o, = objects(sheet('strings', '--json', f'examples/{name}.class')[1])
+            self.assertEqual(schema.faults(o, SCHEMA, SCHEMA), [])
+            self.assertEqual((o['state'], o['used']), ('strings told', len(used)), name)
+            self.assertEqual([(s['index'], s['used'], s['text']) for s in o['strings']], [(i, i in used, text) for i, text in enumerate(texts)], name)
+
+    def test_the_manual_shows_what_is_printed(self):
+        with open(os.path.join(ROOT, 'docs', 'MANUAL.md'), encoding='utf-8') as f:
+            shown = re.findall(r'^    \$ (./sheet strings .*)\n((?:    .*\n)+)', f.read(), re.M)
+        self.assertTrue(shown)
+        for command, text in shown:
+            self.assertEqual(sheet(*command.split()[1:])[1], re.sub(r'(?m)^    ', '', text), command)
+
+    def test_what_may_be_blanked_is_blanked(self):
+        """Other strings in their place, and none: the sheet stays, also where many are longer. What is fallen to is still told, and no more."""
+        for name, (used, count) in used_strings().items():
+            k, version, d1, texts = self.strings(name)
+            for other in ('', 'another string', '\ud800'):
+                d2 = [text if i in used else other for i, text in enumerate(texts)]
+                path = self.put('Blanked.class', made_class.class_file({'k': k, 'mv': version, 'd1': d1, 'd2': d2}))
+                self.assertEqual(sheet('read', '--line', path)[:2], (0, example(name, '.line').decode()), name)
+                o, = objects(sheet('strings', '--json', path)[1])
+                self.assertEqual([s['index'] for s in o['strings'] if s['used']], used, name)
+
+    def test_many_classes(self):
+        told = used_strings()
+        status, out, said = sheet('strings', 'examples')
+        parts = out.split('\n\n')
+        self.assertEqual((status, [part.splitlines()[0] for part in parts[:-1]]), (0, [f'examples/{name}.class:' for name in NAMES]))
+        used, count = sum(len(used) for used, _ in told.values()), sum(count for _, count in told.values())
+        self.assertEqual(parts[-1], f'all {len(NAMES)}: {count} strings: {used} fallen to, {count - used} may be blanked\n')
+        self.assertRegex(said, rf'^sheet: {len(NAMES)} looked at, 0 refused, ')
+
+    def test_refusals_are_those_of_read_but_for_the_text(self):
+        for number, _, values in refused():
+            path = self.put('Bad.class', made_class.class_file(values))
+            if number != 11:
+                self.assertEqual(sheet('strings', path), sheet('read', path), number)
+                self.assertEqual(sheet('strings', '--json', path), sheet('read', '--json', path), number)
+            else:
+                self.assertEqual(sheet('strings', path), (0, f'1 string: 1 fallen to, 0 may be blanked\n  0  fallen to       "{"a" * 30000}"\n', ''))
+
+    def test_strings_that_do_not_print(self):
+        """Line ends, quotes, backslashes, surrogates that stand alone, none at all: a string is a line, and JSON has it whole."""
+        strings = ['f', 'a\nb', '"', '\\', '\ud800x', '\U0001f600', '\u202e', '']
+        path = self.put('Odd.class', made_class.class_file(made_class.package(made_class.field(3, b'\x10\0'), strings)))
+        self.assertEqual(sheet('strings', path)[1].splitlines(), [
+            '8 strings: 1 fallen to, 7 may be blanked', '  0  fallen to       "f"', r'  1  may be blanked  "a\u{a}b"', r'  2  may be blanked  "\""',
+            r'  3  may be blanked  "\\"', r'  4  may be blanked  "\u{d800}x"', '  5  may be blanked  "\U0001f600"', r'  6  may be blanked  "\u{202e}"',
+            '  7  may be blanked  ""'])
+        o, = objects(sheet('strings', '--json', path)[1])
+        self.assertEqual(([s['text'] for s in o['strings']], schema.faults(o, SCHEMA, SCHEMA)), (strings, []))
+
+    def test_without_a_payload(self):
+        facade = self.put('Facade.class', made_class.class_file({'k': 4, 'mv': [1, 1, 15], 'd1': ['made/F__AKt'], 'd2': ['a', 'b']}))
+        self.assertEqual(sheet('strings', facade)[1], '2 strings: 0 fallen to, 2 may be blanked\n  0  may be blanked  "a"\n  1  may be blanked  "b"\n')
+        none = self.put('None.class', made_class.class_file({'k': 3, 'mv': [1, 1, 15]}))
+        self.assertEqual(sheet('strings', none)[1], '0 strings: 0 fallen to, 0 may be blanked\n')
+        status, out, said = sheet('strings', self.put('Java.class', made_class.class_file(None)))
+        self.assertEqual((status, out), (1, ''))
+        self.assertIn('no annotation kotlin.Metadata', said)
+
+
 class Paths(InFolder):
     def test_files_folders_and_jars_at_once(self):
         self.put('classes/sub/Sale.class', example('Sale', '.class'))
@@ -718,9 +808,9 @@ class Statuses(InFolder):
         for words in (['--help'], ['-h'], ['help']):
             status, out, said = sheet(*words)
             self.assertEqual((status, said), (0, ''))
-            for name in ('read', 'check', 'room', 'convert', 'build'):
+            for name in ('read', 'check', 'room', 'strings', 'convert', 'build'):
                 self.assertRegex(out, rf'(?m)^  {name} ')
-        for name in ('read', 'check', 'room', 'convert', 'build'):
+        for name in ('read', 'check', 'room', 'strings', 'convert', 'build'):
             for words in ([name, '--help'], [name, '-h'], ['help', name]):
                 status, out, said = sheet(*words)
                 self.assertEqual((status, said, out.startswith(f'usage: sheet {name}')), (0, '', True))
@@ -728,7 +818,7 @@ class Statuses(InFolder):
 
     def test_usage(self):
         for words in ([], ['write'], ['--json'], ['read'], ['read', '--all', 'x'], ['read', '--json', '--line', 'x'], ['check', '--line', 'x'],
-                      ['room'], ['room', '--line', 'x'],
+                      ['room'], ['room', '--line', 'x'], ['strings'], ['strings', '--records', 'x'],
                       ['convert'], ['convert', '--line', 'x'],
                       ['build', 'x'], ['help', 'nothing']):
             status, out, said = sheet(*words)
@@ -751,8 +841,8 @@ class Statuses(InFolder):
             'sheet: fields, getters and setters by signature: 6, of which 0 not in the class, 0 shared, 0 perhaps of another'])
 
     def test_output_that_cannot_be_written(self):
-        for words in (['read', 'examples'], ['read', '--json', 'examples'], ['check', 'examples'], ['room', 'examples'], ['convert', 'examples'],
-                      ['--help']):
+        for words in (['read', 'examples'], ['read', '--json', 'examples'], ['check', 'examples'], ['room', 'examples'], ['strings', 'examples'],
+                      ['convert', 'examples'], ['--help']):
             with open('/dev/full', 'wb') as full:
                 done = subprocess.run([SHEET, *words], cwd=ROOT, stdout=full, stderr=subprocess.PIPE)
             self.assertEqual(done.returncode, 4, words)

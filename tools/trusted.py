@@ -26,7 +26,7 @@ ORDER = [
     ('promises', 'characters: WellFormed; sheet: Reading Refs; schema: Counting; promises: Walk Promises'),
     ('demand 3', 'grammar: Grammar; schema: OneForOne; defaults: Needs Messages Descriptor Demand'),
     ('the room', 'room: Room Exact'),
-    ('strings nobody refers to', 'strings: FallsTo Unused'),
+    ('strings nobody refers to', 'strings: FallsTo Unused; string_marks: UsedStrings'),
     ('conversions of d1', 'converter: Conversions Statements'),
     ('the exported functions', 'sheet_calls: Calls'),
 ]

@@ -1,4 +1,5 @@
-//! Times the reader's whole sheet, and what it tells of the room, beside the original's decode, in one process. See host/README.md.
+//! Times the reader's whole sheet, and what it tells of the room and of the strings, beside the original's decode, in one process. See
+//! host/README.md.
 
 mod timing;
 
@@ -13,8 +14,9 @@ const USAGE: &str = "bench [--clear] [--reader library|stand-in]
 bench --slow [WORDS]              the slowest inputs that could be made, each by itself, or those with such words;
                                   with the words \"type table\" all that are made by it
 bench --each                      each real class by itself: those that cost most beside the Rust
-bench --corpus N [--rust|--room]  N times all real classes, for a profiler: reading, the Rust's decode, or what is told of the room
-bench --once FILE N [--rust|--room]   N calls on one program input, for a profiler";
+bench --corpus N [--rust|--room|--strings]  N times all real classes, for a profiler: reading, the Rust's decode, or what is told of the room
+                                  or of the strings
+bench --once FILE N [--rust|--room|--strings]   N calls on one program input, for a profiler";
 
 fn main() {
     let words: Vec<String> = std::env::args().skip(1).collect();
@@ -27,9 +29,10 @@ fn main() {
         Some(name) => Reader::named(&name).expect(USAGE),
         None => Reader::DEFAULT,
     };
-    let what = match (has("--rust"), has("--room")) {
-        (true, _) => What::Rust,
-        (_, true) => What::Room,
+    let what = match (has("--rust"), has("--room"), has("--strings")) {
+        (true, _, _) => What::Rust,
+        (_, true, _) => What::Room,
+        (_, _, true) => What::Strings,
         _ => What::Reading,
     };
     if has("--once") {
@@ -55,6 +58,7 @@ fn main() {
 enum What {
     Reading,
     Room,
+    Strings,
     Rust,
 }
 
@@ -65,6 +69,7 @@ fn repeat(inputs: &[Input], count: u64, reader: Reader, what: What) {
         What::Rust => timing.originals(inputs, count),
         What::Reading => (0..count).for_each(|_| inputs.iter().for_each(|input| timing.reader(input, 1))),
         What::Room => (0..count).for_each(|_| inputs.iter().for_each(|input| timing::room(reader, input))),
+        What::Strings => (0..count).for_each(|_| inputs.iter().for_each(|input| timing.strings(input))),
     }
 }
 

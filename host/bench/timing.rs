@@ -1,9 +1,9 @@
 //! Medians of repeated rounds.
 
-use harness::answer::ROOM;
+use harness::answer::{ROOM, USED};
 use harness::expected::expected;
 use harness::input::Input;
-use harness::limits::{Areas, AREA};
+use harness::limits::{Areas, AREA, STRINGS};
 use harness::reader::Reader;
 use original::class::Class;
 use original::sheet::Sheet;
@@ -14,9 +14,11 @@ pub struct Timing {
     clear: bool,
     sheet: Vec<u8>,
     text: Vec<u8>,
+    used: Vec<u8>,
     number: u64,
     worst: (f64, String),
     worst_room: (f64, String),
+    worst_strings: (f64, String),
 }
 
 /// A round takes about this long, and the median is of so many rounds.
@@ -30,9 +32,11 @@ impl Timing {
             clear,
             sheet: vec![0; AREA],
             text: vec![0; AREA],
+            used: vec![0; STRINGS],
             number: 0,
             worst: (0.0, String::new()),
             worst_room: (0.0, String::new()),
+            worst_strings: (0.0, String::new()),
         }
     }
 
@@ -61,6 +65,13 @@ impl Timing {
         }
     }
 
+    /// One call that tells the strings that the reading of an input falls to.
+    pub fn strings(&mut self, input: &Input) {
+        let mut answer = [0; USED];
+        self.reader.strings(black_box(input), &mut self.used, &mut answer);
+        black_box(answer);
+    }
+
     pub fn originals(&self, inputs: &[Input], count: u64) {
         let prepared = prepared(inputs);
         for _ in 0..count {
@@ -78,20 +89,31 @@ impl Timing {
 
     /// Times one slow input, prints a line, and keeps the slowest.
     pub fn slow(&mut self, words: &str, input: &Input) {
-        let reader = self.reader;
-        let [read, room] = medians(ROUND, [&mut || self.reader(input, 1), &mut || room(reader, input)]);
-        println!("{:8.2} ms, room {:8.2} ms, answer {:2}, {words}", read * 1e3, room * 1e3, self.number);
+        let called = self.reader;
+        let [strings] = medians(ROUND, [&mut || self.strings(input)]);
+        let [read, room] = medians(ROUND, [&mut || self.reader(input, 1), &mut || room(called, input)]);
+        println!(
+            "{:8.2} ms, room {:8.2} ms, strings {:8.2} ms, answer {:2}, {words}",
+            read * 1e3,
+            room * 1e3,
+            strings * 1e3,
+            self.number
+        );
         if read > self.worst.0 {
             self.worst = (read, words.to_string());
         }
         if room > self.worst_room.0 {
             self.worst_room = (room, words.to_string());
         }
+        if strings > self.worst_strings.0 {
+            self.worst_strings = (strings, words.to_string());
+        }
     }
 
     pub fn tell_worst(&self) {
         println!("slowest: {:.2} ms, {}", self.worst.0 * 1e3, self.worst.1);
         println!("slowest room: {:.2} ms, {}", self.worst_room.0 * 1e3, self.worst_room.1);
+        println!("slowest strings: {:.2} ms, {}", self.worst_strings.0 * 1e3, self.worst_strings.1);
     }
 
     /// Times a set of inputs and prints a line.
@@ -102,6 +124,7 @@ impl Timing {
         let bytes: usize = inputs.iter().map(|input| input.d1.len() + input.d2.len()).sum();
         let prepared = prepared(inputs);
         let called = self.reader;
+        let [strings] = medians(ROUND, [&mut || inputs.iter().for_each(|input| self.strings(input))]);
         let mut reader = || inputs.iter().for_each(|input| self.reader(input, 1));
         let mut room = || inputs.iter().for_each(|input| room(called, input));
         let mut decode = || prepared.iter().for_each(|class| drop(black_box(class.decode())));
@@ -125,6 +148,7 @@ impl Timing {
             each(sheet)
         );
         println!("  room: {:.0} ns a class, {:.2} of the reader's time", each(room), room / read);
+        println!("  strings: {:.0} ns a class, {:.2} of the reader's time", each(strings), strings / read);
     }
 }
 

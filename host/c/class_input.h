@@ -78,14 +78,14 @@ static void call_on_thread(void *(*make_call)(void *), void *lent, size_t stack)
     pthread_attr_destroy(&attributes);
 }
 
-static void print_part(const uint8_t *bytes, uint64_t length) {
+static inline void print_part(const uint8_t *bytes, uint64_t length) {
     putchar(' ');
     if (length == 0) putchar('-');
     for (uint64_t i = 0; i < length; i++) printf("%02x", bytes[i]);
 }
 
-/* Number, detail, sheet and text. */
-static void print_line(const uint64_t answer[SHEET_ANSWER], const uint8_t *sheet, const uint8_t *text) {
+/* Number, detail, sheet and text; not every program prints them, so that it is inline. */
+static inline void print_line(const uint64_t answer[SHEET_ANSWER], const uint8_t *sheet, const uint8_t *text) {
     printf("%" PRIu64 " %" PRIu64, answer[SHEET_NUMBER], answer[SHEET_DETAIL]);
     print_part(sheet, answer[SHEET_LENGTH]);
     print_part(text, answer[SHEET_TEXT_LENGTH]);

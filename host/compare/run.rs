@@ -8,7 +8,7 @@ use harness::comparison::{Basis, Change};
 use harness::exhaustive::Exhaustive;
 use harness::expected::{around, expected, fitting, Judge};
 use harness::input::{hex, Input};
-use harness::limits::{Areas, TEXT};
+use harness::limits::{Areas, Beside, TEXT};
 use harness::random::Random;
 use harness::reader::{Caller, Reader, LARGEST};
 use harness::slow::{slowest, Slow};
@@ -48,12 +48,20 @@ impl Source {
                     shapes::input(&mut random)
                 }
             }
-            Mode::Room | Mode::Strings => {
-                self.classes.get(number as usize).cloned().unwrap_or_else(|| self.made(&mut random))
-            }
+            Mode::Room => self.class(number).unwrap_or_else(|| self.made(&mut random)),
+            Mode::Strings => self.class(number).unwrap_or_else(|| match random.below(4) {
+                0 => self.damaged(&mut random, number),
+                1 => tables::input(&mut random),
+                _ => self.made(&mut random),
+            }),
             Mode::Slow => self.slow.get(number as usize)?.input.clone(),
             Mode::Convert => return None,
         })
+    }
+
+    /// The real class with this number, if there are so many.
+    fn class(&self, number: u64) -> Option<Input> {
+        self.classes.get(number as usize).cloned()
     }
 
     fn made(&self, random: &mut Random) -> Input {
@@ -65,8 +73,8 @@ impl Source {
 
     /// The real classes as they are first, then damaged copies of them and of made inputs.
     fn damaged(&self, random: &mut Random, number: u64) -> Input {
-        if let Some(class) = self.classes.get(number as usize) {
-            return class.clone();
+        if let Some(class) = self.class(number) {
+            return class;
         }
         let mut one = || match self.classes.len() {
             0 => made::input(random),
@@ -91,11 +99,25 @@ fn areas(mode: Mode, judge: &Judge) -> Vec<(Areas, Option<u64>)> {
     areas.into_iter().map(|areas| (areas, None)).collect()
 }
 
+/// Areas for the strings that a reading falls to: just long enough, longer, too short. Each input gets one of them by turn, in mode strings all.
+pub const FOR_STRINGS: [Beside; 5] = [Beside::EXACTLY, Beside(1), Beside(-1), Beside(40), Beside::NONE];
+
+/// A call of the reader.
+#[derive(Clone, Copy)]
+enum Call {
+    Read(Areas),
+    Room,
+    Strings(Beside),
+}
+
 /// What a run saw.
 #[derive(Default)]
 pub struct Seen {
     pub calls: u64,
     rooms: u64,
+    /// Calls for the strings, and those with too short an area.
+    strings: u64,
+    too_short: u64,
     /// Rooms with a text that no area holds, and rooms of a sheet without text.
     too_long: u64,
     without_text: u64,
@@ -128,10 +150,23 @@ impl Run {
         self.seen.too_long += u64::from(text > TEXT);
         self.seen.without_text += u64::from(number == 0 && text == 0);
         if self.caller.difference_in_room(self.reader, input, &judge.room()).is_some() {
-            self.differs(input, None);
+            self.differs(input, Call::Room);
         }
+        self.strings(input, &judge);
         for (areas, number) in areas(mode, &judge) {
             self.read(input, &judge, areas, number);
+        }
+    }
+
+    /// Asks for the strings that the reading falls to, in the next of the areas.
+    fn strings(&mut self, input: &Input, judge: &Judge) {
+        let beside = FOR_STRINGS[self.seen.strings as usize % FOR_STRINGS.len()];
+        let area = beside.length(input);
+        let expected = judge.used(area);
+        self.seen.strings += 1;
+        self.seen.too_short += u64::from(expected.answer[0] == 12);
+        if self.caller.difference_in_strings(self.reader, input, area, &expected).is_some() {
+            self.differs(input, Call::Strings(beside));
         }
     }
 
@@ -150,24 +185,35 @@ impl Run {
             }
         }
         if self.caller.difference(self.reader, input, areas, &expected.whole).is_some() {
-            self.differs(input, Some(areas));
+            self.differs(input, Call::Read(areas));
         }
     }
 
-    /// Counts a difference, in the answer with these areas or else in the room, and tells the first ones.
-    fn differs(&mut self, input: &Input, areas: Option<Areas>) {
+    /// Counts a difference in a call's answer, and tells the first ones.
+    fn differs(&mut self, input: &Input, call: Call) {
         self.seen.differences += 1;
         if self.seen.differences as usize > self.show {
             return;
         }
         let (reader, caller) = (self.reader, &mut self.caller);
-        let mut difference = |input: &Input| match areas {
-            Some(areas) => caller.difference(reader, input, areas, &expected(input, areas).whole),
-            None => caller.difference_in_room(reader, input, &Judge::of(input).room()),
+        let mut difference = |input: &Input| match call {
+            Call::Read(areas) => caller.difference(reader, input, areas, &expected(input, areas).whole),
+            Call::Room => caller.difference_in_room(reader, input, &Judge::of(input).room()),
+            Call::Strings(beside) => {
+                let area = beside.length(input);
+                caller.difference_in_strings(reader, input, area, &Judge::of(input).used(area))
+            }
         };
         let small = shrink::shrink(input, &mut |input| difference(input).is_some());
         println!("difference: {}", difference(&small).unwrap_or_default());
-        tell(&small, areas.unwrap_or(LARGE));
+        match call {
+            Call::Read(areas) => tell(&small, areas),
+            Call::Room => tell(&small, LARGE),
+            Call::Strings(beside) => {
+                println!("  area of {} bytes for {} strings", beside.length(&small), small.ends.len());
+                tell(&small, LARGE);
+            }
+        }
     }
 
     fn tell_disagreement(&self, input: &Input, areas: Areas) {
@@ -244,6 +290,7 @@ fn one_mode(source: &Source, mode: Mode, count: u64, options: &Options) -> bool 
         "  rooms told: {}, of which {} of a text that fits no area and {} without text",
         seen.rooms, seen.too_long, seen.without_text
     );
+    println!("  strings told: {}, of which {} in too short an area", seen.strings, seen.too_short);
     println!("  differences {}, second reading against the Rust {}", seen.differences, seen.disagreements);
     seen.differences == 0 && seen.disagreements == 0
 }

@@ -1,20 +1,26 @@
-//! Strings that nobody refers to. Those strings of d2 that the second reading doesn't fall to are changed, all at once: number, detail, lengths, types
-//! and both areas must stay, and the room that is told. Then one of those that it falls to is changed, and it is counted how often that shows.
+//! Strings that nobody refers to. The call that tells them is held to the second reading, in areas of every kind. Then those strings of d2 that the
+//! second reading doesn't fall to are changed, all at once: number, detail, lengths, types and both areas must stay, and the room and the strings
+//! that are told. Last one of those that it falls to is changed, and it is counted how often that shows.
 
 use crate::options::{Mode, Options};
-use crate::run::Source;
+use crate::run::{Source, FOR_STRINGS};
 use harness::answer::{NUMBERS, ROOM};
 use harness::input::{hex, Input};
 use harness::limits::{Areas, UNITS};
 use harness::random::Random;
 use harness::reader::{Caller, Reader};
-use harness::second::{self, Mistake};
+use harness::second::{self, Mistake, Reading};
 use std::time::Instant;
 
 /// What a run saw.
 #[derive(Default)]
 struct Seen {
+    /// Inputs by the number of their room.
     numbers: [u64; NUMBERS],
+    /// Calls that told strings, and those with too short an area.
+    calls: u64,
+    too_short: u64,
+    /// Strings of what was changed afterwards that are fallen to, and those that aren't and were changed.
     fallen: u64,
     changed: u64,
     /// Inputs with a changed string, and those of them whose d2 has another number of units.
@@ -53,18 +59,37 @@ impl Strings {
         Self { reader, caller: Caller::default(), seen: Seen::default(), show }
     }
 
-    /// Inputs that are refused by 1 to 3, before or after a change, are left out. How many differences there were so far.
+    /// Of an input that is refused by 1 to 3, before or after a change, no string is changed. How many differences there were so far.
     pub fn check(&mut self, input: &Input, random: &mut Random) -> u64 {
         let reading = second::read(input);
         let number = reading.whole.answer.number;
-        if (1..=3).contains(&number) {
-            return self.seen.differences;
-        }
         self.seen.numbers[number as usize] += 1;
-        self.seen.fallen += reading.fallen.iter().filter(|fallen| **fallen).count() as u64;
+        self.told(input, &reading);
+        if !(1..=3).contains(&number) {
+            self.unreferred(input, &reading.fallen, random);
+        }
+        self.seen.differences
+    }
+
+    /// What is told of the strings, in areas that are just long enough, longer and too short.
+    fn told(&mut self, input: &Input, reading: &Reading) {
+        for beside in FOR_STRINGS {
+            let area = beside.length(input);
+            let expected = reading.used(area);
+            self.seen.calls += 1;
+            self.seen.too_short += u64::from(expected.answer[0] == 12);
+            if let Some(words) = self.caller.difference_in_strings(self.reader, input, area, &expected) {
+                self.tell(&format!("{words}, area of {area} bytes"), input, None);
+            }
+        }
+    }
+
+    /// Strings that aren't fallen to are changed, in two ways; then one that is.
+    fn unreferred(&mut self, input: &Input, fallen: &[bool], random: &mut Random) {
+        self.seen.fallen += fallen.iter().filter(|fallen| **fallen).count() as u64;
         let areas = AREAS[random.below(4).saturating_sub(1)];
         for blank in [true, false] {
-            let strings = input.strings().zip(&reading.fallen).map(|(string, fallen)| match fallen {
+            let strings = input.strings().zip(fallen).map(|(string, fallen)| match fallen {
                 true => string.to_vec(),
                 false if blank => Vec::new(),
                 false => other_string(random),
@@ -72,8 +97,7 @@ impl Strings {
             let strings: Vec<Vec<u16>> = strings.collect();
             self.changed(input, &strings, areas);
         }
-        self.converse(input, &reading.fallen, areas, random);
-        self.seen.differences
+        self.converse(input, fallen, areas, random);
     }
 
     /// All strings that aren't fallen to are others.
@@ -88,11 +112,7 @@ impl Strings {
         self.seen.with_changed += u64::from(changed > 0);
         self.seen.other_units += u64::from(other.d2.len() != input.d2.len());
         if let Some(words) = self.difference(input, &other, areas) {
-            self.seen.differences += 1;
-            if self.seen.differences as usize <= self.show {
-                println!("difference: {words}, areas {} {}", areas.sheet, areas.text);
-                println!("  input {}\n  other {}", hex(&input.to_bytes()), hex(&other.to_bytes()));
-            }
+            self.tell(&format!("{words}, areas {} {}", areas.sheet, areas.text), input, Some(&other));
         }
     }
 
@@ -103,8 +123,10 @@ impl Strings {
         let mut rooms = [[0; ROOM]; 2];
         self.reader.room(input, &mut rooms[0]);
         self.reader.room(other, &mut rooms[1]);
+        let used = [input, other].map(|input| self.caller.used(self.reader, input));
         difference
             .or_else(|| (rooms[0] != rooms[1]).then(|| format!("the room: {:?} and not {:?}", rooms[1], rooms[0])))
+            .or_else(|| (used[0] != used[1]).then(|| format!("the strings: {:?} and not {:?}", used[1], used[0])))
     }
 
     /// One string that is fallen to gets another unit in front.
@@ -119,6 +141,17 @@ impl Strings {
         other.set_strings(&strings);
         self.seen.tried += 1;
         self.seen.shown += u64::from(self.difference(input, &other, areas).is_some());
+    }
+
+    fn tell(&mut self, words: &str, input: &Input, other: Option<&Input>) {
+        self.seen.differences += 1;
+        if self.seen.differences as usize > self.show {
+            return;
+        }
+        println!("difference: {words}\n  input {}", hex(&input.to_bytes()));
+        if let Some(other) = other {
+            println!("  other {}", hex(&other.to_bytes()));
+        }
     }
 }
 
@@ -141,16 +174,16 @@ pub fn mode(source: &Source, count: u64, options: &Options) -> bool {
         run.check(&input, &mut Random::of(!options.seed, number));
     }
     let seen = &run.seen;
-    let read: u64 = seen.numbers.iter().sum();
     let refused = (1..NUMBERS).filter(|n| seen.numbers[*n] > 0).map(|n| format!("{n}: {}", seen.numbers[n]));
     println!(
-        "strings: {read} inputs of {count} in {:.1} s, the others refused by 1 to 3; accepted {}, refused {}",
+        "strings: {count} inputs in {:.1} s; accepted {}, refused {}",
         start.elapsed().as_secs_f64(),
         seen.numbers[0],
         refused.collect::<Vec<_>>().join(", ")
     );
+    println!("  calls that tell the strings: {}, of which {} with too short an area", seen.calls, seen.too_short);
     println!(
-        "  strings fallen to {}; changed of the others, in two ways, {}; so {} other inputs, {} of them with another number of units",
+        "  but for those refused by 1 to 3: strings fallen to {}; changed of the others, in two ways, {}; so {} other inputs, {} of them with another number of units",
         seen.fallen, seen.changed, seen.with_changed, seen.other_units
     );
     println!("  of {} with one changed that is fallen to, the answer changed in {}", seen.tried, seen.shown);

@@ -1,14 +1,14 @@
-//! A libFuzzer target: an input is a program's input, and the reader is held to the original Rust on it; then both conversions of its d1 to their
-//! second implementation.
+//! A libFuzzer target: an input is a program's input, and the reader is held to the original Rust on it; what is told of its strings to the second
+//! reading; then both conversions of its d1 to their second implementation.
 //!
 //! What guides the search are the branches of the original, of the second reading and, where host/fuzz/library has
 //! built it so, of the static library. An input that is found wrong can be given to `compare --file`.
 
 use harness::conversion::{convert, length, Converter, Lender, Way};
 use harness::damage::damaged;
-use harness::expected::expected;
+use harness::expected::{expected, Judge};
 use harness::input::Input;
-use harness::limits::Areas;
+use harness::limits::{Areas, Beside};
 use harness::made;
 use harness::random::Random;
 use harness::reader::{Caller, Reader};
@@ -33,6 +33,7 @@ pub unsafe extern "C" fn LLVMFuzzerTestOneInput(data: *const u8, size: usize) ->
         check(&input, Areas { sheet, text });
         check(&input, Areas { sheet: sheet - 1, text });
     }
+    check_strings(&input);
     Way::BOTH.into_iter().for_each(|way| check_conversion(way, &input.d1));
     0
 }
@@ -46,6 +47,19 @@ fn check_conversion(way: Way, d1: &[u16]) {
         let (_, difference) = LENDER.with_borrow_mut(|lender| lender.call(converter, way, d1, room, &expected));
         if let Some(words) = difference {
             eprintln!("{}, area of {room} units: {words}", way.words());
+            std::process::abort();
+        }
+    }
+}
+
+/// Asks for the strings that the reading falls to, in areas that are a byte short, just enough and longer, and ends the run likewise.
+fn check_strings(input: &Input) {
+    let judge = Judge::of(input);
+    for area in [-1, 0, 3].map(|more| Beside(more).length(input)) {
+        let expected = judge.used(area);
+        let difference = |caller: &mut Caller| caller.difference_in_strings(Reader::DEFAULT, input, area, &expected);
+        if let Some(words) = CALLER.with_borrow_mut(difference) {
+            eprintln!("area of {area} bytes: {words}");
             std::process::abort();
         }
     }

@@ -1,4 +1,4 @@
-//! Answers, what is told of the room before reading, and the line that the program prints of an answer.
+//! Answers, what is told of the room before reading and of the strings that a reading falls to, and the line that the program prints of an answer.
 
 use crate::input::hex;
 
@@ -130,6 +130,27 @@ pub fn texts_on(sheet: &[u8]) -> [u64; LISTS] {
         at += LENGTHS[kind - 1];
     }
     texts
+}
+
+/// How many numbers are told of the strings that a reading falls to: number, detail, and how many they are.
+pub const USED: usize = 3;
+
+/// What is told of the strings that a reading falls to: the three numbers, and a byte for each string of d2, 1 or 0. A refusal tells no bytes.
+#[derive(Debug, Clone, PartialEq, Eq, Default)]
+pub struct Used {
+    pub answer: [u64; USED],
+    pub bytes: Vec<u8>,
+}
+
+impl Used {
+    pub fn refused(number: u64, detail: u64) -> Self {
+        Self { answer: [number, detail, 0], bytes: Vec::new() }
+    }
+
+    pub fn of(fallen: &[bool]) -> Self {
+        let count = fallen.iter().filter(|fallen| **fallen).count() as u64;
+        Self { answer: [0, 0, count], bytes: fallen.iter().map(|fallen| u8::from(*fallen)).collect() }
+    }
 }
 
 /// An answer with the bytes of sheet and text, which are empty on a refusal.

@@ -1,7 +1,7 @@
 //! The answer that an input must get: the original's, with the refusals that the original doesn't have; the second reading's where the original
 //! isn't held to (`comparison`).
 
-use crate::answer::{records_on, texts_on, Answer, Room, Whole};
+use crate::answer::{records_on, texts_on, Answer, Room, Used, Whole};
 use crate::comparison::{self, Basis, Change};
 use crate::forms;
 use crate::input::Input;
@@ -50,6 +50,11 @@ impl Judge {
 
     pub fn room(&self) -> Room {
         self.reading.room()
+    }
+
+    /// What must be told of the strings that the reading falls to, in an area of so many bytes.
+    pub fn used(&self, area: usize) -> Used {
+        self.reading.used(area)
     }
 
     /// The answer with these areas.

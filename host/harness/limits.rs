@@ -20,6 +20,20 @@ impl Areas {
     pub const PROGRAM: Self = Self { sheet: AREA, text: AREA };
 }
 
+/// An area for the strings that a reading falls to: so many bytes more than d2 has strings, or fewer, but not fewer than none.
+#[derive(Debug, Clone, Copy, PartialEq, Eq)]
+pub struct Beside(pub isize);
+
+impl Beside {
+    pub const EXACTLY: Self = Self(0);
+    /// No byte at all, unless d2 has more strings than any input.
+    pub const NONE: Self = Self(isize::MIN);
+
+    pub fn length(self, input: &Input) -> usize {
+        input.ends.len().saturating_add_signed(self.0)
+    }
+}
+
 /// Refusals 1 to 4, in this order.
 pub fn before_reading(input: &Input) -> Option<u64> {
     if input.d1.len() > UNITS {

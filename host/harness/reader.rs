@@ -1,6 +1,6 @@
 //! The calls of the reader, by the static library or by a stand-in, and how their answers are held to others.
 
-use crate::answer::{Answer, Room, Whole, ROOM, ROOM_WORDS};
+use crate::answer::{Answer, Room, Used, Whole, ROOM, ROOM_WORDS, USED};
 use crate::areas::Guarded;
 use crate::input::Input;
 use crate::limits::Areas;
@@ -39,6 +39,22 @@ extern "C" {
         ends: *const u32,
         ends_count: usize,
         answer: *mut [u64; ROOM],
+    );
+
+    fn sheet_strings(
+        k: i32,
+        major: i32,
+        minor: i32,
+        patch: i32,
+        d1: *const u16,
+        d1_count: usize,
+        d2: *const u16,
+        d2_count: usize,
+        ends: *const u32,
+        ends_count: usize,
+        used: *mut u8,
+        used_count: usize,
+        answer: *mut [u64; USED],
     );
 }
 
@@ -84,6 +100,14 @@ impl Reader {
         match self {
             Self::StandIn(mistake) => second::stand_in_room(mistake, input, answer),
             Self::Library => Lent::of(input).room(answer),
+        }
+    }
+
+    /// One call that tells the strings that the reading falls to.
+    pub fn strings(self, input: &Input, used: &mut [u8], answer: &mut [u64; USED]) {
+        match self {
+            Self::StandIn(mistake) => second::stand_in_strings(mistake, input, used, answer),
+            Self::Library => Lent::of(input).strings(used, answer),
         }
     }
 }
@@ -151,6 +175,28 @@ impl<'a> Lent<'a> {
         }
     }
 
+    #[cfg(feature = "library")]
+    pub fn strings(&self, used: &mut [u8], answer: &mut [u64; USED]) {
+        let [major, minor, patch] = self.mv;
+        unsafe {
+            sheet_strings(
+                self.k,
+                major,
+                minor,
+                patch,
+                self.d1.as_ptr(),
+                self.d1.len(),
+                self.d2.as_ptr(),
+                self.d2.len(),
+                self.ends.as_ptr(),
+                self.ends.len(),
+                used.as_mut_ptr(),
+                used.len(),
+                answer,
+            );
+        }
+    }
+
     #[cfg(not(feature = "library"))]
     pub fn call(&self, _: &mut [u8], _: &mut [u8], _: &mut [u64; 5]) {
         panic!("built without the static library");
@@ -158,6 +204,11 @@ impl<'a> Lent<'a> {
 
     #[cfg(not(feature = "library"))]
     pub fn room(&self, _: &mut [u64; ROOM]) {
+        panic!("built without the static library");
+    }
+
+    #[cfg(not(feature = "library"))]
+    pub fn strings(&self, _: &mut [u8], _: &mut [u64; USED]) {
         panic!("built without the static library");
     }
 }
@@ -192,9 +243,11 @@ pub struct Caller {
     input: InputPages,
     sheet: Guarded,
     text: Guarded,
+    used: Guarded,
     answer: Guarded,
     calls: u64,
     rooms: u64,
+    strings: u64,
     untouched: [Vec<u8>; 2],
 }
 
@@ -210,9 +263,11 @@ impl Default for Caller {
             input: InputPages::default(),
             sheet: Guarded::new(LARGEST),
             text: Guarded::new(LARGEST),
+            used: Guarded::new(LARGEST),
             answer: Guarded::new(ROOM * 8),
             calls: 0,
             rooms: 0,
+            strings: 0,
             untouched: PATTERNS.map(|pattern| vec![pattern; LARGEST]),
         }
     }
@@ -272,6 +327,57 @@ impl Caller {
         let place = (0..ROOM).find(|place| answer[*place] != wanted[*place])?;
         Some(format!("the room's {}: {answer:?} and not {wanted:?}", ROOM_WORDS[place]))
     }
+
+    /// Asks for the strings that the reading falls to, in a patterned area of so many bytes, and tells how answer and area differ from what they must be.
+    pub fn difference_in_strings(
+        &mut self,
+        reader: Reader,
+        input: &Input,
+        area: usize,
+        expected: &Used,
+    ) -> Option<String> {
+        self.strings += 1;
+        let at_end = self.strings % 2 == 0;
+        let untouched = &self.untouched[(self.strings / 2 % 2) as usize];
+        let used = self.used.slice::<u8>(area, at_end);
+        used.copy_from_slice(&untouched[..area]);
+        let answer = &mut self.answer.slice::<[u64; USED]>(1, at_end)[0];
+        *answer = [0x5a5a_5a5a; USED];
+        if reader == Reader::Library {
+            let lent = self.input.lend(input, at_end);
+            lent.strings(used, answer);
+            if !lent.is(input) {
+                return Some("the input was changed by the call for its strings".to_string());
+            }
+        } else {
+            reader.strings(input, used, answer);
+        }
+        compare_used(*answer, used, untouched, expected)
+    }
+
+    /// The strings that the reading falls to, as the reader tells them in an area of just as many bytes.
+    pub fn used(&mut self, reader: Reader, input: &Input) -> Used {
+        let used = self.used.slice::<u8>(input.ends.len(), true);
+        let mut answer = [0; USED];
+        reader.strings(input, used, &mut answer);
+        Used { answer, bytes: if answer[0] == 0 { used.to_vec() } else { Vec::new() } }
+    }
+}
+
+/// The first difference in number, detail and count, then in the bytes of the strings, then in those past them.
+fn compare_used(answer: [u64; USED], used: &[u8], untouched: &[u8], expected: &Used) -> Option<String> {
+    if answer != expected.answer {
+        return Some(format!("number, detail and count of the strings: {answer:?} and not {:?}", expected.answer));
+    }
+    let wanted = expected.bytes.iter().chain(&untouched[expected.bytes.len()..]);
+    let place = used.iter().zip(wanted).position(|(byte, wanted)| byte != wanted)?;
+    Some(match expected.bytes.get(place) {
+        Some(wanted) => format!("the byte of string {place}: {:02x} and not {wanted:02x}", used[place]),
+        None if expected.answer[0] != 0 => {
+            format!("byte {place} of the strings' area is touched, although it is refused")
+        }
+        None => format!("byte {place} of the strings' area, past {} strings, is touched", expected.bytes.len()),
+    })
 }
 
 /// The first difference in number, detail, lengths, types, then in the bytes of both areas.

@@ -2,4 +2,4 @@
 them, beside those in BESIDE, if it has any), `run(options, files, command)` does
 it and gives the exit status. A new one is a module here and its name in NAMES."""
 
-NAMES = ['read', 'check', 'room', 'convert', 'build']
+NAMES = ['read', 'check', 'room', 'strings', 'convert', 'build']

@@ -3,23 +3,25 @@
 use mathlib.Core.Path.{◌≡◌, refl, ap, sym, ◌∙◌, subst}
 use mathlib.Core.Bool.{Bool, true, false}
 use mathlib.Core.List.{List, [], ◌∷◌}
-use mathlib.Core.Option.{Option, some}
+use mathlib.Core.Option.{Option, none, some}
 use Prim.Native.Nat.{ℕ, zero, suc, ◌+◌, ◌-◌, ◌*◌, ◌≤◌, ◌<◌}
 use native.Mathlib.Omega.{arith}
 use lib.ListN.{length, take, drop, get_or, get_elem?, length-take}
 use lib.Seq.{take-take}
-use Rattle.foundation.specs.Results.{Res, ok, ◌from◌}
+use Rattle.std.specs.Prelude.{is_some, if◌then◌else◌}
+use Rattle.foundation.specs.Choices.{if_some}
+use Rattle.foundation.specs.Results.{Cause, Res, ok, refused, empty_payload, ◌from◌}
 use Rattle.foundation.specs.Texts.{Text}
 use Rattle.wire.specs.Wire.{cut}
 use Rattle.characters.specs.Characters.{utf8, from_utf16}
 use Rattle.characters.specs.told.Places.{part_from}
 use Rattle.foundation.proofs.ChoiceLaws.{drop-take}
 use Rattle.names.specs.Records as definition
-use Rattle.names.specs.Records.{decides}
+use Rattle.names.specs.Records.{decides, text_of}
 use Rattle.names.specs.Names.{Names, record_at, strings_from, d2_string, string, qualified_name}
 use Rattle.names.specs.told.Name.{source_text, sized, turned, named_text, name_text}
 use Rattle.names.specs.told.Index.{start_of, end_of, IndexOf}
-use Rattle.lookup.specs.told.Lookups.{found_in, FoundBelow, FindTold, NotesOf, NotedWords, DecidedIs, DecidedTold}
+use Rattle.lookup.specs.told.Lookups.{found_in, FoundBelow, FindTold, NotesOf, NotedWords, DecidedIs, DecidedTold, decided_in}
 use Rattle.record_names.specs.told.Named.{NamedIs, ClassIs}
 use Rattle.record_names.specs.told.Note.{noted, noted_class}
 use Rattle.record_names.specs.told.Steps.{extent_of}
@@ -102,6 +104,37 @@ module _ (bytes notes : List ℕ) (count index : ℕ) (class : Bool) (r : rust.O
     (units : List ℕ) (records : List definition.Record) (d2 : ℕ → Res (Option Text)) (i : NotesOf bytes notes count records) where
   pub decided-no : r ≡ None → string (record { records = records; d2 = d2 }) index ≡ d2 index
   decided-no g = subst (DecidedIs bytes units class (record { records = records; d2 = d2 }) index) g (t bytes units records d2 i)
+
+-- What a look-up comes to, for whatever is looked up among d2's strings, tells whether a record decides: where d2 refuses, only a record can give a text.
+no_text : {A : Type 0} (a : A) (c : Cause) (p : ℕ) → ok a ≡ refused c p → ⊥
+no_text a c p e = let z : ◌≡◌ {A = ℕ} 0 1 = cc in absurd (omega arith)
+
+module _ (bytes notes : List ℕ) (count index : ℕ) (records : List definition.Record) (i : NotesOf bytes notes count records) where
+  refusing : ℕ → Res (Option Text)
+  refusing n = refused empty_payload 0
+
+  decided-of : (o : Option definition.Record) {t : Option Text} → if_some o (refused empty_payload 0) (λ r. if decides r then ok (text_of r) else refused empty_payload 0) ≡ ok t
+      → if_some o false decides ≡ true
+  decided-of none e = absurd (no_text _ empty_payload 0 (sym e))
+  decided-of (some r) {t} e = go (decides r) e
+    where
+      go : (b : Bool) → (if b then ok (text_of r) else refused empty_payload 0) ≡ ok t → b ≡ true
+      go true q = refl
+      go false q = absurd (no_text t empty_payload 0 (sym q))
+
+  undecided-of : (o : Option definition.Record) → if_some o (refused empty_payload 0) (λ r. if decides r then ok (text_of r) else refused empty_payload 0) ≡ refused empty_payload 0
+      → if_some o false decides ≡ false
+  undecided-of none e = refl
+  undecided-of (some r) e = go (decides r) e
+    where
+      go : (b : Bool) → (if b then ok (text_of r) else refused empty_payload 0) ≡ refused empty_payload 0 → b ≡ false
+      go true q = absurd (no_text (text_of r) empty_payload 0 q)
+      go false q = refl
+
+  pub decided-told : (r : rust.Option (rust.Option Name)) → DecidedTold notes count index false r → decided_in records index ≡ is_some r
+  unfolding string refusing
+  decided-told (Some name) t = decided-of (record_at index records) (t bytes [] records refusing i)
+  decided-told None t = undecided-of (record_at index records) (t bytes [] records refusing i)
 
 -- The index of the bytes up to some place is one of them all.
 pub part_longer : (bytes : List ℕ) (n start end : ℕ) → start ≤ end → end ≤ length (take n bytes) → part_from start end (take n bytes) ≡ part_from start end bytes

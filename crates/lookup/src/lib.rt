@@ -7,7 +7,7 @@ ghost use Rattle.names.specs.Records.{Record};
 ghost use Rattle.foundation.specs.Results.{ok};
 ghost use Rattle.names.specs.told.Name.{name_text};
 ghost use Rattle.names.specs.Names.{strings_from, ends_fit, d2_string, string};
-ghost use Rattle.lookup.specs.told.Lookups.{ServesTold, FindTold, PlaceTold, NotesOf, NotedWords, DecidedTold};
+ghost use Rattle.lookup.specs.told.Lookups.{ServesTold, FindTold, PlaceTold, NotesOf, NotedWords, DecidedTold, decided_in};
 ghost use Rattle.names.specs.told.Index.{served_from};
 ghost use Rattle.record_names.specs.told.Steps.{extent_of};
 ghost use Rattle.lookup.specs.told.Strings.{SizesOf};
@@ -131,6 +131,13 @@ pub(crate) fn class_by_record(context: &Context<'_>, index: u32) -> Option<Optio
     ensures { DecidedTold context.now.notes.now context.now.tables.records index true result }
 {
     noted_class(words_of(context, index)?)
+}
+
+// Does a record decide an index? If none does, the index is looked up among the strings of d2.
+pub fn is_decided(context: &Context<'_>, index: u32) -> bool
+    ensures { (records : List Record) → NotesOf context.now.payload.now context.now.notes.now context.now.tables.records records → result ≡ decided_in records index }
+{
+    by_record(context, index).is_some()
 }
 
 // The string with an index, of the name table whose index stands in the notes.

@@ -29,7 +29,7 @@ use schema::{ALLOWANCE, Section, Stop};
 use sheet::{Output, State};
 
 mod areas; // areas.rt: what was measured, written into both areas
-mod opened; // opened.rt: the decoded bytes opened, their type table joined; the same bytes where no look-up is left
+pub mod opened; // opened.rt: the decoded bytes opened, their type table joined; the same bytes where no look-up is left
 
 // Two areas that are written into: the caller's, or the scratch areas of the first pass.
 // `Output` of sheet has two as well; it doesn't hold an `AreaPair`, since each writer below would then reach them through one field more.

@@ -15,7 +15,8 @@ use names::records::IndexError;
 
 // The decoded bytes opened. Where they have a type table, the fields of its entries that no reading asks for are joined, and they are opened once
 // more: an entry is read each time that it is entered, and then costs what it keeps. Bytes without a type table, as most have, are opened once.
-pub(crate) fn open_joined(
+// Callers show that d2 is within its limit, here and in string_marks: from their `InLimits`.
+pub fn open_joined(
     bytes: &mut [u8],
     units: &Units<'_>,
     notes: &mut [u64],
@@ -38,7 +39,7 @@ pub(crate) fn open_joined(
 // The decoded bytes as the entries of their type table are read where no look-up is left: a copy of them in `spare`, with the entries joined so. Without
 // a type table the decoded bytes are such themselves, and where `spare` is too short they stand for the copy, which is only slower. Joining asks for no
 // name, so the `Context` that it is lent has no d2.
-pub(crate) fn deepest_of<'a>(
+pub fn deepest_of<'a>(
     bytes: &'a [u8],
     notes: &'a [u64],
     tables: Tables,

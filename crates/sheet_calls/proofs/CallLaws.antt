@@ -31,6 +31,7 @@ use Rattle.room.specs.Exact.{RoomExact}
 use Rattle.room.proofs.Exact.{room_exact}
 use Rattle.strings.specs.Unused.{AlikeButStrings, NoneOfThree, UnusedStrings}
 use Rattle.strings.proofs.Unused.{Later, same-reading, unused_strings}
+use Rattle.string_marks.specs.UsedStrings.{UsedAnswer, UsedStrings}
 use Rattle.sheet_calls.specs.Calls.{DemandWithAny, room_in, UnusedInRoom}
 
 -- The answer as five numbers, of signed ones that came as bits.
@@ -50,6 +51,12 @@ pub exported_room : (k major minor patch : ℤ) (d1 d2 ends : List ℕ) → SFit
     → room (input (back k) (back major ∷ back minor ∷ back patch ∷ []) d1 d2 ends) ≡ r
     → room (input k (major ∷ minor ∷ patch ∷ []) d1 d2 ends) ≡ r
 exported_room k major minor patch d1 d2 ends f g h i e = ap room (same-input k major minor patch d1 d2 ends f g h i) ∙ e
+
+pub exported_strings : (k major minor patch : ℤ) (d1 d2 ends : List ℕ) → SFits w32 k → SFits w32 major → SFits w32 minor → SFits w32 patch → (u v : List ℕ) {a b : UsedAnswer}
+    → UsedStrings (input (back k) (back major ∷ back minor ∷ back patch ∷ []) d1 d2 ends) u v a → a ≡ b → UsedStrings (input k (major ∷ minor ∷ patch ∷ []) d1 d2 ends) u v b
+exported_strings k major minor patch d1 d2 ends f g h i u v {a} {b} t e =
+    subst (λ (x : UsedAnswer). UsedStrings (input k (major ∷ minor ∷ patch ∷ []) d1 d2 ends) u v x) e
+    (subst (λ (x : Input). UsedStrings x u v a) (sym (same-input k major minor patch d1 d2 ends f g h i)) t)
 
 -- What `sheet_read` ensures of its answer, clause by clause.
 abbrev pub Answers : List ℕ → List ℕ → Input → definition.Answer → Type 0

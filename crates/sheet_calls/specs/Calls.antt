@@ -9,6 +9,7 @@ use Rattle.metadata.specs.Read.{read}
 use Rattle.defaults.specs.Demand.{Demand}
 use Rattle.room.specs.Room.{Room, room}
 use Rattle.strings.specs.Unused.{AlikeButStrings, NoneOfThree}
+use Rattle.string_marks.specs.UsedStrings.{UsedAnswer}
 
 -- an answer as five numbers, and what both areas hold afterwards
 abbrev pub told_in : List ℕ → List ℕ → List ℕ → definition.Answer
@@ -54,3 +55,7 @@ abbrev pub SameSheets : List ℕ → List ℕ → Type 0
 SameSheets d1 other =
     (sheet text : List ℕ) (k : ℤ) (mv : List ℤ) (d2 ends : List ℕ)
     → read sheet text (input k mv d1 d2 ends) ≡ read sheet text (input k mv other d2 ends)
+
+-- an answer about strings as three numbers
+abbrev pub used_in : List ℕ → UsedAnswer
+used_in a = record { number = get_or a 0 0; detail = get_or a 1 0; count = get_or a 2 0 }

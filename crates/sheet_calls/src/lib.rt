@@ -11,15 +11,18 @@ ghost use Rattle.inputs.specs.told.OutcomesTold.{told};
 ghost use Rattle.room.specs.told.RoomTold.{tells_room};
 ghost use Rattle.room.specs.Exact.{RoomExact};
 ghost use Rattle.strings.specs.Unused.{UnusedStrings};
+ghost use Rattle.string_marks.specs.UsedStrings.{UsedStrings, MarksTell};
+ghost use Rattle.string_marks.specs.told.UsedTold.{tells_used};
 ghost use Rattle.converter.specs.Conversions.{old_to_new, new_to_old};
 ghost use Rattle.converter.specs.told.ConversionTold.{converted_by};
 ghost use Rattle.converter.specs.Statements.{OldToNewNumber, NewToOldNumber, AnswerKept, old_bytes_limit, longest_new, longest_old, written_units, ComesBackNew, ComesBackOld};
-ghost use Rattle.sheet_calls.specs.Calls.{told_in, DemandWithAny, room_in, UnusedInRoom, converted_in, SameSheets};
+ghost use Rattle.sheet_calls.specs.Calls.{told_in, DemandWithAny, room_in, UnusedInRoom, used_in, converted_in, SameSheets};
 
 use converter::{ConvertFault, new_to_old, old_to_new};
 use inputs::outcome::{Refusal, Sizes};
 use metadata::read;
 use room::{RoomAnswer, room};
+use string_marks::strings;
 
 // A length is made 64 bits wide by `as`, here and below: Rust has no `From<usize>` for `u64`.
 // A reading's answer as number, detail, sheet length, text length and types: 0 and 0 first where it is accepted, three zeros last where it is refused.
@@ -132,6 +135,42 @@ pub extern "C" fn sheet_room(
 {
     let version = [major, minor, patch];
     *answer = room_answer(room(k, version, d1, d2, ends));
+}
+
+// An answer about strings as number, detail and how many are fallen to: a refusal's is 0.
+fn used_answer(used: Result<usize, Refusal>) -> [u64; 3]
+    ensures { tells_used used ≡ used_in result }
+{
+    match used {
+        Ok(count) => [0, 0, count as u64],
+        Err(refusal) => {
+            let (number, detail) = refusal.numbered();
+            [number, detail, 0]
+        }
+    }
+}
+
+// `strings` of string_marks, with number, detail and how many strings of d2 the reading falls to, in this order. It takes the input of `sheet_read` and a byte
+// for each string: 1 is put where the reading falls to it and 0 where it doesn't, and bytes past the strings stay. A refusal is the one that `sheet_room`
+// gives, or 12 where there are fewer bytes than strings, with 0 and the bytes as they were. An input that differs only in strings without a 1 is one of those
+// that the clauses `unused` of `sheet_read` and `sheet_room` speak of (`MarksTell`). Nothing is asked of what is handed in.
+#[unsafe(no_mangle)]
+pub extern "C" fn sheet_strings(
+    k: i32,
+    major: i32,
+    minor: i32,
+    patch: i32,
+    d1: &[u16],
+    d2: &[u16],
+    ends: &[u32],
+    used: &mut [u8],
+    answer: &mut [u64; 3],
+)
+    ensures value { UsedStrings (input k (major ∷ minor ∷ patch ∷ []) d1.now d2.now ends.now) used.old used.new (used_in answer.new) }
+    ensures tell { get_or answer.new 0 0 ≡ 0 → MarksTell (input k (major ∷ minor ∷ patch ∷ []) d1.now d2.now ends.now) used.new }
+{
+    let version = [major, minor, patch];
+    *answer = used_answer(strings(k, version, d1, d2, ends, used));
 }
 
 // A conversion's answer as number, detail and length in units: a refusal's length is 0.

@@ -43,17 +43,17 @@ and_then r f s = Results.◌>>=◌ (r s) (f s)
 
 module _ {A B : Type 0} (ss : List (List ℕ)) (r : Lookup → Res A) (f : Lookup → A → Res B) where
   -- asked for by what comes first
-  asks-first : (n : ℕ) → Asks ss n r → Asks ss n (and_then r f)
+  pub asks-first : (n : ℕ) → Asks ss n r → Asks ss n (and_then r f)
   unfolding Asks
   asks-first n h c p = ap (λ (x : Res A). Results.◌>>=◌ x (f (stopped_at n c p ss))) (h c p)
 
   -- asked for by what follows
-  asks-then : (n : ℕ) (a : A) → r (d2_string ss) ≡ ok a → Asks ss n r ⊎ Leaves ss n r → Asks ss n (λ s. f s a) → Asks ss n (and_then r f)
+  pub asks-then : (n : ℕ) (a : A) → r (d2_string ss) ≡ ok a → Asks ss n r ⊎ Leaves ss n r → Asks ss n (λ s. f s a) → Asks ss n (and_then r f)
   unfolding Asks Leaves
   asks-then n a e (inl h) g c p = asks-first n h c p
   asks-then n a e (inr h) g c p = ap (λ (x : Res A). Results.◌>>=◌ x (f (stopped_at n c p ss))) (h c p ∙ e) ∙ g c p
 
-  leaves-then : (n : ℕ) (a : A) → r (d2_string ss) ≡ ok a → Leaves ss n r → Leaves ss n (λ s. f s a) → Leaves ss n (and_then r f)
+  pub leaves-then : (n : ℕ) (a : A) → r (d2_string ss) ≡ ok a → Leaves ss n r → Leaves ss n (λ s. f s a) → Leaves ss n (and_then r f)
   unfolding Leaves
   leaves-then n a e h g c p =
       ap (λ (x : Res A). Results.◌>>=◌ x (f (stopped_at n c p ss))) (h c p ∙ e) ∙ g c p

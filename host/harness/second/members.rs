@@ -134,13 +134,23 @@ fn usable(message: &Message<'_>, field: u32, names: &Names<'_>) -> Option<u32> {
 }
 
 fn signature(message: &Message<'_>, names: &Names<'_>, instead: Option<SignatureName>) -> Option<Signature> {
+    if planted(Mistake::UsedUndescribed) && message.index(2).is_none() {
+        return None;
+    }
+    if planted(Mistake::UsedAccessor) {
+        usable(message, 2, names);
+    }
     let own = usable(message, 1, names).map(SignatureName::Index);
     Some(Signature { name: own.or(instead)?, descriptor: usable(message, 2, names)? })
 }
 
 /// A backing field's name and descriptor; both are looked up.
 fn backing_field(message: &Message<'_>, names: &Names<'_>) -> Option<Signature> {
-    let (name, descriptor) = (usable(message, 1, names), usable(message, 2, names));
+    let name = usable(message, 1, names);
+    if name.is_none() && planted(Mistake::UsedNoField) {
+        return None;
+    }
+    let descriptor = usable(message, 2, names);
     Some(Signature { name: SignatureName::Index(name?), descriptor: descriptor? })
 }
 

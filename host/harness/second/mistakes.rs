@@ -135,6 +135,21 @@ mistakes! {
     RoomLeft: "a refused room has a head",
     RoomTextCut: "the room's text is cut to what no area holds",
     RoomTextRefused: "the room refuses a text that no area holds",
+    UsedShortFirst: "too short an area for the strings is found before the class is refused",
+    UsedInShort: "too short an area for the strings is filled as far as it goes",
+    UsedTwelveDetail: "too short an area for the strings tells how many there are",
+    UsedPast: "a byte past the strings is written",
+    UsedOnesAlone: "strings that aren't fallen to keep the byte that was there",
+    UsedWhenRefused: "strings that a refused reading fell to are marked",
+    UsedDetail: "the strings' refusal has no detail",
+    UsedCountLeft: "a refusal tells how many strings were fallen to",
+    UsedOneMore: "one string more is counted than marked",
+    UsedDecided: "a string at an index that a record decides is marked",
+    UsedAccessor: "an accessor's descriptor is marked although its name is absent",
+    UsedUndescribed: "a signature's name without a descriptor isn't marked",
+    UsedNoField: "a backing field's descriptor without a name isn't marked",
+    UsedStar: "the name of a star's type is marked",
+    UsedLast: "the last string of d2 is never marked",
 }
 
 /// The mistakes that make one number of the room wrong, in the order of the numbers.

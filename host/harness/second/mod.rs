@@ -15,7 +15,7 @@ mod wire;
 
 pub use mistakes::Mistake;
 
-use crate::answer::{Answer, Room, Whole, KINDS, LISTS, ROOM};
+use crate::answer::{Answer, Room, Used, Whole, KINDS, LISTS, ROOM, USED};
 use crate::forms::{self, is_old};
 use crate::input::Input;
 use crate::limits::{self, Areas};
@@ -134,6 +134,19 @@ impl Reading {
         Room { answer: self.whole.answer, records: self.records, texts: self.texts }
     }
 
+    /// What is told of the strings that the reading falls to, in an area of so many bytes. The area is looked at last.
+    pub fn used(&self, area: usize) -> Used {
+        let Answer { number, detail, .. } = self.whole.answer;
+        if planted(Mistake::UsedShortFirst) && area < self.fallen.len() {
+            return Used::refused(12, 0);
+        }
+        match number {
+            0 if area < self.fallen.len() => Used::refused(12, 0),
+            0 => Used::of(&self.fallen),
+            _ => Used::refused(number, detail),
+        }
+    }
+
     /// The answer with these areas.
     pub fn in_areas(&self, areas: Areas) -> Whole {
         let Answer { number, sheet, text, .. } = self.whole.answer;
@@ -224,6 +237,46 @@ pub fn stand_in_room(mistake: Mistake, input: &Input, answer: &mut [u64; ROOM]) 
     if planted(Mistake::RoomTextRefused) && too_long {
         *answer = [0; ROOM];
         answer[0] = 11;
+    }
+    mistakes::plant(Mistake::None);
+}
+
+/// The stand-in for the call that tells the strings that a reading falls to.
+pub fn stand_in_strings(mistake: Mistake, input: &Input, used: &mut [u8], answer: &mut [u64; USED]) {
+    mistakes::plant(mistake);
+    let reading = read(input);
+    let told = reading.used(used.len());
+    let refused = told.answer[0] != 0;
+    *answer = told.answer;
+    for (byte, mark) in used.iter_mut().zip(&told.bytes) {
+        if *mark == 1 || !planted(Mistake::UsedOnesAlone) {
+            *byte = *mark;
+        }
+    }
+    if let (Mistake::UsedLast, Some(last)) = (mistake, told.bytes.len().checked_sub(1)) {
+        used[last] = 0;
+    }
+    if planted(Mistake::UsedPast) && !refused && used.len() > told.bytes.len() {
+        used[told.bytes.len()] = 0;
+    }
+    let met = refused && answer[0] != 12;
+    if planted(Mistake::UsedWhenRefused) && met {
+        reading.fallen.iter().zip(used.iter_mut()).filter(|(fallen, _)| **fallen).for_each(|(_, byte)| *byte = 1);
+    }
+    if planted(Mistake::UsedInShort) && answer[0] == 12 {
+        reading.fallen.iter().zip(used.iter_mut()).for_each(|(fallen, byte)| *byte = u8::from(*fallen));
+    }
+    if planted(Mistake::UsedDetail) && met {
+        answer[1] = 0;
+    }
+    if planted(Mistake::UsedCountLeft) && met {
+        answer[2] = reading.fallen.iter().filter(|fallen| **fallen).count() as u64;
+    }
+    if planted(Mistake::UsedOneMore) && !refused {
+        answer[2] += 1;
+    }
+    if planted(Mistake::UsedTwelveDetail) && answer[0] == 12 {
+        answer[1] = reading.fallen.len() as u64;
     }
     mistakes::plant(Mistake::None);
 }

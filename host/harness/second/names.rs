@@ -80,7 +80,7 @@ impl<'a> Names<'a> {
 
     /// Looks a name up where the reading order has it, and notes the string of d2 that this falls to. Whether there is a name.
     pub fn look_up(&self, index: u32) -> bool {
-        let decided = self.record(index).is_some_and(Record::decides);
+        let decided = self.record(index).is_some_and(Record::decides) && !planted(Mistake::UsedDecided);
         if let (false, Some(fallen)) = (decided, self.fallen.borrow_mut().get_mut(index as usize)) {
             *fallen = true;
         }

@@ -152,6 +152,10 @@ impl<'a> Types<'a> {
         if planted(Mistake::StarTypeCut) {
             argument.message(2)?;
         }
+        if planted(Mistake::UsedStar) {
+            let inside = argument.message(2).ok().flatten();
+            inside.and_then(|ty| ty.index(6)).map(|index| self.names.look_up(index));
+        }
         let entered = self.entered;
         let inside = if planted(Mistake::StarTypeRead) { self.either(argument, 2, 3, depth)? } else { None };
         let uncounted = planted(Mistake::StarUncounted) || planted(Mistake::StarTooMany) && entered == TYPES;

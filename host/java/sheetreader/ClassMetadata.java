@@ -47,6 +47,11 @@ public final class ClassMetadata {
         return SheetReader.read(k, mv, d1, d2);
     }
 
+    /** Which strings of d2 its reading falls to. */
+    public UsedStrings strings() {
+        return SheetReader.strings(k, mv, d1, d2);
+    }
+
     private static Object[] list(Map<String, Object> values, String name) throws IOException {
         Object value = values.getOrDefault(name, new Object[0]);
         if (value instanceof Object[]) return (Object[]) value;

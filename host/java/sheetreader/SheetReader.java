@@ -28,7 +28,7 @@ public final class SheetReader {
     public static final int STRING_LIMIT = 4096;
 
     /** Bytes of stack of a thread that the reader runs on: docs/MANUAL.md, "Limits", has what it needs. -Xss doesn't change it. */
-    static final long STACK = 1 << 20;
+    static final long STACK = 1 << 21;
 
     private static final ExecutorService THREADS =
             new ThreadPoolExecutor(0, Integer.MAX_VALUE, 10, TimeUnit.SECONDS, new SynchronousQueue<>(), SheetReader::thread);
@@ -79,6 +79,35 @@ public final class SheetReader {
     private static native byte[] call(int k, int major, int minor, int patch, char[] d1, char[] d2, int[] ends, long[] answer);
 
     /**
+     * Which strings of d2 the reading of a class falls to. All others may be blanked, as long as the number of strings stays: {@link #read} then gives
+     * the same answer.
+     *
+     * @param k as for {@link #read(int, int[], String[], String[])}
+     * @throws NullPointerException if an array or a string is null; nothing else that is handed in leads to an exception
+     */
+    public static UsedStrings strings(int k, int[] mv, String[] d1, String[] d2) {
+        Objects.requireNonNull(mv, "mv");
+        Units payload = Units.of("d1", d1, UNIT_LIMIT, Integer.MAX_VALUE);
+        Units strings = Units.of("d2", d2, UNIT_LIMIT, STRING_LIMIT);
+        return strings(k, number(mv, 0), number(mv, 1), number(mv, 2), payload.units, strings.units, strings.ends);
+    }
+
+    /** The same from UTF-16 units, as the C function takes them. */
+    public static UsedStrings strings(int k, int major, int minor, int patch, char[] d1, char[] d2, int[] ends) {
+        Objects.requireNonNull(d1, "d1");
+        Objects.requireNonNull(d2, "d2");
+        Objects.requireNonNull(ends, "ends");
+        return await(THREADS.submit(() -> {
+            long[] answer = new long[3];
+            byte[] used = used(k, major, minor, patch, d1, d2, ends, answer);
+            return new UsedStrings(answer, used);
+        }));
+    }
+
+    /** Writes number, detail and count into answer, and gives a byte for each string, none if it is refused. */
+    private static native byte[] used(int k, int major, int minor, int patch, char[] d1, char[] d2, int[] ends, long[] answer);
+
+    /**
      * d1 from its old form to the one with the marker. {@link #read} takes both forms.
      *
      * @param d1 the units of all strings of d1, one after the other
@@ -109,7 +138,7 @@ public final class SheetReader {
     }
 
     /** A call takes microseconds, so an interrupt waits for its end; the caller finds it afterwards. */
-    private static Answer await(Future<Answer> call) {
+    private static <T> T await(Future<T> call) {
         boolean interrupted = false;
         try {
             while (true) {

@@ -1,11 +1,12 @@
 -- What look-ups in the index of the name table's records tell.
 -- Assumes nothing.
-use Rattle.std.specs.Prelude.{◌≡◌, Bool, List, ℕ, suc, ◌+◌, ◌*◌, ◌^◌, ◌≤◌, ◌<◌, length, get_or, if◌then◌else◌, Some, None}
+use Rattle.std.specs.Prelude.{◌≡◌, Bool, false, List, ℕ, suc, ◌+◌, ◌*◌, ◌^◌, ◌≤◌, ◌<◌, length, get_or, if◌then◌else◌, Some, None}
 use Rattle.std.proofs.Math.Option.{Option, none, some}
 use Rattle.std.proofs.Math.ListN.{get_elem?}
+use Rattle.foundation.specs.Choices.{if_some}
 use Rattle.foundation.specs.Results.{Res, ok}
 use Rattle.foundation.specs.Texts.{Text}
-use Rattle.names.specs.Records.{Record}
+use Rattle.names.specs.Records.{Record, decides}
 use Rattle.names.specs.Names.{record_at, Names, string, qualified_name}
 use Rattle.names.specs.told.Name.{name_text}
 use Rattle.names.specs.told.Index.{start_of, end_of, served_from, Sums}
@@ -65,3 +66,7 @@ abbrev pub DecidedTold : List ℕ → ℕ → ℕ → Bool → rust.Option (rust
 DecidedTold notes count index class r =
     (bytes units : List ℕ) (records : List Record) (d2 : ℕ → Res (Option Text)) → NotesOf bytes notes count records
     → DecidedIs bytes units class (record { records = records; d2 = d2 }) index r
+
+-- whether a record decides an index
+abbrev pub decided_in : List Record → ℕ → Bool
+decided_in records index = if_some (record_at index records) false decides

@@ -18,7 +18,8 @@ import java.util.concurrent.Callable;
  * usage: java -Xss256k .. sheetreader.Test EXAMPLES MADE
  *
  * <p>Holds the Java classes to EXAMPLES/NAME.line for each EXAMPLES/NAME.class and to MADE/NAME.line for each MADE/NAME.input, on threads with
- * little stack too; then what is handed in wrongly, and damaged class files.
+ * little stack too; the strings that are told to EXAMPLES/used_strings.txt and MADE/NAME.blanked; then what is handed in wrongly, and damaged
+ * class files.
  */
 final class Test {
     private static int checks = 0;
@@ -35,6 +36,7 @@ final class Test {
         records(Paths.get(args[0]).resolve("Sale.class"));
         projections();
         conversions(Paths.get(args[0]));
+        strings(Paths.get(args[0]), Paths.get(args[1]));
         interrupted();
         damaged(Paths.get(args[0]));
         nested();
@@ -66,6 +68,31 @@ final class Test {
         same("above 255", "refused: 6, detail 300", SheetReader.oldToNew(new char[] {1, 300, 400}).toString());
         same("a first unit 0", "refused: 16, detail 0", SheetReader.newToOld(new char[] {0, 255}).toString());
         same("one unit", "converted: 1 units", SheetReader.oldToNew(new char[] {1}).toString());
+    }
+
+    /** Which strings the readings fall to: of the examples by their indices, of the made inputs by the units that stay. What is refused tells none. */
+    private static void strings(Path examples, Path made) throws IOException {
+        for (String told : Files.readAllLines(examples.resolve("used_strings.txt"))) {
+            String[] parts = told.split(": ");
+            ClassMetadata metadata = ClassMetadata.of(Files.readAllBytes(examples.resolve(parts[0] + ".class")));
+            UsedStrings used = metadata.strings();
+            StringBuilder found = new StringBuilder();
+            for (int i = 0; i < used.strings(); i++) if (used.isUsed(i)) found.append(i).append(' ');
+            same(parts[0] + ", its strings", parts[1], (used.count == 0 ? "none " : found) + "of " + metadata.d2.length);
+        }
+        for (Path path : paths(made, ".input")) {
+            Input in = new Input(Files.readAllBytes(path));
+            UsedStrings used = in.strings();
+            Path blanked = path.resolveSibling(path.getFileName().toString().replaceAll("\\.input$", ".blanked"));
+            if (Files.exists(blanked)) {
+                same(path + ", its strings", new String(new Input(Files.readAllBytes(blanked)).d2), in.kept(used));
+            } else {
+                String[] line = Files.readString(beside(path, ".input")).split(" ");
+                same(path + ", its strings", "refused: " + line[0] + ", detail " + line[1], used.toString());
+            }
+        }
+        same("no strings", "told: 0 of 0 strings", SheetReader.strings(3, new int[0], new String[0], new String[0]).toString());
+        same("too many strings", "refused: 2, detail 0", SheetReader.strings(3, 1, 9, 0, new char[0], new char[0], new int[50_000_000]).toString());
     }
 
     /** A call and the line that is right for it. */
@@ -149,6 +176,8 @@ final class Test {
         thrown("d1's units are null", "d1", () -> SheetReader.read(3, 1, 9, 0, null, units, ends));
         thrown("d2's units are null", "d2", () -> SheetReader.read(3, 1, 9, 0, units, null, ends));
         thrown("the ends are null", "ends", () -> SheetReader.read(3, 1, 9, 0, units, units, null));
+        thrown("a string of d2 is null, of strings", "d2[0]", () -> SheetReader.strings(3, mv, d1, new String[] {null}));
+        thrown("the ends are null, of strings", "ends", () -> SheetReader.strings(3, 1, 9, 0, units, units, null));
         thrown("d1 to convert is null", "d1", () -> SheetReader.oldToNew(null));
     }
 
@@ -314,6 +343,20 @@ final class Test {
 
         Answer read() {
             return SheetReader.read(head[0], head[1], head[2], head[3], d1, d2, ends);
+        }
+
+        UsedStrings strings() {
+            return SheetReader.strings(head[0], head[1], head[2], head[3], d1, d2, ends);
+        }
+
+        /** The units of the strings that are used. */
+        String kept(UsedStrings used) {
+            StringBuilder kept = new StringBuilder();
+            for (int i = 0; i < used.strings(); i++) {
+                int start = i == 0 ? 0 : ends[i - 1];
+                if (used.isUsed(i)) kept.append(d2, start, ends[i] - start);
+            }
+            return kept.toString();
         }
 
         Answer readHere() {

@@ -1,0 +1,9 @@
+pub mod MarkLaws
+pub mod ReadingLaws
+pub mod NameMarks
+pub mod ListMarks
+pub mod FieldMarks
+pub mod TypeMarks
+pub mod BodyMarks
+pub mod UsedLaws
+pub mod TellLaws

@@ -1,0 +1,2 @@
+pub mod UsedStrings
+pub mod told

@@ -1,0 +1,3 @@
+pub mod MarksTold
+pub mod InnerTold
+pub mod UsedTold
