@@ -138,6 +138,7 @@ pub extern "C" fn sheet_room(
 }
 
 // An answer about strings as number, detail and how many are fallen to: a refusal's is 0.
+// It has the shape of `conversion_answer`, of another error: one function for both would take a trait of errors with a number, and its law.
 fn used_answer(used: Result<usize, Refusal>) -> [u64; 3]
     ensures { tells_used used ≡ used_in result }
 {
