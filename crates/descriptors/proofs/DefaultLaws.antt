@@ -1,7 +1,9 @@
 -- The parts of a declaration's types and of its parameters, from what the calls told.
 -- Assumes nothing.
 use mathlib.Core.Path.{◌≡◌, refl, sym, ap, subst, ◌∙◌}
+use mathlib.Core.Bool.{false}
 use mathlib.Core.List.{List, []}
+use Rattle.std.specs.Prelude.{if◌then◌else◌}
 use mathlib.Core.Option.{Option, some}
 use Prim.Native.Nat.{ℕ, ◌+◌, ◌-◌, ◌*◌, ◌≤◌, ◌<◌}
 use native.Mathlib.Nat.{add-zero, add_assoc}
@@ -15,23 +17,23 @@ use Rattle.wire.specs.Messages.{cut_all, messages}
 use Rattle.wire.specs.told.WireTold.{rest_of, part_between}
 use Rattle.messages.specs.told.Asked.{bodies, NextIs, NextBodyTold, PieceInside, PieceAfter}
 use Rattle.wire.proofs.WalkLaws.{whole, ok_same}
-use Rattle.characters.specs.told.Places.{part_from}
 use Rattle.declaration_rows.specs.Declarations.{Ty, Parameter}
 use Rattle.schema.specs.Reading.{Scope, each}
 use Rattle.schema.specs.Types.{max_depth}
 use Rattle.schema.specs.Members.{parameter_in, parameters_in}
 use Rattle.schema.specs.told.SchemaTold.{Lent, Scoped, EntryAt, Stands}
 use Rattle.schema.specs.told.TypesTold.{or_nullable}
-use Rattle.schema.specs.told.PlacesTold.{TableOf, TypeFound, FoundTypeTold, FoundTypeInside, FoundTypeFalls, DeclaredFound}
+use Rattle.schema.specs.told.PlacesTold.{TableOf, TypeFound, FoundTypeTold, EntryTwins, FoundTypeInside, FoundTypeFalls, DeclaredFound}
 use Rattle.schema.specs.declared.FoundType.{FoundType}
 use Rattle.schema.proofs.ListLaws.{First, cut-first}
-use Rattle.schema.proofs.StandsLaws.{part-ends, stands-cut, stands-entry, body-stands}
+use Rattle.schema.proofs.StandsLaws.{stands-cut, stands-entry, body-stands}
+use Rattle.joined_types.proofs.TwinPlaces.{inner-read}
 use Rattle.erasure.specs.Erasure.{print_returned}
 use Rattle.erasure.specs.declared.Position.{Position}
 use Rattle.erasure.specs.declared.Position.TheVariants as position
 use Rattle.std.specs.Prelude as std
 use Rattle.std.specs.Prelude.{Some, None}
-use Rattle.descriptors.specs.told.DefaultsTold.{erased_at, part_cost, PartWithin, PartTold, ErasedTold, parameters_part, ParametersTold}
+use Rattle.descriptors.specs.told.DefaultsTold.{erased_at, part_cost, PartWithin, PartTold, ReadFound, ErasedTold, parameters_part, ParametersTold}
 use Rattle.descriptors.specs.told.PartsTold.{PartRoom, Gave, PartOf, TypeGiven, type_part, preceded}
 use Rattle.descriptors.proofs.GivenLaws.{parameters-given, FirstGiven, first-given, none-given, parameter_type}
 use Rattle.descriptors.proofs.JoinLaws.{both, parameters_cons, text_none, text_then, told_then, told_absent, told_same, preceded-sum}
@@ -42,32 +44,39 @@ use Rattle.messages.specs.told.Asked.{span}
 module _ (e : Lent) (at : ℕ) (position : Position) {start end inline indexed : ℕ} {x : std.Option FoundType}
     (t : DeclaredFound e.payload e.notes e.tables start end inline indexed x) where
   place : {y : std.Option FoundType} → x ≡ y → (c : Scope) → Scoped e c → (m : Message) → EntryAt e.payload start end m → (o : Option Ty)
-      → TypeGiven inline indexed c m o → FoundTypeTold e.payload c o y
+      → TypeGiven inline indexed c m o → FoundTypeTold e.payload e.payload c o y
   place g c s m k o h =
       let table : TableOf e.payload e.notes e.tables c = record { entries = s.entries; nullable = s.nullable } in
-      subst (FoundTypeTold e.payload c o) g (t.is c table m k o h.before h.after h.is)
+      subst (FoundTypeTold e.payload e.payload c o) g (t.is c table m k o h.before h.after h.is)
 
   pub type-nowhere : x ≡ None → {A A₁ : List ℕ} → PartOf (TypeGiven inline indexed) (type_part position) part_cost e start end at None A A₁
   type-nowhere g = record { within = tt; is = λ c s m k o h. rw (place g c s m k o h) }
 
   module _ {y : FoundType} (g : x ≡ Some y) where
-    type-inside : (y.part.start ≤ y.part.end) × (y.part.end ≤ length e.payload) × (y.reached.left ≤ max_depth)
+    pub type-inside : (y.part.start ≤ y.part.end) × (y.part.end ≤ length e.payload) × (y.reached.left ≤ max_depth)
     type-inside =
         let i = subst (FoundTypeInside e.payload) g t.inside in
         (i.0, i.1, (subst (FoundTypeFalls max_depth start end) g t.falls).0)
 
+    -- found where it is read
+    type-read : (c : Scope) → Scoped e c → (u : Ty) → TypeFound (if y.is_entry then e.payload else e.payload) c y.part.start y.part.end y.reached.left u
+        → ReadFound e c y.part.start y.part.end y.reached.left y.is_entry u
+    type-read c s u f =
+        let entry = subst (EntryTwins e.payload e.notes e.tables) g t.twins in
+        let it = inner-read e.payload e.deepest s.deepest.many c y.part.start y.part.end y.reached.left false y.is_entry {deep = y.reached.left + 1}
+        (omega arith) (λ i. entry i e.deepest s.deepest) (λ i. absurd (cc)) f in
+        record { found = it.0; twins = it.1 }
+
     pub type-there : {r : std.Option ℕ} {A A₁ : List ℕ}
-        → ErasedTold e y.part.start (y.part.start + length (part_from y.part.start y.part.end e.payload)) y.reached.left y.reached.nullable position at r A A₁
+        → ErasedTold e y.part.start y.part.end y.reached.left y.reached.nullable y.is_entry position at r A A₁
         → PartOf (TypeGiven inline indexed) (type_part position) part_cost e start end at r A A₁
     type-there {r} {A} {A₁} p = record {
       within = p.within;
       is = λ c s m k o h.
           let f = place g c s m k o h in
-          let ends = part-ends e.payload y.part.start y.part.end type-inside.0 type-inside.1 in
-          let lent-part = subst (λ (n : ℕ). TypeFound e.payload c y.part.start n y.reached.left f.0) (sym ends) f.1 in
           told_same {x = map_option print_returned (erased_at position (or_nullable y.reached.nullable f.0))} {y = type_part position o} at r A A₁
           (ap (type_part position) (sym f.2))
-          (p.is c s f.0 lent-part);
+          (p.is c s f.0 (type-read c s f.0 f.1));
     }
 
 -- The walk over the parameters: what is right from here on is right from the start.

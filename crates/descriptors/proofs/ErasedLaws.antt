@@ -197,11 +197,12 @@ slashed_characters : (n : Text) → Characters n → Characters (slashed n)
 slashed_characters n = substituted-keeps (λ c. T (is_scalar c)) 0x2e 0x2f n (scalar_below 0x2f (omega arith))
 
 -- One type.
-module _ (e : Lent) (msg : List ℕ) (base : ℕ) (nullable : Bool) (position : Position) (at : ℕ) (found : std.Option Name) (st : Stands e.payload msg base)
+module _ (e : Lent) (msg : List ℕ) (base : ℕ) (nullable : Bool) (position : Position) (at : ℕ) (found : std.Option Name)
     (i : (c : Scope) → NamesOf e.payload e.d2 e.ends e.notes e.tables.records c.names
     → (m : Message) → cut (◌from◌ base msg) ≡ ok m → (l : ℕ)
     → class_name_in c Type-class_name m l ≡ ok (name_text e.payload e.d2 found, l)) where
-  module _ (c : Scope) (o : Scoped e c) (left : ℕ) (t : Ty) (f : TypeFound e.payload c base (base + length msg) left t) where
+  module _ {source : List ℕ} (st : Stands source msg base) (c : Scope) (o : Scoped e c) (left : ℕ) (t : Ty)
+      (f : TypeFound source c base (base + length msg) left t) where
     entered : Entered c f.depth f.message t
     entered = type_entered c f.depth f.message t f.before f.after f.given
 
@@ -216,41 +217,45 @@ module _ (e : Lent) (msg : List ℕ) (base : ℕ) (nullable : Bool) (position : 
         class_characters c Type-class_name f.message 0 0 (named_text e.payload e.d2 name) (lent-strings e c o u)
         (i c o.names f.message (stands-cut st f.at) 0 ∙ ap (λ (x : std.Option Name). pure (name_text e.payload e.d2 x) 0) w)
 
-  pub type-absent : found ≡ None → {A A' : List ℕ} → TypePartTold e base (base + length msg) nullable position at None A A'
-  type-absent w = record {
+  pub type-absent : found ≡ None → {A A' : List ℕ} → (source : List ℕ) → Stands source msg base
+      → TypePartTold source e base (base + length msg) nullable position at None A A'
+  type-absent w source st = record {
     within = tt;
-    is = λ c o left t f. ap (map_option print_returned) (erased_nameless position (or_nullable nullable t) (name-is c o left t f w));
+    is = λ c o left t f. ap (map_option print_returned) (erased_nameless position (or_nullable nullable t) (name-is st c o left t f w));
   }
 
   module _ {name : Name} (w : found ≡ Some name) (units : Units e.d2) (meaning : Meaning) (m : Means (name_bytes e.payload e.d2 (Some name) true) meaning)
       {either : Bool} (n : (m : Message) → cut (◌from◌ base msg) ≡ ok m → (nullable || flag Type-nullable m) ≡ either)
       (printed : std.Option Printed) (p : PrintsAs meaning either position printed) where
-    type-printed : (c : Scope) (o : Scoped e c) (left : ℕ) (t : Ty) (f : TypeFound e.payload c base (base + length msg) left t)
+    type-printed : {source : List ℕ} (st : Stands source msg base) (c : Scope) (o : Scoped e c) (left : ℕ) (t : Ty)
+        (f : TypeFound source c base (base + length msg) left t)
         → erased_at position (or_nullable nullable t) ≡ printed_told (slashed (told_name e name)) (first_erased true t.arguments) printed
-    type-printed c o left t f =
+    type-printed st c o left t f =
         let inner = first_erased true t.arguments in
         let either_is : (nullable || t.nullable) ≡ either =
-        ap (λ (t : Ty). nullable || t.nullable) (entered c o left t f).is ∙ n f.message (stands-cut st f.at) in
-        erased-named position (or_nullable nullable t) (told_name e name) (name-is c o left t f w)
+        ap (λ (t : Ty). nullable || t.nullable) (entered st c o left t f).is ∙ n f.message (stands-cut st f.at) in
+        erased-named position (or_nullable nullable t) (told_name e name) (name-is st c o left t f w)
         ∙ ap (λ (b : Bool). part_at position b inner (meaning_of (told_name e name))) either_is
         ∙ part-told position either inner meaning printed (slashed (told_name e name)) m p
-        (slashed_characters (told_name e name) (name-characters c o left t f units w))
+        (slashed_characters (told_name e name) (name-characters st c o left t f units w))
         (sym (name-slashed e.payload e.d2 name))
 
-    pub type-nothing : printed ≡ None → {A A' : List ℕ} → TypePartTold e base (base + length msg) nullable position at None A A'
-    type-nothing q = record {
+    pub type-nothing : printed ≡ None → {A A' : List ℕ} → (source : List ℕ) → Stands source msg base
+        → TypePartTold source e base (base + length msg) nullable position at None A A'
+    type-nothing q source st = record {
       within = tt;
       is = λ c o left t f.
-          ap (map_option print_returned) (type-printed c o left t f) ∙ by_answer q (told_name e name) (first_erased true t.arguments);
+          ap (map_option print_returned) (type-printed st c o left t f) ∙ by_answer q (told_name e name) (first_erased true t.arguments);
     }
 
     pub type-part : {here : Printed} → printed ≡ Some here → {r : TypePart} {A A' : List ℕ}
-        → PrintedPut e name here at r A A' → TypePartTold e base (base + length msg) nullable position at (Some r) A A'
-    type-part {here} v {r} {A} {A'} q = record {
+        → PrintedPut e name here at r A A' → (source : List ℕ) → Stands source msg base
+        → TypePartTold source e base (base + length msg) nullable position at (Some r) A A'
+    type-part {here} v {r} {A} {A'} q source st = record {
       within = q.within;
       is = λ c o left t f.
           let same : erased_at position (or_nullable nullable t) ≡ printed_told (slashed (told_name e name)) (first_erased true t.arguments) (Some here) =
-          type-printed c o left t f ∙ ap (printed_told (slashed (told_name e name)) (first_erased true t.arguments)) v in
+          type-printed st c o left t f ∙ ap (printed_told (slashed (told_name e name)) (first_erased true t.arguments)) v in
           subst (λ y. TypePartIs (map_option print_returned y) (first_erased true t.arguments) at (Some r) A A') (sym same)
           (q.is (first_erased true t.arguments));
     }

@@ -44,10 +44,10 @@ fn type_part(
     let found = declared_place(msg, slot, context)?;
     let placed = Placement {
         reached: found.reached,
+        in_table: found.is_entry,
         position,
     };
-    let part = Located::of(context.payload, found.part);
-    put_erased(part, placed, context, area, at)
+    put_erased(found.part, placed, context, area, at)
 }
 
 // The parts of the parameters in a field, one after the other: one of each message, with a name or without.

@@ -10,18 +10,19 @@ ghost use Rattle.erasure.specs.declared.Meaning.TheVariants.{Other};
 
 use characters::utf16_at;
 use erasure::{Meaning, Position, Printed, meaning_of, printed_as, put_part};
-use foundation::{Context, Located, put};
+use foundation::{Context, Located, Span, put};
 use names::name::{Name, Source, change_of, character_of, part_of};
 use names::stream::put_name;
 use schema::Reached;
 use schema::head::type_head;
 use schema::name::class_name_at;
-use schema::places::first_argument;
+use schema::places::{bytes_of_type, first_argument};
 
-// How a type is placed: how it was reached, and its position in the descriptor.
+// How a type is placed: how it was reached, whether it stands in the type table, and its position in the descriptor.
 #[derive(Clone, Copy)]
 pub(crate) struct Placement {
     pub reached: Reached,
+    pub in_table: bool,
     pub position: Position,
 }
 
@@ -112,8 +113,8 @@ fn put_type_part(
     area: &mut [u8],
     at: usize,
 ) -> Option<TypePart>
-    requires { Stands context.now.payload.now msg.bytes.now msg.base × (length context.now.payload.now ≤ 32768) × (length context.now.d2.now ≤ 32768) × (at ≤ 2 ^ 62) }
-    ensures { TypePartTold (lent context.now) msg.entry.base (msg.entry.base + length msg.entry.bytes.now) placed.reached.nullable placed.position at result area.old area.new }
+    requires { (length context.now.payload.now ≤ 32768) × (length context.now.d2.now ≤ 32768) × (at ≤ 2 ^ 62) }
+    ensures { (source : List ℕ) → Stands source msg.entry.bytes.now msg.entry.base → TypePartTold source (lent context.now) msg.entry.base (msg.entry.base + length msg.entry.bytes.now) placed.reached.nullable placed.position at result area.old area.new }
 {
     let head = type_head(msg);
     let name = class_name_at(head.name, context)?;
@@ -123,31 +124,34 @@ fn put_type_part(
     Some(put_printed(printed, context, name, area, at))
 }
 
-// The part of the type in a message: as many [ as arrays are nested, then what the innermost comes to. Answers how many bytes it takes; nothing
-// if the type has no descriptor.
+// The part of the type in a part of the decoded bytes: as many [ as arrays are nested, then what the innermost comes to. Answers how many bytes it takes;
+// nothing if the type has no descriptor. Each type is read where `bytes_of_type` says.
 pub(crate) fn put_erased(
-    msg: Located<'_>,
+    part: Span,
     placed: Placement,
     context: &Context<'_>,
     area: &mut [u8],
     at: usize,
 ) -> Option<usize>
-    requires { Stands context.now.payload.now msg.bytes.now msg.base × (placed.reached.left ≤ 64) × (length context.now.payload.now ≤ 32768) × (length context.now.d2.now ≤ 32768) × (at ≤ 2 ^ 61) }
-    ensures { ErasedTold (lent context.now) msg.entry.base (msg.entry.base + length msg.entry.bytes.now) placed.reached.left placed.reached.nullable placed.position at result area.old area.new }
+    requires { (part.start ≤ part.end) × (part.end ≤ length context.now.payload.now) × (placed.reached.left ≤ 64) × (length context.now.payload.now ≤ 32768) × (length context.now.d2.now ≤ 32768) × (at ≤ 2 ^ 61) }
+    ensures { ErasedTold (lent context.now) part.start part.end placed.reached.left placed.reached.nullable placed.in_table placed.position at result area.old area.new }
 {
-    let mut part = msg;
-    let mut here = placed;
+    let mut here = part;
+    let mut how = placed;
     let mut next = at;
     // A `loop`: what is written of a type tells whether another follows, so there is no list to walk and no test before it.
     loop {
-        let one = put_type_part(part, here, context, area, next)?;
+        let bytes = bytes_of_type(how.in_table, how.reached.left, context);
+        let msg = Located::of(bytes, here);
+        let one = put_type_part(msg, how, context, area, next)?;
         if let TypePart::Whole { size } = one {
             return Some(next + size - at);
         }
-        let found = first_argument(part, here.reached.left.saturating_sub(1), context)?;
-        part = Located::of(context.payload, found.part);
-        here = Placement {
+        let found = first_argument(msg, how.reached.left.saturating_sub(1), context)?;
+        here = found.part;
+        how = Placement {
             reached: found.reached,
+            in_table: how.in_table || found.is_entry,
             position: Position::Element,
         };
         next += 1;

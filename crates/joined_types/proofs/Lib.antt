@@ -8,6 +8,7 @@ pub mod TypeRestLaws
 pub mod SameReads
 pub mod TypeReadings
 pub mod DeepestLaws
+pub mod TwinPlaces
 pub mod BodyReadings
 pub mod PutBackLaws
 pub mod TableLaws

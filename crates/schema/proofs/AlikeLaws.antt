@@ -1,14 +1,18 @@
 -- Laws of readings that are alike: what is the same is alike, what follows from it, and what is made of two such.
 -- Assumes nothing.
-use mathlib.Core.Path.{refl, ap}
+use mathlib.Core.Path.{◌≡◌, refl, ap, subst, ◌∙◌}
 use mathlib.Core.List.{List, [], ◌∷◌}
 use mathlib.Core.Option.{Option, none, some}
-use Prim.Native.Nat.{ℕ, zero, suc}
-use Rattle.foundation.specs.Results.{Res, ok, refused, ◌>>=◌, ◌from◌}
+use Prim.Native.Nat.{ℕ, zero, suc, ◌+◌, ◌-◌, ◌≤◌}
+use native.Mathlib.Omega.{arith}
+use lib.ListN.{length}
+use Rattle.foundation.specs.Results.{Res, ok, refused, ◌>>=◌, Part, ◌from◌}
 use Rattle.fields.specs.Fields.{Type-argument, Type-Argument-type}
 use Rattle.wire.specs.Wire.{Message, cut}
 use Rattle.wire.specs.Messages.{message, messages}
-use Rattle.schema.specs.told.Alike.{Alike, AlikeOption, Dropped, Thinned, ArgumentsBy, TypesBy, SameType, SameTypes, no_entries, next_entry, SameAtLast, JoinedAs, DeepestOf}
+use Rattle.characters.specs.told.Places.{part_from}
+use Rattle.characters.proofs.PartLaws.{part-part, part-long}
+use Rattle.schema.specs.told.Alike.{Alike, AlikeOption, Dropped, Thinned, ArgumentsBy, TypesBy, SameType, SameTypes, no_entries, next_entry, SameAtLast, JoinedAs, TwinAt, DeepestOf}
 
 -- What is the same in both is alike.
 pub alike-itself : {A : Type 0} (P : A → A → Type 0) → ((a : A) → P a a) → (r : Res A) → Alike P r r
@@ -67,6 +71,14 @@ alike-some R (ok a) (ok b) h = h
 alike-some R (ok a) (refused c p) h = h
 alike-some {A} R (refused c p) r' h = ap (λ (r : Res A). r >>= λ a. ok (some a)) h
 
+-- What is alike something that is given.
+pub alike-given : {A : Type 0} (P : A → A → Type 0) {r r' : Res A} {a : A} → Alike P r r' → r ≡ ok a → (b : A) × (r' ≡ ok b) × P a b
+alike-given {A} P {r} {r'} {a} h e = go r' (subst (λ x. Alike P x r') e h)
+  where
+    go : (x : Res A) → Alike P (ok a) x → (b : A) × (x ≡ ok b) × P a b
+    go (ok b) k = (b, refl, k)
+    go (refused c p) k = absurd k
+
 -- A copy of the decoded bytes that is the same is read alike.
 pub at-last-itself : (m : Message) → SameAtLast m m
 at-last-itself m = record { levels = 0; same = type-itself 0 0 m }
@@ -76,3 +88,18 @@ joined-itself P h s = record { many = refl; alike = λ base. alike-itself P h (c
 
 pub deepest_itself : (payload entries : List ℕ) (count : ℕ) → DeepestOf payload payload entries count
 deepest_itself payload entries count = record { many = refl; each = λ i below ordered inside. joined-itself SameAtLast at-last-itself _ }
+
+-- What a part of other bytes has for a type inline these bytes have, at the type's own place.
+pub twin-placed : (deepest : List ℕ) (first last : ℕ) (p : Part) → first ≤ p.at → p.at + length p.bytes ≤ last → last ≤ length deepest
+    → TwinAt first (part_from first last deepest) (some p) → Alike SameAtLast (cut p) (cut (◌from◌ p.at (part_from p.at (p.at + length p.bytes) deepest)))
+twin-placed deepest first last p h j k twin =
+    let a = p.at - first in
+    let b = a + length p.bytes in
+    let long = part-long deepest first last (omega arith) k in
+    let begins : first + a ≡ p.at = omega arith in
+    let ends : first + b ≡ p.at + length p.bytes = omega arith in
+    let same : part_from a b (part_from first last deepest) ≡ part_from p.at (p.at + length p.bytes) deepest =
+    part-part deepest first last a b (omega arith) (omega (arith, long))
+    ∙ ap (λ (n : ℕ). part_from n (first + b) deepest) begins
+    ∙ ap (λ (n : ℕ). part_from p.at n deepest) ends in
+    subst (λ (l : List ℕ). Alike SameAtLast (cut p) (cut (◌from◌ p.at l))) same twin

@@ -13,11 +13,13 @@ use Rattle.foundation.specs.Texts.{Text}
 use Rattle.foundation.proofs.PresenceLaws.{elem_none, elem_there}
 use Rattle.wire.specs.Wire.{Message}
 use Rattle.messages.specs.told.Asked.{index_told}
+use Rattle.characters.specs.told.Places.{part_from}
 use Rattle.names.specs.told.Index.{start_of, end_of, UnpackedTold}
 use Rattle.names.specs.Names.{Names, strings_from, d2_string}
 use Rattle.schema.specs.Reading.{pure, lift}
+use Rattle.schema.specs.told.Alike.{SameAtLast, JoinedAs, DeepestOf}
 use Rattle.schema.specs.told.SchemaTold.{EntryAt, EntriesOf, NamesOf}
-use Rattle.schema.specs.told.TypesTold.{EntryInside, EntryBelow, EntryTold}
+use Rattle.schema.specs.told.TypesTold.{EntryInside, EntryBelow, EntryPlaced, EntryTold}
 use Rattle.std.specs.declared.option.Option as rust
 use Rattle.std.specs.declared.option.Option.TheVariants.{Some, None}
 use Rattle.foundation.specs.declared.Span.{Span}
@@ -81,3 +83,12 @@ entry_in payload entries count i t g = subst (EntryInside payload) g t.inside
 pub entry_below : (payload entries : List ℕ) (count i : ℕ) {x : rust.Option Span} → EntryTold payload entries count i x → {a b : ℕ} → x ≡ Some (span a b)
     → i < count
 entry_below payload entries count i t g = subst (EntryBelow count i) g t.below
+
+-- As it is joined where no look-up is left.
+pub entry_joined : (payload entries : List ℕ) (count i : ℕ) {x : rust.Option Span} → EntryTold payload entries count i x → {a b : ℕ} → x ≡ Some (span a b)
+    → {deepest : List ℕ} → DeepestOf payload deepest entries count → JoinedAs SameAtLast (part_from a b payload) (part_from a b deepest)
+entry_joined payload entries count i t {a} {b} g d =
+    let entry = get_or entries i 0 in
+    let inside = entry_in payload entries count i t g in
+    let place : (a ≡ start_of entry) × (b ≡ end_of entry) = subst (EntryPlaced payload entries count i) g t.placed in
+    rw (place.0, place.1) (d.each i (entry_below payload entries count i t g) (rw (← place.0, ← place.1) inside.0) (rw (← place.1) inside.1))

@@ -36,7 +36,7 @@ module _ {payload msg : List ℕ} {base : ℕ} (s : Stands payload msg base) whe
 
   -- a body inside it stands as much later
   module _ (a b : ℕ) (h : a ≤ b) (k : b ≤ length msg) where
-    body-part : take (b - a) (drop a msg) ≡ part_from (base + a) (base + b) payload
+    pub body-part : take (b - a) (drop a msg) ≡ part_from (base + a) (base + b) payload
     body-part =
         let long : length (part_from base (base + length msg) payload) ≡ length msg = sym (ap length s.is) in
         ap (λ (l : List ℕ). take (b - a) (drop a l)) s.is ∙ part-part payload base (base + length msg) a b h (omega arith)

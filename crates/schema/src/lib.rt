@@ -62,9 +62,11 @@ pub struct Reached {
     pub left: usize,
 }
 
-// Where the message of a type stands among the decoded bytes, and how it is reached.
+// Where the message of a type stands among the decoded bytes, how it is reached, and whether it is an entry of the type table. If not, it is inline in the
+// message that was looked at.
 #[derive(Clone, Copy)]
 pub struct FoundType {
     pub part: Span,
     pub reached: Reached,
+    pub is_entry: bool,
 }

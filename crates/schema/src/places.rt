@@ -1,8 +1,8 @@
 // Where the message of a type stands among the decoded bytes: a declaration's own type, and the first kept argument of a type. What a
 // reading has accepted is found again, and nothing is refused. What is told: specs/told/PlacesTold.antt.
-ghost use Rattle.std.specs.Prelude.{◌≡◌, false, ◌+◌, ◌^◌, ◌<◌, ◌≤◌, length};
+ghost use Rattle.std.specs.Prelude.{◌≡◌, false, List, ℕ, ◌+◌, ◌^◌, ◌<◌, ◌≤◌, length};
 ghost use Rattle.schema.specs.told.SchemaTold.{Stands};
-ghost use Rattle.schema.specs.told.PlacesTold.{found_type, EntryFound, PlaceFound, DeclaredFound, ArgumentFound};
+ghost use Rattle.schema.specs.told.PlacesTold.{read_in, found_type, EntryFound, PlaceFound, DeclaredFound, ArgumentFound};
 
 use crate::argument::{ArgumentHead, argument_head};
 use crate::types::{entry_at, is_nullable};
@@ -10,6 +10,17 @@ use crate::{FoundType, MAX_DEPTH, Reached, TypeSlot};
 use fields::TYPE_ARGUMENT;
 use foundation::{Context, Located, Span};
 use messages::{bodies_from, bytes, index};
+
+// The bytes among which a type is read. One in the type table, an entry or inline in one, that leaves no look-up to its arguments is read where entries are
+// joined for that: arguments by an index, of which there may be thousands, are not there.
+pub fn bytes_of_type<'a>(in_table: bool, left: usize, context: &Context<'a>) -> &'a [u8]
+    ensures { result.now ≡ read_in context.now.payload.now context.now.deepest.now in_table left }
+{
+    if in_table && left <= 1 {
+        return context.deepest;
+    }
+    context.payload
+}
 
 // The type at an index of the type table.
 fn entry_place(index: u32, left: usize, context: &Context<'_>) -> Option<FoundType>
@@ -27,13 +38,14 @@ fn entry_place(index: u32, left: usize, context: &Context<'_>) -> Option<FoundTy
     Some(FoundType {
         part: entry,
         reached,
+        is_entry: true,
     })
 }
 
 // The type in a part of a message, which stands at `base`.
 fn inline_place(base: usize, body: Span, left: usize) -> FoundType
     requires { (body.start ≤ body.end) × (base + body.end < 2 ^ 64) }
-    ensures { result ≡ found_type (base + body.start) (base + body.end) false left }
+    ensures { result ≡ found_type (base + body.start) (base + body.end) false left false }
 {
     let reached = Reached {
         nullable: false,
@@ -42,6 +54,7 @@ fn inline_place(base: usize, body: Span, left: usize) -> FoundType
     FoundType {
         part: body.moved(base),
         reached,
+        is_entry: false,
     }
 }
 
@@ -53,7 +66,7 @@ fn type_place(
     context: &Context<'_>,
 ) -> Option<FoundType>
     requires { Stands context.now.payload.now msg.bytes.now msg.base × (length context.now.payload.now ≤ 32768) }
-    ensures { PlaceFound context.now.payload.now context.now.notes.now context.now.tables msg.entry.base (msg.entry.base + length msg.entry.bytes.now) slot.inline slot.indexed left result }
+    ensures { PlaceFound context.now.payload.now context.now.payload.now context.now.notes.now context.now.tables msg.entry.base (msg.entry.base + length msg.entry.bytes.now) slot.inline slot.indexed left result }
 {
     if let Some(body) = bytes(msg, slot.inline) {
         return Some(inline_place(msg.base, body, left));
@@ -72,11 +85,12 @@ pub fn declared_place(msg: Located<'_>, slot: TypeSlot, context: &Context<'_>) -
     type_place(msg, slot, MAX_DEPTH, context)
 }
 
-// The first kept argument of a type, in its message; `left` is what is left of the depth at its arguments. There is nothing to find of a star.
-// Callers show the same: descriptors::erased cuts the message out of the payload, whose limit its `PartRoom` has.
+// The first kept argument of a type, in its message; `left` is what is left of the depth at its arguments. There is nothing to find of a star. The message
+// stands among the decoded bytes, or among others that are as many (`bytes_of_type`).
+// Callers show that it ends where the payload does at the latest: descriptors::erased cuts it out of bytes as long, whose limit its `PartRoom` has.
 pub fn first_argument(msg: Located<'_>, left: usize, context: &Context<'_>) -> Option<FoundType>
-    requires { Stands context.now.payload.now msg.bytes.now msg.base × (length context.now.payload.now ≤ 32768) }
-    ensures { ArgumentFound context.now.payload.now context.now.notes.now context.now.tables msg.entry.base (msg.entry.base + length msg.entry.bytes.now) left result }
+    requires { (msg.base + length msg.bytes.now ≤ length context.now.payload.now) × (length context.now.payload.now ≤ 32768) }
+    ensures { (source : List ℕ) → length source ≡ length context.now.payload.now → Stands source msg.entry.bytes.now msg.entry.base → ArgumentFound source context.now.payload.now context.now.notes.now context.now.tables msg.entry.base (msg.entry.base + length msg.entry.bytes.now) left result }
 {
     for argument in bodies_from(msg, TYPE_ARGUMENT, 0) {
         let part = msg.part(argument);

@@ -3,6 +3,7 @@ pub mod ReadingLaws
 pub mod NameMarks
 pub mod ListMarks
 pub mod FieldMarks
+pub mod TwinMarks
 pub mod TypeMarks
 pub mod BodyMarks
 pub mod UsedLaws

@@ -1,7 +1,7 @@
 -- The walk over the messages of a list: from here on it marks what is right from the start.
 -- Assumes nothing.
-use mathlib.Core.Path.{◌≡◌, ap, sym, subst, ◌∙◌}
-use mathlib.Core.List.{List, []}
+use mathlib.Core.Path.{◌≡◌, refl, ap, sym, subst, ◌∙◌}
+use mathlib.Core.List.{List, [], ◌∷◌, ◌++◌, append_assoc}
 use mathlib.Core.Option.{Option}
 use Prim.Native.Nat.{ℕ, ◌+◌, ◌-◌}
 use lib.ListN.{take, drop}
@@ -25,11 +25,19 @@ use Rattle.strings.proofs.Agree.{Lookup}
 use Rattle.string_marks.specs.told.MarksTold.{Marks, scope_by, strings_in, MarksIn}
 use Rattle.string_marks.proofs.MarkLaws.{marks-kept, marks-none-kept, marks-each, marks-always, marks-cut, marks-list_in}
 
+-- A message is one of some.
+pub record Among (m : Message) (all : List Message) : Type 0 where
+  pub before : List Message
+  pub after : List Message
+  pub are : all ≡ before ++ (m ∷ after)
+
 -- What is left of a list's messages at a place: where they are marked, all are.
 pub record Going {A : Type 0} (ss : List (List ℕ)) (f : Lookup → Message → Read (Option A)) (number base : ℕ) (msg : List ℕ) (all : List Message) (used₀ : List ℕ)
     (at : ℕ) (used : List ℕ) : Type 0 where
   pub rest : Message
+  pub passed : List Message
   pub left : List Message
+  pub are : all ≡ passed ++ left
   pub cuts : cut (rest_of base msg at) ≡ ok rest
   pub many : cut_all (bodies number rest) ≡ ok left
   pub goes : (used' : List ℕ) → Marks ss (λ s. kept (f s) left) used used' → Marks ss (λ s. kept (f s) all) used₀ used'
@@ -37,7 +45,15 @@ pub record Going {A : Type 0} (ss : List (List ℕ)) (f : Lookup → Message →
 module _ {A : Type 0} (ss : List (List ℕ)) (f : Lookup → Message → Read (Option A)) (number base : ℕ) (msg : List ℕ) (all : List Message) (used₀ : List ℕ) where
   going_start : (m : Message) → cut (◌from◌ base msg) ≡ ok m → messages number m ≡ ok all → Going ss f number base msg all used₀ 0 used₀
   unfolding messages
-  going_start m k h = record { rest = m; left = all; cuts = ap cut (whole base msg) ∙ k; many = h; goes = λ used' w. w }
+  going_start m k h = record {
+    rest = m;
+    passed = [];
+    left = all;
+    are = refl;
+    cuts = ap cut (whole base msg) ∙ k;
+    many = h;
+    goes = λ used' w. w;
+  }
 
   module _ (at : ℕ) (used : List ℕ) (g : Going ss f number base msg all used₀ at used) {x : rust.Option Span} (t : NextBodyTold base msg number at x) where
     next_is : {y : rust.Option Span} → x ≡ y → NextIs base msg number g.rest y
@@ -53,18 +69,26 @@ module _ {A : Type 0} (ss : List (List ℕ)) (f : Lookup → Message → Read (O
       the_first : First (part_between base msg a b) (bodies number (next_is e).0) g.left
       the_first = cut-first (part_between base msg a b) (bodies number (next_is e).0) g.left (ap cut_all (sym (next_is e).2) ∙ g.many)
 
-      going_next : {used₁ : List ℕ} → ((m : Message) → cut (part_between base msg a b) ≡ ok m → Marks ss (λ s. f s m) used used₁)
+      the_are : all ≡ g.passed ++ (the_first.first ∷ the_first.others)
+      the_are = g.are ∙ ap (λ (l : List Message). g.passed ++ l) the_first.are
+
+      the_among : Among the_first.first all
+      the_among = record { before = g.passed; after = the_first.others; are = the_are }
+
+      going_next : {used₁ : List ℕ} → ((m : Message) → cut (part_between base msg a b) ≡ ok m → Among m all → Marks ss (λ s. f s m) used used₁)
           → Going ss f number base msg all used₀ b used₁
       unfolding the_first
       going_next {used₁} h = record {
         rest = (next_is e).0;
+        passed = g.passed ++ (the_first.first ∷ []);
         left = the_first.others;
+        are = the_are ∙ sym (append_assoc g.passed (the_first.first ∷ []) the_first.others);
         cuts = (next_is e).1;
         many = the_first.many;
         goes = λ used' k.
             g.goes used' (
             subst (λ (l : List Message). Marks ss (λ s. kept (f s) l) used used') (sym the_first.are)
-            (marks-kept f the_first.first the_first.others (h the_first.first the_first.cuts) k));
+            (marks-kept f the_first.first the_first.others (h the_first.first the_first.cuts the_among) k));
       }
 
 -- The same with every name table and type table that are noted.
@@ -81,12 +105,21 @@ module _ {A : Type 0} {e : Lent} {base : ℕ} {msg : List ℕ} {number : ℕ} {r
   }
 
   module _ {u : List ℕ} {at : ℕ} {v : List ℕ} (g : Looping e base msg number read u at v) {x : rust.Option Span} (t : NextBodyTold base msg number at x) where
+    -- One message, of which something may be known that is known of all.
+    pub looping_among : {a b : ℕ} → x ≡ Some (span a b) → {w : List ℕ}
+        → ((records : List Record) (table : TypeTable) → Scoped e (scope_by records table (d2_string (strings_in e))) → (m : Message)
+        → cut (◌from◌ base msg) ≡ ok m → (all : List Message) → messages number m ≡ ok all → (n : Message) → cut (part_between base msg a b) ≡ ok n → Among n all
+        → Marks (strings_in e) (λ s. read (scope_by records table s) n) v w)
+        → Looping e base msg number read u b w
+    looping_among p h = record {
+      is = λ records table o m c all q.
+          let going = g.is records table o m c all q in
+          going_next (strings_in e) (λ s. read (scope_by records table s)) number base msg all u at v going t p (h records table o m c all q);
+    }
+
     pub looping_next : {a b : ℕ} → x ≡ Some (span a b) → {w : List ℕ} → MarksIn e (base + a) (take (b - a) (drop a msg)) read v w
         → Looping e base msg number read u b w
-    looping_next p h = record {
-      is = λ records table o m c all q.
-          going_next (strings_in e) (λ s. read (scope_by records table s)) number base msg all u at v (g.is records table o m c all q) t p λ n k. h.is records table o n k;
-    }
+    looping_next p h = looping_among p λ records table o m c all q n k among. h.is records table o n k
 
     pub looping_end : x ≡ None → (records : List Record) (table : TypeTable) → Scoped e (scope_by records table (d2_string (strings_in e))) → (m : Message)
         → cut (◌from◌ base msg) ≡ ok m → (all : List Message) → messages number m ≡ ok all

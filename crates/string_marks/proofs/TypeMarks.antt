@@ -5,7 +5,7 @@ use mathlib.Core.Logic.{◌⊎◌, inl, inr}
 use mathlib.Core.Bool.{Bool, true, false}
 use mathlib.Core.List.{List}
 use mathlib.Core.Option.{none, some}
-use native.Mathlib.Nat.{suc-mul, mul-le-mul_right}
+use native.Mathlib.Nat.{le_refl, suc-mul, mul-le-mul_right}
 use Prim.Native.Nat.{ℕ, zero, suc, ◌+◌, ◌-◌, ◌*◌, ◌≤◌, ◌<◌}
 use native.Mathlib.Omega.{arith}
 use lib.Dec.{ltb}
@@ -24,6 +24,10 @@ use Rattle.wire.specs.Messages.{index, bytes_of, cut_option, message, messages}
 use Rattle.wire.specs.told.WireTold.{part_between}
 use Rattle.messages.specs.told.Asked.{index_told, piece_told, span, BytesTold, NextBodyTold}
 use Rattle.wire.proofs.WalkLaws.{ok_same}
+use Rattle.characters.specs.told.Places.{part_from}
+use Rattle.characters.proofs.PartLaws.{part-short, part-long}
+use Rattle.schema.specs.told.Alike.{Alike, SameAtLast}
+use Rattle.schema.proofs.AlikeLaws.{alike-given}
 use Rattle.schema.proofs.FoundLaws.{bind_given}
 use Rattle.declaration_rows.specs.Declarations.{star}
 use Rattle.schema.specs.Reading.{pure, ◌>>=◌, kept, Scope, class_name_in, allowance}
@@ -34,15 +38,14 @@ use Rattle.schema.specs.told.ArgumentTold.{NoStar, ArgumentHeadIs, ArgumentHeadI
 use Rattle.schema.specs.declared.argument.Projection.{Projection}
 use Rattle.schema.specs.declared.argument.ArgumentHead.{ArgumentHead}
 use Rattle.schema.specs.declared.argument.ArgumentHead.TheVariants as argument
-use Rattle.names.specs.Names.{d2_string}
-use Rattle.type_references.proofs.TwinLaws.{entry-twin}
 use Rattle.joined_types.proofs.DeepestLaws.{last-type_at}
 use Rattle.strings.proofs.Agree.{Lookup}
-use Rattle.string_marks.specs.told.MarksTold.{Marks, scope_by, strings_in, NameMarked, TypeMarked, ArgumentMarked, LookedMarked, DeclaredMarked}
-use Rattle.string_marks.specs.told.InnerTold.{steps, EntryInner, ArgumentInner}
+use Rattle.string_marks.specs.told.MarksTold.{Marks, scope_by, strings_in, NameMarked, PartTwin, TypeTwin, TypeMarked, ArgumentMarked, LookedMarked, DeclaredMarked}
+use Rattle.string_marks.specs.told.InnerTold.{steps, TableInside, PartInner, EntryInner, ArgumentInner}
 use Rattle.string_marks.specs.declared.types.Inner.{Inner}
 use Rattle.string_marks.proofs.MarkLaws.{marks-same, marks-refused, marks-alike, marks_bind, marks-made, marks-cut, marks-enter}
-use Rattle.string_marks.proofs.ListMarks.{Looping, looping_start, looping_next, looping_end}
+use Rattle.string_marks.proofs.ListMarks.{Looping, looping_start, looping_among, looping_end}
+use Rattle.string_marks.proofs.TwinMarks.{placed-itself, entry-placed, inline-twin}
 
 -- The definitions of a type, by any look-up.
 module _ {ss : List (List ℕ)} (w : Lookup → Walk) (c : Lookup → Scope) (d : ℕ) where
@@ -103,82 +106,89 @@ argument-falls left left' n a b msg part e f g h k =
     let p : left' ≤ left = omega arith in
     omega (arith, e, mul-le-mul_right (suc n) p, short a b msg part g, h)
 
-inline-falls : (left n a b : ℕ) (msg part : List ℕ) → part ≡ take (b - a) (drop a msg) → b ≤ length msg → steps left n (length part) ≤ steps left n (length msg)
+-- What goes no further than a walk of a part goes no further than one of the message around it, or of an entry than the look-up.
+inline-falls : (left n a b m : ℕ) (msg : List ℕ) → b ≤ length msg → m ≤ steps left n (length (part_from a b msg)) → m ≤ steps left n (length msg)
 unfolding steps
-inline-falls left n a b msg part g h = omega (arith, short a b msg part g)
+inline-falls left n a b m msg h g = omega (arith, part-short msg a b, g)
 
-entry-falls : (left n a b : ℕ) (bytes part : List ℕ) → (left ≡ 0 → ⊥) → part ≡ take (b - a) (drop a bytes) → b ≤ n → steps (left - 1) n (length part) ≤ steps left n 0
+entry-falls : (left n a b m : ℕ) (bytes : List ℕ) → (left ≡ 0 → ⊥) → b ≤ n → m ≤ steps (left - 1) n (length (part_from a b bytes)) → m ≤ steps left n 0
 unfolding steps
-entry-falls zero n a b bytes part z g h = absurd (z refl)
-entry-falls (suc left) n a b bytes part z g h =
+entry-falls zero n a b m bytes z h g = absurd (z refl)
+entry-falls (suc left) n a b m bytes z h g =
     let q : (suc left - 1) * suc n ≡ left * suc n = ap (λ (x : ℕ). x * suc n) (omega arith) in
-    omega (arith, q, suc-mul left (suc n), short a b bytes part g, h)
+    omega (arith, q, suc-mul left (suc n), part-short bytes a b, h, g)
+
+same-falls : (left n a b : ℕ) → a ≡ b → steps left n a ≤ steps left n b
+same-falls left n a b e = rw e (le_refl (steps left n b))
 
 looked-falls : (left n bytes : ℕ) → steps left n 0 ≤ steps left n bytes
 unfolding steps
 looked-falls left n bytes = omega arith
 
 -- The loop over a type's arguments, which stand one deeper.
-pub ArgumentsLooping : Lent → ℕ → List ℕ → (left : ℕ) → (used₀ : List ℕ) → (at : ℕ) → (used : List ℕ) → Type 0
-ArgumentsLooping e base msg left used₀ at used =
-    (k d : ℕ) → left ≡ max_depth - d → Looping e base msg Type-argument (λ c. argument_in (type_at k c) c (d + 1)) used₀ at used
+pub ArgumentsLooping : Lent → ℕ → List ℕ → (left : ℕ) → (in_table : Bool) → (used₀ : List ℕ) → (at : ℕ) → (used : List ℕ) → Type 0
+ArgumentsLooping e base msg left in_table used₀ at used =
+    TypeTwin e in_table base msg → (k d : ℕ) → left ≡ max_depth - d → Looping e base msg Type-argument (λ c. argument_in (type_at k c) c (d + 1)) used₀ at used
 
-module _ (e : Lent) (base : ℕ) (msg : List ℕ) (left : ℕ) where
-  pub arguments-start : (u : List ℕ) → ArgumentsLooping e base msg left u 0 u
+module _ (e : Lent) (base : ℕ) (msg : List ℕ) (left : ℕ) (in_table : Bool) where
+  pub arguments-start : (u : List ℕ) → ArgumentsLooping e base msg left in_table u 0 u
   unfolding ArgumentsLooping
-  arguments-start u k d h = looping_start
+  arguments-start u y k d h = looping_start
 
-  module _ (u : List ℕ) (at : ℕ) (v : List ℕ) (g : ArgumentsLooping e base msg left u at v) {x : rust.Option Span} (t : NextBodyTold base msg Type-argument at x) where
-    pub arguments-next : {a b : ℕ} → x ≡ Some (span a b) → {w : List ℕ} → ArgumentMarked e (base + a) (take (b - a) (drop a msg)) (left - 1) v w
-        → ArgumentsLooping e base msg left u b w
+  module _ (u : List ℕ) (at : ℕ) (v : List ℕ) (g : ArgumentsLooping e base msg left in_table u at v) {x : rust.Option Span}
+      (t : NextBodyTold base msg Type-argument at x) where
+    pub arguments-next : TableInside e in_table base msg → {a b : ℕ} → x ≡ Some (span a b) → {w : List ℕ}
+        → ArgumentMarked e (base + a) (take (b - a) (drop a msg)) (left - 1) in_table v w → ArgumentsLooping e base msg left in_table u b w
     unfolding ArgumentsLooping
-    arguments-next p h k d q = looping_next (g k d q) t p (h k (d + 1) (omega (arith, q)))
+    arguments-next inside {a} {b} p h y k d q =
+        looping_among (g y k d q) t p λ records table o m c ms z n f among.
+        (h (inline-twin e in_table o.deepest.many base msg inside y m c ms z a b n f among) k (d + 1) (omega (arith, q))).is records table o n f
 
     -- A type: all of its arguments are marked, and then its name.
-    pub type-marked : x ≡ None → {w : List ℕ} → NameMarked e base msg Type-class_name v w → TypeMarked e base msg left u w
+    pub type-marked : x ≡ None → {w : List ℕ} → NameMarked e base msg Type-class_name v w → TypeMarked e base msg left in_table u w
     unfolding ArgumentsLooping
-    type-marked p h k d q = record {
+    type-marked p h y k d q = record {
       is = λ records table o m c.
           levels (scope_by records table) m d k λ j.
-          parse-marks (λ s. type_at j (scope_by records table s)) (scope_by records table) d m (looping_end (g j d q) t p records table o m c)
+          parse-marks (λ s. type_at j (scope_by records table s)) (scope_by records table) d m (looping_end (g y j d q) t p records table o m c)
           (h.class.is records table o m c);
     }
 
 -- An argument, by what one walk of its message tells.
-module _ (e : Lent) (base : ℕ) (msg : List ℕ) (left : ℕ) {r : ArgumentHead} (t : ArgumentHeadTold base msg r) where
+module _ (e : Lent) (base : ℕ) (msg : List ℕ) (left : ℕ) (in_table : Bool) {r : ArgumentHead} (t : ArgumentHeadTold base msg r) where
   head-is : {y : ArgumentHead} → r ≡ y → (m : Message) → cut (◌from◌ base msg) ≡ ok m → ArgumentHeadIs base msg m y
   head-is q m c = subst (ArgumentHeadIs base msg m) q (t.is m c)
 
-  argument-star-marked : r ≡ argument.Star → (u : List ℕ) → ArgumentMarked e base msg left u u
-  argument-star-marked q u k d h = record {
+  argument-star-marked : r ≡ argument.Star → (u : List ℕ) → ArgumentMarked e base msg left in_table u u
+  argument-star-marked q u y k d h = record {
     is = λ records table o m c. argument-star (λ s. type_at k (scope_by records table s)) (scope_by records table) d m u (head-is q m c);
   }
 
-  argument-nothing-marked : r ≡ argument.Nothing → (u : List ℕ) → ArgumentMarked e base msg left u u
-  argument-nothing-marked q u k d h = record {
+  argument-nothing-marked : r ≡ argument.Nothing → (u : List ℕ) → ArgumentMarked e base msg left in_table u u
+  argument-nothing-marked q u y k d h = record {
     is = λ records table o m c.
         let n = head-is q m c in
         argument-typed (λ s. type_at k (scope_by records table s)) (scope_by records table) d m n.0 (
         type-in-nothing (λ s. type_at k (scope_by records table s)) (scope_by records table) d Type-Argument-type Type-Argument-type_id m u n.1 n.2);
   }
 
-  argument-unread-marked : (r ≡ argument.Star) ⊎ (r ≡ argument.Nothing) → (u : List ℕ) → ArgumentMarked e base msg left u u
+  argument-unread-marked : (r ≡ argument.Star) ⊎ (r ≡ argument.Nothing) → (u : List ℕ) → ArgumentMarked e base msg left in_table u u
   argument-unread-marked (inl q) u = argument-star-marked q u
   argument-unread-marked (inr q) u = argument-nothing-marked q u
 
   argument-inline-marked : {p : Projection} {b : Span} → r ≡ argument.Inline p b → {u v : List ℕ}
-      → TypeMarked e (base + b.start) (take (b.end - b.start) (drop b.start msg)) left u v → ArgumentMarked e base msg left u v
-  argument-inline-marked {p} {b} q g k d h = record {
+      → TypeMarked e (base + b.start) (take (b.end - b.start) (drop b.start msg)) left in_table u v → ArgumentMarked e base msg left in_table u v
+  argument-inline-marked {p} {b} q g y k d h = record {
     is = λ records table o m c.
         let n = head-is q m c in
         argument-typed (λ s. type_at k (scope_by records table s)) (scope_by records table) d m n.0 (
         type-in-inline (λ s. type_at k (scope_by records table s)) (scope_by records table) d Type-Argument-type Type-Argument-type_id m
-        (part_between base msg b.start b.end) n.1 λ inner i. (g k d h).is records table o inner i);
+        (part_between base msg b.start b.end) n.1 λ inner i. (g (λ z. subst (PartTwin e) n.1 (y z m c)) k d h).is records table o inner i);
   }
 
   argument-indexed-marked : {p : Projection} {i : ℕ} → r ≡ argument.ByIndex p i → {u v : List ℕ} → LookedMarked e i left u v
-      → ArgumentMarked e base msg left u v
-  argument-indexed-marked {p} {i} q g k d h = record {
+      → ArgumentMarked e base msg left in_table u v
+  argument-indexed-marked {p} {i} q g y k d h = record {
     is = λ records table o m c.
         let n = head-is q m c in
         argument-typed (λ s. type_at k (scope_by records table s)) (scope_by records table) d m n.0 (
@@ -204,14 +214,15 @@ module _ (e : Lent) (i left : ℕ) {r : rust.Option Span} (t : EntryTold e.paylo
       go n false = marks-same (pure none) u
 
   -- else what stands there, one deeper.
-  entry-marked : {p : Span} → r ≡ Some p → (left ≡ 0 → ⊥) → {u v : List ℕ} → TypeMarked e p.start (take (p.end - p.start) (drop p.start e.payload)) (left - 1) u v
+  entry-marked : {p : Span} → r ≡ Some p → (left ≡ 0 → ⊥) → {u v : List ℕ} → TypeMarked e p.start (part_from p.start p.end e.payload) (left - 1) true u v
       → LookedMarked e i left u v
   unfolding resolve_at
   entry-marked {p} q z {u} {v} g k d h records table o =
       let n = subst (EntryIs e.payload (get_elem? table.types i)) q (t.is table.types o.entries) in
       let inside : d < max_depth = not-deep z h in
       rw (lt-ltb d max_depth inside, n.1)
-      (marks-made (λ ty. pure (some (nullable_from table.first_nullable i ty))) ((g k (d + 1) (omega (arith, h))).is records table o n.0 n.2))
+      (marks-made (λ ty. pure (some (nullable_from table.first_nullable i ty)))
+      ((g (λ y. entry-placed e t q o.deepest) k (d + 1) (omega (arith, h))).is records table o n.0 n.2))
     where
       not-deep : {left d : ℕ} → (left ≡ 0 → ⊥) → left ≡ max_depth - d → d < max_depth
       not-deep {left} {d} z h = go (ltb d max_depth) refl
@@ -220,78 +231,121 @@ module _ (e : Lent) (i left : ℕ) {r : rust.Option Span} (t : EntryTold e.paylo
           go true e = ltb-true d max_depth e
           go false e = absurd (z (omega (arith, h, ltb-false d max_depth e)))
 
--- What is found in another message or in the type table, by where it stands.
-module _ (e : Lent) (left : ℕ) {b b' : ℕ} {s s' : List ℕ} where
-  moved : b ≡ b' → s ≡ s' → {u v : List ℕ} → TypeMarked e b s left u v → TypeMarked e b' s' left u v
-  moved p q {u} {v} g = subst (λ (x : ℕ). TypeMarked e x s' left u v) p (subst (λ (x : List ℕ). TypeMarked e b x left u v) q g)
+-- What is marked of a type by where it stands.
+module _ (e : Lent) (left : ℕ) (in_table : Bool) {b b' : ℕ} {s s' : List ℕ} where
+  moved : b ≡ b' → s ≡ s' → {u v : List ℕ} → TypeMarked e b s left in_table u v → TypeMarked e b' s' left in_table u v
+  moved p q {u} {v} g =
+      subst (λ (x : ℕ). TypeMarked e x s' left in_table u v) p (subst (λ (x : List ℕ). TypeMarked e b x left in_table u v) q g)
+
+  moved-inside : b ≡ b' → s ≡ s' → TableInside e in_table b' s' → TableInside e in_table b s
+  moved-inside p q g = rw (p, q) g
+
+-- A type in a part of a message, which lies in the decoded bytes if it stands in the type table.
+module _ (e : Lent) (base : ℕ) (msg : List ℕ) (left : ℕ) (in_table : Bool) (inside : TableInside e in_table base msg) (a b : ℕ) (h : a ≤ b)
+    (k : b ≤ length msg) where
+  part-inside : TableInside e in_table (base + a) (part_from a b msg)
+  part-inside y = omega (arith, inside y, part-short msg a b, h, k)
+
+  -- Where a look-up is left, and of any other type, it is read as it stands.
+  pub part-found : (x : Located) → (x.base ≡ base + a) × (x.bytes.now ≡ part_from a b msg)
+      → PartInner e (base + a) (part_from a b msg) left in_table (record { msg = x; left = left; in_table = in_table })
+  part-found x w = record {
+    falls = same-falls left (length e.payload) (length x.bytes.now) (length (part_from a b msg)) (ap length w.1);
+    inside = moved-inside e left in_table w.0 w.1 part-inside;
+    is = λ u v g. moved e left in_table w.0 w.1 g;
+  }
+
+  -- Else what stands at its place of the bytes that are for that is read the same.
+  module _ (y : in_table ≡ true) (many : length e.deepest ≡ length e.payload) (few : left ≤ 1) where
+    abbrev last : List ℕ
+    last = part_from (base + a) (base + b) e.deepest
+
+    ends : base + b ≤ length e.deepest
+    ends = omega (arith, inside y, k, many)
+
+    last-long : length last ≡ length (part_from a b msg)
+    last-long = part-long e.deepest (base + a) (base + b) (omega (arith, h)) ends ∙ (omega arith ∙ sym (part-long msg a b h k))
+
+    last-twin : TypeTwin e in_table (base + a) (part_from a b msg) → Alike SameAtLast (cut (part_between base msg a b)) (cut (◌from◌ (base + a) last))
+    last-twin z =
+        let end : base + a + length (part_from a b msg) ≡ base + b = omega (arith, part-long msg a b h k, h) in
+        subst (λ (n : ℕ). Alike SameAtLast (cut (part_between base msg a b)) (cut (◌from◌ (base + a) (part_from (base + a) n e.deepest)))) end (z y)
+
+    last-marked : {u v : List ℕ} → TypeMarked e (base + a) last left in_table u v → TypeMarked e (base + a) (part_from a b msg) left in_table u v
+    last-marked g z l d q = record {
+      is = λ records table o m c.
+          let twin = alike-given SameAtLast (last-twin z) c in
+          let itself = placed-itself e (base + a) (base + b) last (omega (arith, h)) ends refl in
+          marks-alike (λ s. type_at l (scope_by records table s) d twin.0) (λ s. type_at l (scope_by records table s) d m)
+          (λ s n. sym (last-type_at l (scope_by records table s) d m twin.0 (omega (arith, few, q)) twin.2 n))
+          ((g (λ t. itself) l d q).is records table o twin.0 twin.1);
+    }
+
+    pub part-found-last : (s : Span) → (s.start ≡ a + base) × (s.end ≡ b + base) → (x : Located)
+        → (x.base ≡ s.start) × (x.bytes.now ≡ part_from s.start s.end e.deepest)
+        → PartInner e (base + a) (part_from a b msg) left in_table (record { msg = x; left = left; in_table = in_table })
+    part-found-last s p x w =
+        let start : s.start ≡ base + a = omega (arith, p.0) in
+        let end : s.end ≡ base + b = omega (arith, p.1) in
+        let at : x.base ≡ base + a = w.0 ∙ start in
+        let is : x.bytes.now ≡ last = w.1 ∙ ap (λ (n : ℕ). part_from n s.end e.deepest) start ∙ ap (λ (n : ℕ). part_from (base + a) n e.deepest) end in
+        record {
+          falls = same-falls left (length e.payload) (length x.bytes.now) (length (part_from a b msg)) (ap length is ∙ last-long);
+          inside = λ t. omega (arith, at, ap length is, last-long, part-inside t);
+          is = λ u v g. last-marked (moved e left in_table at is g);
+        }
 
 pub entry-too-deep : (e : Lent) (i left : ℕ) → left ≡ 0 → EntryInner e i left None
-entry-too-deep e i left z = record { falls = tt; is = too-deep-marked e i left z }
+entry-too-deep e i left z = record { falls = tt; inside = tt; is = too-deep-marked e i left z }
 
 module _ (e : Lent) (i left : ℕ) {r : rust.Option Span} (t : EntryTold e.payload (entries_in e.tables e.notes) e.tables.types i r) where
   pub entry-absent : r ≡ None → EntryInner e i left None
-  entry-absent q = record { falls = tt; is = no-entry-marked e i left t q }
+  entry-absent q = record { falls = tt; inside = tt; is = no-entry-marked e i left t q }
 
-  module _ {p : Span} (q : r ≡ Some p) (z : left ≡ 0 → ⊥) where
-    falls-to : (bytes part : List ℕ) → part ≡ take (p.end - p.start) (drop p.start bytes) → steps (left - 1) (length e.payload) (length part) ≤ steps left (length e.payload) 0
-    falls-to bytes part w = entry-falls left (length e.payload) p.start p.end bytes part z w (subst (EntryInside e.payload) q t.inside).1
-
-    pub entry-found : (msg : Located) → (msg.base ≡ p.start) × (msg.bytes.now ≡ take (p.end - p.start) (drop p.start e.payload))
-        → EntryInner e i left (Some (record { msg = msg; left = left - 1 }))
-    entry-found msg w = record {
-      falls = falls-to e.payload msg.bytes.now w.1;
-      is = λ u v g. entry-marked e i left t q z (moved e (left - 1) w.0 w.1 g);
-    }
-
-    -- Where no look-up is left to its arguments, what stands there among the other bytes is read the same.
-    last-marked : left - 1 ≤ 1 → {u v : List ℕ} → TypeMarked e p.start (take (p.end - p.start) (drop p.start e.deepest)) (left - 1) u v
-        → TypeMarked e p.start (take (p.end - p.start) (drop p.start e.payload)) (left - 1) u v
-    last-marked few g k d h = record {
-      is = λ records table o m c.
-          let twin = entry-twin e t q (scope_by records table (d2_string (strings_in e))) o m c in
-          marks-alike (λ s. type_at k (scope_by records table s) d twin.0) (λ s. type_at k (scope_by records table s) d m)
-          (λ s l. sym (last-type_at k (scope_by records table s) d m twin.0 (omega (arith, few, h)) twin.2 l)) ((g k d h).is records table o twin.0 twin.1);
-    }
-
-    pub entry-found-last : left - 1 ≤ 1 → (msg : Located) → (msg.base ≡ p.start) × (msg.bytes.now ≡ take (p.end - p.start) (drop p.start e.deepest))
-        → EntryInner e i left (Some (record { msg = msg; left = left - 1 }))
-    entry-found-last few msg w = record {
-      falls = falls-to e.deepest msg.bytes.now w.1;
-      is = λ u v g. entry-marked e i left t q z (last-marked few (moved e (left - 1) w.0 w.1 g));
-    }
-
-module _ (e : Lent) (base : ℕ) (msg : List ℕ) (left : ℕ) {r : ArgumentHead} (t : ArgumentHeadTold base msg r) where
-  pub argument-unread : (r ≡ argument.Star) ⊎ (r ≡ argument.Nothing) → ArgumentInner e base msg left None
-  argument-unread q = record { falls = tt; is = argument-unread-marked e base msg left t q }
-
-  pub argument-inline : {p : Projection} {b : Span} → r ≡ argument.Inline p b → (x : Located)
-      → (x.base ≡ base + b.start) × (x.bytes.now ≡ take (b.end - b.start) (drop b.start msg)) → ArgumentInner e base msg left (Some (record { msg = x; left = left }))
-  argument-inline {p} {b} q x w = record {
-    falls = inline-falls left (length e.payload) b.start b.end msg x.bytes.now w.1 (subst (ArgumentHeadInside msg) q t.inside).1;
-    is = λ u v g. argument-inline-marked e base msg left t q (moved e left w.0 w.1 g);
+  pub entry-found : {p : Span} → r ≡ Some p → (left ≡ 0 → ⊥) → (x : Inner) → PartInner e p.start (part_from p.start p.end e.payload) (left - 1) true x
+      → EntryInner e i left (Some x)
+  entry-found {p} q z x g = record {
+    falls = entry-falls left (length e.payload) p.start p.end _ e.payload z (subst (EntryInside e.payload) q t.inside).1 g.falls;
+    inside = g.inside;
+    is = λ u v h. entry-marked e i left t q z (g.is u v h);
   }
 
-  pub argument-indexed : {p : Projection} {i : ℕ} → r ≡ argument.ByIndex p i → (x : rust.Option Inner) → EntryInner e i left x → ArgumentInner e base msg left x
-  argument-indexed q None h = record { falls = tt; is = λ u. argument-indexed-marked e base msg left t q (h.is u) }
+module _ (e : Lent) (base : ℕ) (msg : List ℕ) (left : ℕ) (in_table : Bool) {r : ArgumentHead} (t : ArgumentHeadTold base msg r) where
+  pub argument-unread : (r ≡ argument.Star) ⊎ (r ≡ argument.Nothing) → ArgumentInner e base msg left in_table None
+  argument-unread q = record { falls = tt; inside = tt; is = argument-unread-marked e base msg left in_table t q }
+
+  pub argument-inline : {p : Projection} {b : Span} → r ≡ argument.Inline p b → (x : Inner)
+      → PartInner e (base + b.start) (part_from b.start b.end msg) left in_table x → ArgumentInner e base msg left in_table (Some x)
+  argument-inline {p} {b} q x g = record {
+    falls = inline-falls left (length e.payload) b.start b.end _ msg (subst (ArgumentHeadInside msg) q t.inside).1 g.falls;
+    inside = g.inside;
+    is = λ u v h. argument-inline-marked e base msg left in_table t q (g.is u v h);
+  }
+
+  pub argument-indexed : {p : Projection} {i : ℕ} → r ≡ argument.ByIndex p i → (x : rust.Option Inner) → EntryInner e i left x
+      → ArgumentInner e base msg left in_table x
+  argument-indexed q None h = record { falls = tt; inside = tt; is = λ u. argument-indexed-marked e base msg left in_table t q (h.is u) }
   argument-indexed q (Some x) h = record {
     falls = omega (arith, h.falls, looked-falls left (length e.payload) (length msg));
-    is = λ u v g. argument-indexed-marked e base msg left t q (h.is u v g);
+    inside = h.inside;
+    is = λ u v g. argument-indexed-marked e base msg left in_table t q (h.is u v g);
   }
 
 -- It is found in a message that is a part of another.
-pub argument-at : (e : Lent) (left : ℕ) {b b' : ℕ} {s s' : List ℕ} {r : rust.Option Inner} → (b ≡ b') × (s ≡ s') → ArgumentInner e b s left r → ArgumentInner e b' s' left r
-argument-at e left {b} {b'} {s} {s'} {r} w g =
-    subst (λ (x : ℕ). ArgumentInner e x s' left r) w.0 (subst (λ (x : List ℕ). ArgumentInner e b x left r) w.1 g)
+pub argument-at : (e : Lent) (left : ℕ) (in_table : Bool) {b b' : ℕ} {s s' : List ℕ} {r : rust.Option Inner} → (b ≡ b') × (s ≡ s')
+    → ArgumentInner e b s left in_table r → ArgumentInner e b' s' left in_table r
+argument-at e left in_table {b} {b'} {s} {s'} {r} w g =
+    subst (λ (x : ℕ). ArgumentInner e x s' left in_table r) w.0 (subst (λ (x : List ℕ). ArgumentInner e b x left in_table r) w.1 g)
 
 -- A declaration's own type, at depth 0.
 module _ (e : Lent) (base : ℕ) (msg : List ℕ) (inline indexed : ℕ) {x : rust.Option Span} (t : BytesTold base msg inline x) where
-  pub declared-inline-marked : {p : Span} → x ≡ Some p → {u v : List ℕ} → TypeMarked e (base + p.start) (take (p.end - p.start) (drop p.start msg)) max_depth u v
+  pub declared-inline-marked : {p : Span} → x ≡ Some p → {u v : List ℕ} → TypeMarked e (base + p.start) (part_from p.start p.end msg) max_depth false u v
       → DeclaredMarked e base msg inline indexed u v
   unfolding declared_type
   declared-inline-marked {p} q g = record {
     is = λ records table o m c.
         type-in-inline (λ s. type_at allowance (scope_by records table s)) (scope_by records table) 0 inline indexed m (part_between base msg p.start p.end)
-        (t.is m c ∙ ap (piece_told base msg) q) λ inner i. (g allowance 0 (omega arith)).is records table o inner i;
+        (t.is m c ∙ ap (piece_told base msg) q) λ inner i. (g (λ y. absurd (cc)) allowance 0 (omega arith)).is records table o inner i;
   }
 
   module _ (q : x ≡ None) {y : rust.Option ℕ} (f : (m : Message) → cut (◌from◌ base msg) ≡ ok m → index indexed m ≡ index_told y) where

@@ -6,7 +6,7 @@ use mathlib.Core.List.{List, [], ◌∷◌}
 use mathlib.Core.Option.{some}
 use Prim.Native.Nat.{ℕ, zero, suc, ◌+◌, ◌-◌, ◌≤◌}
 use native.Mathlib.Omega.{arith}
-use lib.ListN.{length, drop, get_or, get_elem?, length-take, length-drop}
+use lib.ListN.{length, drop, get_elem?, length-take, length-drop}
 use Rattle.foundation.specs.Choices.{All}
 use Rattle.foundation.specs.Results.{Res, ok, refused, ◌>>=◌, Part, ◌from◌}
 use Rattle.fields.specs.Fields.{Type-argument, Type-Argument-type}
@@ -17,15 +17,14 @@ use Rattle.wire.proofs.WalkLaws.{ok_same}
 use Rattle.messages.specs.told.Asked.{bodies, CheckedTold, span}
 use Rattle.characters.specs.told.Places.{part_from}
 use Rattle.characters.proofs.PartLaws.{part-part, part-long, rest-is}
-use Rattle.names.specs.told.Index.{start_of, end_of}
 use Rattle.sheet.specs.declared.State.{State}
 use Rattle.declaration_rows.specs.Declarations.{Ty}
 use Rattle.schema.specs.Reading.{Scope, allowance}
 use Rattle.schema.specs.told.Alike.{Alike, Dropped, Thinned, ArgumentsBy, SameType, SameAtLast, JoinedAs, TwinAt, ArgumentTwin}
 use Rattle.schema.specs.told.SchemaTold.{Lent, Scoped, Walked, WalkedTold, entries_in}
-use Rattle.schema.specs.told.TypesTold.{or_nullable, rows_in, EntryIs, EntryPlaced, EntryTold, ParseTold}
-use Rattle.schema.proofs.AlikeLaws.{at-last-itself}
-use Rattle.schema.proofs.EntryLaws.{entry_in, entry_below}
+use Rattle.schema.specs.told.TypesTold.{or_nullable, rows_in, EntryIs, EntryTold, ParseTold}
+use Rattle.schema.proofs.AlikeLaws.{at-last-itself, alike-given}
+use Rattle.schema.proofs.EntryLaws.{entry_joined}
 use Rattle.schema.proofs.FoundLaws.{never_given}
 use Rattle.schema.proofs.HeadLaws.{no-messages}
 use Rattle.type_references.specs.told.Pending.{Twinned}
@@ -45,14 +44,6 @@ twin-itself base msg m k = (m, k, at-last-itself m)
 pub itself-told : {e : Lent} {msg : List ℕ} {base left role projection : ℕ} {nullable : Bool} {s : State} {w : Walked} {S S' T T' : List ℕ}
     → TwinTold e msg msg base left role projection nullable s w S S' T T' → ParseTold e msg base left role projection nullable s w S S' T T'
 itself-told {msg = msg} {base} t = record { spends = t.spends; is = λ c o m k. t.is c o m k (twin-itself base msg m k) }
-
--- What is alike something that can be cut.
-alike-given : {r r' : Res Message} {m : Message} → Alike SameAtLast r r' → r ≡ ok m → (m' : Message) × (r' ≡ ok m') × SameAtLast m m'
-alike-given {r} {r'} {m} a e = go r' (subst (λ (x : Res Message). Alike SameAtLast x r') e a)
-  where
-    go : (x : Res Message) → Alike SameAtLast (ok m) x → (m' : Message) × (x ≡ ok m') × SameAtLast m m'
-    go (ok m') h = (m', refl, h)
-    go (refused c p) h = absurd h
 
 -- What is checked of the second of two that are alike holds of the first.
 pub checked-alike : (r r' : Res Message) → Alike SameAtLast r r' → (w : Result Unit WireError) → CheckedTold r' w → CheckedTold r w
@@ -116,7 +107,7 @@ module _ {base : ℕ} {last : List ℕ} {a b : ℕ} {m : Message} (t : Twinned b
 
   module _ {inner : Message} (k : cut (part_between base msg i j) ≡ ok inner) where
     pub twinned-type : Twin (base + i) (part_from i j last) inner
-    twinned-type = alike-given twinned-cut k
+    twinned-type = alike-given SameAtLast twinned-cut k
 
     pub twinned_inner : {ms : List Message} → messages Type-argument inner ≡ ok ms → Twinned base last i j ms
     twinned_inner {ms} f = record {
@@ -165,14 +156,10 @@ alone-twin m m' t e = go t.levels t.same
 -- An entry of the type table, which stands from a to b.
 module _ (e : Lent) {index : ℕ} {x : Option Span} (t : EntryTold e.payload (entries_in e.tables e.notes) e.tables.types index x) {a b : ℕ} (g : x ≡ Some (span a b)) where
   joined-as : (c : Scope) → Scoped e c → JoinedAs SameAtLast (part_from a b e.payload) (part_from a b e.deepest)
-  joined-as c o =
-      let entry = get_or (entries_in e.tables e.notes) index 0 in
-      let inside = entry_in e.payload (entries_in e.tables e.notes) e.tables.types index t g in
-      let place : (a ≡ start_of entry) × (b ≡ end_of entry) = subst (EntryPlaced e.payload (entries_in e.tables e.notes) e.tables.types index) g t.placed in
-      rw (place.0, place.1) (o.deepest.each index (entry_below e.payload (entries_in e.tables e.notes) e.tables.types index t g) (rw (← place.0, ← place.1) inside.0) (rw (← place.1) inside.1))
+  joined-as c o = entry_joined e.payload (entries_in e.tables e.notes) e.tables.types index t g o.deepest
 
   pub entry-twin : (c : Scope) → Scoped e c → (m : Message) → cut (◌from◌ a (part_from a b e.payload)) ≡ ok m → Twin a (part_from a b e.deepest) m
-  entry-twin c o m k = alike-given ((joined-as c o).alike a) k
+  entry-twin c o m k = alike-given SameAtLast ((joined-as c o).alike a) k
 
   -- It has no argument there either.
   pub alone-last : AloneEntry e index → Alone e a (part_from a b e.deepest)

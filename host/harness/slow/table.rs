@@ -158,11 +158,21 @@ fn at_depth_64() -> Vec<Slow> {
             &chained(30, 125, [number(6, INT), by_index(1000)].concat()),
         ),
         slow("the same with types inline between", &function(), &chained_inline(array(&by_index(1100)))),
-        slow("arguments by index at depth 64, of a type inline", &deep_function(), &[array(&by_index(7000))]),
+        slow("arguments by index at depth 64, of a type inline", &deep_function(62, 1500), &[array(&by_index(7000))]),
+        slow(
+            "arguments by index at depth 64 of a type inline in an entry, of a type inline",
+            &deep_function(61, 900),
+            &[inline_argument(&array(&by_index(7000)))],
+        ),
         slow(
             "32 arrays one in another by index, each function's type with its descriptor: arguments by index in the last",
             &function().repeat(63),
             &arrays_in_a_chain(array(&by_index(1500))),
+        ),
+        slow(
+            "42 arrays by index and inline in turn, each function's type with its descriptor: arguments by index in the last, inline",
+            &bytes(3, &function_with(0, &bytes(3, &array(&looked_up_argument(0))))).repeat(46),
+            &arrays_inline_in_a_chain(array(&by_index(1500))),
         ),
         slow(
             "the same of 61 parameters of one function, whose descriptor is longer than 256 bytes: an argument is kept behind them",
@@ -188,12 +198,14 @@ fn inline_at_depth_64() -> Vec<Slow> {
         let around = |before: &[u8], after: &[u8]| {
             (0..levels).fold(innermost.clone(), |ty, _| [before, &inline_argument(&ty), after].concat())
         };
+        let deeper = inline_argument(&around(&[], &[]));
         let mut with = |words: &str, types: usize, last: Vec<u8>| {
             let words =
                 format!("arguments by index at depth 64 of the last type inline in an entry, of {levels}{words}");
             all.push(slow(words, &member, &chained(before, 2000 / types / 16, last)));
         };
         with("", levels + 1, around(&[], &[]));
+        with(", and at depth 65 of one more", levels + 2, deeper);
         with(", each after a star", 2 * levels + 1, around(&star(&[]), &[]));
         with(", each before a star", 2 * levels + 1, around(&[], &star(&[])));
     }
@@ -222,6 +234,14 @@ fn arrays_in_a_chain(last: Vec<u8>) -> Vec<Vec<u8>> {
     entries
 }
 
+/// Arrays that each hold the next one in an array inline, three steps of depth each, down to depth 62, then one that holds the last inline.
+fn arrays_inline_in_a_chain(last: Vec<u8>) -> Vec<Vec<u8>> {
+    let around = |inner: &[u8]| array(&inline_argument(&array(inner)));
+    let mut entries: Vec<Vec<u8>> = (1..21).map(|next| around(&looked_up_argument(next))).collect();
+    entries.push(array(&inline_argument(&last)));
+    entries
+}
+
 /// Entries that each hold the next one in a type inline: three steps of depth each.
 fn chained_inline(last: Vec<u8>) -> Vec<Vec<u8>> {
     let next = |place: usize, count: usize| inline_argument(&looked_up_argument(place as u64 + 1).repeat(count));
@@ -232,9 +252,9 @@ fn chained_inline(last: Vec<u8>) -> Vec<Vec<u8>> {
     entries
 }
 
-/// A function whose type has 62 types inline one in another; the innermost holds the first entry 1,900 times.
-fn deep_function() -> Vec<u8> {
-    let ty = (1..62).fold(looked_up_argument(0).repeat(1500), |ty, _| inline_argument(&ty));
+/// A function whose type has so many types inline one in another; the innermost holds the first entry so many times.
+fn deep_function(levels: usize, times: usize) -> Vec<u8> {
+    let ty = (1..levels).fold(looked_up_argument(0).repeat(times), |ty, _| inline_argument(&ty));
     bytes(3, &function_with(0, &bytes(3, &ty)))
 }
 

@@ -1,6 +1,6 @@
 -- What the writers of default descriptors tell, where a reading has accepted.
 -- Assumes nothing.
-use Rattle.std.specs.Prelude.{◌≡◌, Bool, true, List, map, ℕ, ◌+◌, ◌-◌, ◌*◌, ◌^◌, ◌≤◌}
+use Rattle.std.specs.Prelude.{◌≡◌, Bool, true, List, map, ℕ, ◌+◌, ◌-◌, ◌*◌, ◌^◌, ◌≤◌, ◌<◌}
 use Rattle.std.proofs.Math.Option.{Option, none, some}
 use Rattle.foundation.specs.Choices.{map_option, every_of, concat}
 use Rattle.foundation.specs.Results.{ok}
@@ -10,7 +10,7 @@ use Rattle.schema.specs.Reading.{Scope}
 use Rattle.schema.specs.Members.{parameters_in, constructor_in, function_in}
 use Rattle.schema.specs.told.SchemaTold.{Lent, Scoped, EntryAt}
 use Rattle.schema.specs.told.TypesTold.{or_nullable}
-use Rattle.schema.specs.told.PlacesTold.{TypeFound}
+use Rattle.schema.specs.told.PlacesTold.{read_in, TypeFound, Twins}
 use Rattle.erasure.specs.Erasure.{first_erased, erased, Returned, of_type, erased_return, print, print_returned}
 use Rattle.erasure.specs.told.ErasureTold.{PutSized}
 use Rattle.erasure.specs.declared.Position.{Position}
@@ -39,10 +39,16 @@ abbrev pub PartTold : Option (List ℕ) → ℕ → std.Option ℕ → List ℕ 
 PartTold o at (Some size) A A' = (text : List ℕ) × (o ≡ some text) × PutSized text at size A A'
 PartTold o at None A A' = o ≡ none
 
+-- A type that a reading has given, found for the walk: among the bytes in which it is read, and as it is read where no look-up is left, while there is one.
+pub record ReadFound (e : Lent) (c : Scope) (start end left : ℕ) (in_table : Bool) (t : Ty) : Type 0 where
+  pub found : TypeFound (read_in e.payload e.deepest in_table left) c start end left t
+  pub twins : in_table ≡ true → 1 < left → Twins e.payload e.deepest start end
+
 -- the part of one type
-pub record ErasedTold (e : Lent) (start end left : ℕ) (nullable : Bool) (position : Position) (at : ℕ) (r : std.Option ℕ) (A A' : List ℕ) : Type 0 where
+pub record ErasedTold (e : Lent) (start end left : ℕ) (nullable in_table : Bool) (position : Position) (at : ℕ) (r : std.Option ℕ)
+    (A A' : List ℕ) : Type 0 where
   pub within : PartWithin part_cost r
-  pub is : (c : Scope) → Scoped e c → (t : Ty) → TypeFound e.payload c start end left t
+  pub is : (c : Scope) → Scoped e c → (t : Ty) → ReadFound e c start end left in_table t
       → PartTold (map_option print_returned (erased_at position (or_nullable nullable t))) at r A A'
 
 -- what the parts of parameters come to

@@ -41,8 +41,9 @@ pub record PrintedPut (e : Lent) (name : Name) (printed : Printed) (at : ℕ) (r
   pub is : (inner : Option Erased)
       → TypePartIs (map_option print_returned (printed_told (slashed (named_text e.payload e.d2 name)) inner (Some printed))) inner at (Some r) A A'
 
--- one type, whose message stands from start to end
-pub record TypePartTold (e : Lent) (start end : ℕ) (nullable : Bool) (position : Position) (at : ℕ) (r : std.Option TypePart) (A A' : List ℕ) : Type 0 where
+-- one type, whose message stands from start to end of some bytes
+pub record TypePartTold (source : List ℕ) (e : Lent) (start end : ℕ) (nullable : Bool) (position : Position) (at : ℕ) (r : std.Option TypePart)
+    (A A' : List ℕ) : Type 0 where
   pub within : TypePartWithin r
-  pub is : (c : Scope) → Scoped e c → (left : ℕ) (t : Ty) → TypeFound e.payload c start end left t
+  pub is : (c : Scope) → Scoped e c → (left : ℕ) (t : Ty) → TypeFound source c start end left t
       → TypePartIs (map_option print_returned (erased_at position (or_nullable nullable t))) (first_erased true t.arguments) at r A A'

@@ -1,15 +1,16 @@
 -- What marking the strings tells that a reading asks for.
 -- Assumes nothing.
-use Rattle.std.specs.Prelude.{◌≡◌, ◌⊎◌, Bool, List, ℕ, ◌-◌, ◌<◌, length, get_or, if◌then◌else◌}
-use Rattle.std.proofs.Math.Option.{Option, none}
+use Rattle.std.specs.Prelude.{◌≡◌, ◌⊎◌, Bool, true, List, ℕ, ◌+◌, ◌-◌, ◌<◌, length, get_or, if◌then◌else◌}
+use Rattle.std.proofs.Math.Option.{Option, none, some}
 use Rattle.foundation.specs.Choices.{is_some}
 use Rattle.foundation.specs.Results as Results
-use Rattle.foundation.specs.Results.{Res, ok, ◌from◌}
+use Rattle.foundation.specs.Results.{Res, ok, Part, ◌from◌}
 use Rattle.foundation.specs.Texts.{Text}
-use Rattle.fields.specs.Fields.{Class-constructor, Property-property_signature}
+use Rattle.fields.specs.Fields.{Class-constructor, Property-property_signature, Type-Argument-type}
 use Rattle.encoding.specs.Encoding.{decoded}
 use Rattle.wire.specs.Wire.{Message, cut}
-use Rattle.wire.specs.Messages.{message}
+use Rattle.wire.specs.Messages.{bytes_of, message}
+use Rattle.characters.specs.told.Places.{part_from}
 use Rattle.names.specs.Records.{Record}
 use Rattle.names.specs.Names.{Names, strings_from, d2_string, string}
 use Rattle.lookup.specs.told.Lookups.{NotesOf}
@@ -17,6 +18,7 @@ use Rattle.schema.specs.Reading.{Read, TypeTable, Scope, scope, name_in, class_n
 use Rattle.declaration_rows.specs.Declarations.{Signature, Declarations}
 use Rattle.schema.specs.Types.{max_depth, resolve_at, argument_in, type_at, declared_type}
 use Rattle.schema.specs.Members.{signature_of, signature_in, field_in, of_signature, function_field, property_field, alias_field}
+use Rattle.schema.specs.told.Alike.{Alike, SameAtLast}
 use Rattle.schema.specs.told.SchemaTold.{Lent, Scoped}
 use Rattle.members.specs.declared.list.Member.{Member}
 use Rattle.members.specs.declared.list.Member.TheVariants as member
@@ -67,12 +69,26 @@ pub record NameMarked (e : Lent) (base : ℕ) (msg : List ℕ) (number : ℕ) (u
   pub name : MarksIn e base msg (λ c. name_in c number) used used'
   pub class : MarksIn e base msg (λ c. class_name_in c number) used used'
 
--- A type, with so much left of the depth, and however deep it may nest; an argument in the same way.
-abbrev pub TypeMarked : Lent → ℕ → List ℕ → ℕ → List ℕ → List ℕ → Type 0
-TypeMarked e base msg left used used' = (k d : ℕ) → left ≡ max_depth - d → MarksIn e base msg (λ c. type_at k c d) used used'
+-- What stands in a part, if it is there: at its place of the bytes that are lent for it stands what is read alike where no look-up is left.
+abbrev pub PartTwin : Lent → Option Part → Type 0
+PartTwin e none = Unit {0}
+PartTwin e (some p) = Alike SameAtLast (cut p) (cut (◌from◌ p.at (part_from p.at (p.at + length p.bytes) e.deepest)))
 
-abbrev pub ArgumentMarked : Lent → ℕ → List ℕ → ℕ → List ℕ → List ℕ → Type 0
-ArgumentMarked e base msg left used used' = (k d : ℕ) → left ≡ max_depth - d → MarksIn e base msg (λ c. argument_in (type_at k c) c d) used used'
+-- That it is so of a type that stands in the type table, as an entry or inline in one; and of the type inline in an argument there.
+abbrev pub TypeTwin : Lent → (in_table : Bool) → ℕ → List ℕ → Type 0
+TypeTwin e in_table base msg = in_table ≡ true → PartTwin e (some (◌from◌ base msg))
+
+abbrev pub InlineTwin : Lent → (in_table : Bool) → ℕ → List ℕ → Type 0
+InlineTwin e in_table base msg = in_table ≡ true → (a : Message) → cut (◌from◌ base msg) ≡ ok a → PartTwin e (bytes_of Type-Argument-type a)
+
+-- A type, with so much left of the depth, and however deep it may nest; an argument in the same way.
+abbrev pub TypeMarked : Lent → ℕ → List ℕ → (left : ℕ) → (in_table : Bool) → List ℕ → List ℕ → Type 0
+TypeMarked e base msg left in_table used used' =
+    TypeTwin e in_table base msg → (k d : ℕ) → left ≡ max_depth - d → MarksIn e base msg (λ c. type_at k c d) used used'
+
+abbrev pub ArgumentMarked : Lent → ℕ → List ℕ → (left : ℕ) → (in_table : Bool) → List ℕ → List ℕ → Type 0
+ArgumentMarked e base msg left in_table used used' =
+    InlineTwin e in_table base msg → (k d : ℕ) → left ≡ max_depth - d → MarksIn e base msg (λ c. argument_in (type_at k c) c d) used used'
 
 -- the type at an index of the type table
 abbrev pub LookedMarked : Lent → (index left : ℕ) → List ℕ → List ℕ → Type 0

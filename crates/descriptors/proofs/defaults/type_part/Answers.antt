@@ -3,4 +3,4 @@ use Rattle.descriptors.proofs.DefaultLaws.{type-there}
 use Rattle.descriptors.proofs.defaults.type_part.Goals as goal
 
 pub returns : goal.returns
-returns c = type-there (lent c.args.context.now) c.args.at c.args.position c.declared_place.ensures c.in_ok-found.was (rw (c.of-part.ensures.0, c.of-part.ensures.1) at c.put_erased.ensures)
+returns c = type-there (lent c.args.context.now) c.args.at c.args.position c.declared_place.ensures c.in_ok-found.was c.put_erased.ensures

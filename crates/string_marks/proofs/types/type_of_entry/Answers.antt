@@ -1,5 +1,6 @@
+use native.Mathlib.Nat.{zero-add}
 use Rattle.schema.specs.told.SchemaTold.{lent}
-use Rattle.string_marks.proofs.TypeMarks.{entry-too-deep, entry-absent, entry-found, entry-found-last}
+use Rattle.string_marks.proofs.TypeMarks.{entry-too-deep, entry-absent, entry-found}
 use Rattle.string_marks.proofs.types.type_of_entry.Goals as goal
 
 pub returns-then-left-eq0 : goal.returns-then-left-eq0
@@ -8,8 +9,5 @@ returns-then-left-eq0 c = entry-too-deep (lent c.args.context.now) c.args.index 
 pub returns-in_err-entry : goal.returns-in_err-entry
 returns-in_err-entry c = rw c.from_residual.ensures (entry-absent (lent c.args.context.now) c.args.index c.args.left c.entry_at.ensures c.in_err-entry.was)
 
-pub returns-then-left-le1 : goal.returns-then-left-le1
-returns-then-left-le1 c = entry-found-last (lent c.args.context.now) c.args.index c.args.left c.entry_at.ensures c.in_ok-entry.was c.if-left-eq0.false c.if-left-le1.true c.of.result c.of.ensures
-
 pub returns : goal.returns
-returns c = entry-found (lent c.args.context.now) c.args.index c.args.left c.entry_at.ensures c.in_ok-entry.was c.if-left-eq0.false c.of-2.result c.of-2.ensures
+returns c = entry-found (lent c.args.context.now) c.args.index c.args.left c.entry_at.ensures c.in_ok-entry.was c.if-left-eq0.false c.inner_at.result (rw (c.whole-payload.ensures.0, c.whole-payload.ensures.1, zero-add) at c.inner_at.ensures)
