@@ -7,6 +7,7 @@ import re, signal, sys
 
 PROVED = re.compile(r'^rt: (\w+) (proved|is kept: .*) \(after (\d+) s\)$')
 REFUSED = re.compile(r'^rt: must-fail (\w+)/\S+\.edit: refused, as it must be')
+BODIES = re.compile(r'^(\w+): (\d+) wrong bodies in \d+ checks?, 0 not')
 PART = re.compile(r'^\.ci/run: (.*) took (\d+) s$')
 MACHINE = re.compile(r'^\.ci/run: (\d+ processors?)$')
 PASSED = re.compile(r'^[1-9]\d* passed, 0 failed$')
@@ -22,6 +23,8 @@ class Log:
                 self.kept |= {found[1]} if found[2] != 'proved' else set()
             elif found := REFUSED.match(line):
                 self.edits[found[1]] = self.edits.get(found[1], 0) + 1
+            elif found := BODIES.match(line):
+                self.edits[found[1]] = self.edits.get(found[1], 0) + int(found[2])
             elif found := PART.match(line):
                 self.parts.append((found[1], int(found[2])))
             elif found := MACHINE.match(line):
@@ -36,7 +39,7 @@ def page(log):
     yield '# Check times\n'
     yield ('Made by `tools/check_times.py` from what a gate printed (`bash .ci/run | tee LOG`), not by hand. Checks run beside each other'
            + (f' ({log.machine})' if log.machine else '')
-           + ', each crate\nafter those below it, and wrong edits beside them: told is after how many seconds the gate had proved a crate. `rt check` in its folder takes less.\n')
+           + ', each crate\nafter those below it, and edits of definitions beside them, those of bodies afterwards: told is after how many seconds the gate had proved a crate. `rt check` in its folder takes less.\n')
     if not log.passed:
         yield 'This gate was ended before it was through: edits and parts that it had not come to are missing here.\n'
     if log.kept:

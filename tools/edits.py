@@ -1,16 +1,17 @@
 #!/usr/bin/env python3
-"""The wrong edits of crates/*/must-fail, and whether the prover refuses each for what it gets wrong. Each stands in a file of its own: of several in one
-file rt would tell only that something was refused.
+"""The wrong edits of definitions, crates/*/must-fail, and of bodies, crates/*/wrong-bodies: whether they fit, and whether the former were refused.
 
 usage: tools/edits.py --check                  whether they fit the files
-       tools/edits.py --refused LOG [CRATE..]  LOG: what `rt ci` or `rt must-fail` printed: whether each was refused at a goal of its function
-       tools/edits.py --names [CRATE..]        names the function of each edit of one; has edits that change names bring the proof along, after a change of
-                                               the edits, the code or its proofs
+       tools/edits.py --refused LOG            LOG: what `rt ci` printed: whether each edit of a definition was refused
+       tools/edits.py --names [CRATE..]        names the function of each edit of a body; has edits that change names bring the proof along, after a change
+                                               of the edits, the code or its proofs
 
-A file can name the function that its edit falls on, in a line "# LABEL in FUNCTION: what is wrong"; LABEL is the file's name. Such an edit changes code, in
+`rt ci` tries each file of must-fail by itself. An edit of a definition may fall on any function, so that it is refused anywhere is enough.
+
+A file of wrong-bodies names the function that its edit falls on, in a line "# LABEL in FUNCTION: what is wrong"; LABEL is the file's name. It changes code, in
 that function (or a constant or static that only it names). What a proof of a function needs is said by its own code and by contracts, definitions and laws, which the
-edit doesn't change. So what rt tells first of its refusal must be a goal of that function, or of one of those that are named, and not that its proof
-doesn't fit the code any more. An edit of a definition names no function, and rt's own word counts.
+edit doesn't change. So it must be refused at a goal of that function, or of one of those that are named, and not since its proof doesn't fit the code any
+more: wrong_bodies.py tries them, those of a crate at once.
 
 Goals and steps are named after the code, as `if-tag-lt8` after `tag < 8`. An edit that changes such a text changes the names, and the proof would be
 refused for that alone. So after its pairs in src/ stand the lines of the proof with the names that are then right; --names writes them."""
@@ -19,7 +20,7 @@ import re
 import sys
 import tempfile
 
-from wrong_answers import GONE, REFUSED, ROOT, UNMET, copy_to, follow, functions_of, restore
+from wrong_answers import ROOT, copy_to, follow, functions_of, restore
 
 PART = re.compile(r'^# (\w+) in (\w[\w:]*(?:, \w[\w:]*)*): (.*)$')
 CONSTANT = re.compile(r'^(?:pub(?:\(crate\))? )?(?:const|static) (\w+)', re.M)
@@ -107,19 +108,29 @@ def parts_of(path):
     return parts, any(part.named for part in parts)
 
 
-def files(crates=()):
-    return sorted(path for path in ROOT.glob('crates/*/must-fail/*.edit') if not crates or path.parent.parent.name in crates)
+def files(folder, crates=()):
+    return sorted(path for path in ROOT.glob(f'crates/*/{folder}/*.edit') if not crates or path.parent.parent.name in crates)
+
+
+def definitions(crates=()):
+    return files('must-fail', crates)
+
+
+def bodies(crates=()):
+    return files('wrong-bodies', crates)
 
 
 def misfits(path):
     """Why the edits of a file don't fit the crate, or the file doesn't fit them."""
     parts, named = parts_of(path)
     if len(parts) > 1:
-        yield f'{", ".join(part.label for part in parts)}: of several edits rt tells only that one was refused, so each needs a file'
+        yield f'{", ".join(part.label for part in parts)}: each edit needs a file'
     for part in parts:
         for (file, at, _), (_, old, _) in zip(part.places(), part.pairs):
             if at is None:
                 yield f'{part.label}: its old text does not stand once in {file}: {old.strip()}'
+    if named != (path.parent.name == 'wrong-bodies'):
+        yield f'{path.stem}: an edit of a body names its function and stands in wrong-bodies, one of a definition names none and stands in must-fail'
     if not named:
         return
     known = functions_of(parts[0].crate)
@@ -137,27 +148,10 @@ def tried(log):
 
 
 def unrefused(path, said):
-    """Why an edit was not refused as it must be."""
-    (part, *_), _ = parts_of(path)
-    words = said.get((part.crate, path.stem), 'it was not tried')
+    """Why an edit of a definition was not refused as it must be."""
+    words = said.get((path.parent.parent.name, path.stem), 'it was not tried')
     if not words.startswith(AS_IT_MUST_BE):
         yield words
-        return
-    why, known = words[len(AS_IT_MUST_BE):], functions_of(part.crate)
-    if not part.named:
-        return
-    if why.startswith(' (only by a limit'):
-        yield f'refused, but{why[:200]}'
-    elif why.startswith(' (only because') or GONE.search(why):
-        yield f'its proof no longer fits{why[:200]}'
-    elif not any(is_at(why.removeprefix(': '), known[name]) for name in part.named if name in known):
-        yield f'refused, but not first at a goal of {", ".join(part.named)}{why[:200]}'
-
-
-def is_at(why, function):
-    """Whether what rt tells first is a goal of a function."""
-    unmet, refused = re.match(UNMET, why), re.match(REFUSED, why)
-    return bool(unmet and function.has(unmet['file'], int(unmet['line'])) or refused and refused['place'] == function.place)
 
 
 def apart(edits, known):
@@ -191,9 +185,9 @@ def bring_along(crates):
     with tempfile.TemporaryDirectory() as folder:
         copy = pathlib.Path(folder)
         copy_to(copy)
-        for crate in sorted({path.parent.parent.name for path in files(crates)}):
+        for crate in sorted({path.parent.parent.name for path in bodies(crates)}):
             edits, known = [], functions_of(crate)
-            for path in files([crate]):
+            for path in bodies([crate]):
                 part = parts_of(path)[0][0]
                 part.pairs = [pair for pair in part.pairs if not pair[0].startswith('proofs/')] if part.named else part.pairs
                 changed = sorted(part.changed(known))
@@ -222,21 +216,23 @@ def bring_along(crates):
 
 def main(words):
     command, rest = words[:1], words[1:]
-    if command not in (['--check'], ['--refused'], ['--names']) or command == ['--check'] and rest or command == ['--refused'] and not rest:
+    if command not in (['--check'], ['--refused'], ['--names']) or command != ['--names'] and len(rest) != (command == ['--refused']):
         sys.exit(__doc__)
     if command == ['--names']:
         bring_along(rest)
         return False
-    crates, said = rest[1:], None
-    if command == ['--refused']:
+    if command == ['--check']:
+        paths, whys = [*definitions(), *bodies()], misfits
+    else:
         with open(rest[0], encoding='utf-8', errors='replace') as f:
             said = tried(f.read())
+        paths, whys = definitions(), lambda path: unrefused(path, said)
     wrong = 0
-    for path in files(crates):
-        for why in misfits(path) if said is None else unrefused(path, said):
+    for path in paths:
+        for why in whys(path):
             print(f'! {path.parent.parent.name}/{path.stem}: {why}')
             wrong += 1
-    print(f'edits: {len(files(crates))}, {wrong} not as they must be')
+    print(f'edits: {len(paths)}, {wrong} not as they must be')
     return wrong > 0
 
 

@@ -13,7 +13,7 @@ begin() { # all is well
     printf '== low\nfn low::f: proved\nrt: low proved\nrt: high is kept: an earlier run proved it\nrt: must-fail low/a.edit: refused, as it must be\n' > "$here/said"
     printf 'rt: ok; handles allowed: none; must-fail edits: 5 refused; every proof was done in this run\n7 passed, 0 failed\n' >> "$here/said"
     echo 0 > "$here/status"
-    for tool in crate_uses edits proving; do echo "import sys; print('$tool', *sys.argv[1:])" > "$here/tools/$tool.py"; done
+    for tool in crate_uses edits wrong_bodies proving; do echo "import sys; print('$tool', *sys.argv[1:])" > "$here/tools/$tool.py"; done
     for test in tools/test.sh host/test host/run; do printf '#!/bin/sh\necho %s "$@"\n' "$test" > "$here/$test"; done
     chmod +x "$here/bin/rt" "$here/host/test" "$here/host/run"
     rm -f "$here/asked"
@@ -29,7 +29,7 @@ begin
 gate || { echo 'gate: fails where all is well'; cat "$here/out"; failed=1; }
 [ "$(tail -n 1 "$here/out")" = '7 passed, 0 failed' ] && [ "$(grep -c passed "$here/out")" = 1 ] || { echo 'gate: its last line'; cat "$here/out"; failed=1; }
 [ "$(cat "$here/asked")" = ci ] || { echo 'gate: not a plain rt ci'; failed=1; }
-for line in 'crate_uses --check' 'edits --check' 'edits --refused /' 'proving /' 'tools/test.sh' 'host/test' 'host/run 1' 'rt: low proved (after [0-9]* s)' 'rt: high is kept: .*(after [0-9]* s)'; do
+for line in 'crate_uses --check' 'edits --check' 'edits --refused /' 'wrong_bodies /' 'proving /' 'tools/test.sh' 'host/test' 'host/run 1' 'rt: low proved (after [0-9]* s)' 'rt: high is kept: .*(after [0-9]* s)'; do
     grep -q "^$line" "$here/out" || { echo "gate: no line $line"; failed=1; }
 done
 sed -i 's/5 refused;/5 refused, 1 bad;/' "$here/said"
@@ -47,7 +47,7 @@ fails 'rt ci failed'
 echo 2 > "$here/status"
 echo '0 passed, 1 failed' > "$here/said"
 fails 'rt ci stopped'
-for tool in crate_uses edits proving; do
+for tool in crate_uses edits wrong_bodies proving; do
     begin
     echo 'raise SystemExit(1)' > "$here/tools/$tool.py"
     fails "$tool.py"

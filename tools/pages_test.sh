@@ -17,6 +17,7 @@ rt: low: trying its must-fail edits (1)
 rt: must-fail high/blank.edit: refused, as it must be: ./proofs/f/Answers.antt:1:2: error: `returns`: the sides differ
 rt: must-fail high/wrong.edit: refused, as it must be
 .ci/run: crates and edits took 100 s
+low: 3 wrong bodies in 1 check, 0 not refused as they must be
 .ci/run: the static library took 20 s
 4 passed, 0 failed
 L
@@ -29,16 +30,16 @@ cat > "$here/expected" <<'T'
 
 | crate | proved after, s | wrong edits |
 |---|---|---|
-| `low` | 3 | - |
+| `low` | 3 | 3 |
 | `high` | 61 | 2 |
-| 2 crates | 61 | 2 |
+| 2 crates | 61 | 5 |
 T
 python3 -B tools/check_times.py "$here/log" > "$here/page"
 sed -n '/^| part/,$p' "$here/page" | cmp - "$here/expected" || failed=1
 grep -q '(4 processors)' "$here/page" || { echo 'check_times: the machine is not told'; failed=1; }
 sed 's/^rt: low proved/rt: low is kept: an earlier run on this machine proved the same files over the same libraries/' "$here/log" > "$here/again"
 python3 -B tools/check_times.py "$here/again" > "$here/out"
-grep -q '^1 of the crates were kept' "$here/out" && grep -qx '| `low` | kept | - |' "$here/out" || { echo 'check_times: what was kept'; failed=1; }
+grep -q '^1 of the crates were kept' "$here/out" && grep -qx '| `low` | kept | 3 |' "$here/out" || { echo 'check_times: what was kept'; failed=1; }
 refused() { # words, log
     if python3 -B tools/check_times.py "$2" > "$here/out" 2>&1 || ! grep -q "$1" "$here/out"; then echo "check_times: not refused, '$1'"; failed=1; fi
 }

@@ -84,29 +84,37 @@ def rlib(name):
     return os.path.join(ROOT, 'crates', name, 'out', 'rlib', f'{name}.rlib')
 
 
-def are_of_run(since):
-    """Whether each library below was put into its out/ after a time: `rt ci` makes its folder anew, also where it takes what an earlier run proved."""
+def below(crate):
+    return [name for name in reached(crate) if name != crate]
+
+
+def are_of_run(since, names):
+    """Whether each library was put into its out/ after a time: `rt ci` makes its folder anew, also where it takes what an earlier run proved."""
     try:
-        return all(os.stat(rlib(name)).st_mtime_ns >= since for name in reached(CRATE) if name != CRATE)
+        return all(os.stat(rlib(name)).st_mtime_ns >= since for name in names)
     except OSError:
         return False
 
 
+def over(crate, verb):
+    """The words that have the kit check or build a library over those in the crates' out/, as rt does. One that is no crate here is the kit's."""
+    home, all_uses = library_build.kit(), uses()
+    found = {name: rlib(name) if name in all_uses else f'{home}/rlibs/{name}.rlib' for name in all_uses[crate] if name != 'staticlib'}
+    words = [os.path.join(home, 'bin', 'rattle'), verb, '--crate-name', crate, 'src/lib.rt', '--extern', f'std={home}/rlibs/std.rlib', '-L', f'dependency={home}/rlibs']
+    words += [word for name, library in found.items() for word in ('--extern', f'{name}={library}')]
+    words += [word for name in below(crate) for word in ('-L', f'dependency={os.path.dirname(rlib(name))}')]
+    return [*words, '--antt-project', f'{home}/rattle/logic/antt-project.json', '--logic-built', f'{home}/logic_built', '--links', f'{crate}=']
+
+
 def build_over(archive, toolchain):
     """Proves crates/sheet_calls over the libraries in the crates' out/ and writes its archive with a toolchain, as `rt lib` does."""
-    home, below = library_build.kit(), [name for name in reached(CRATE) if name != CRATE]
-    words = [os.path.join(home, 'bin', 'rattle'), 'build', '--crate-name', CRATE, 'src/lib.rt',
-             '--extern', f'std={home}/rlibs/std.rlib', '-L', f'dependency={home}/rlibs']
-    words += [word for name in uses()[CRATE] for word in ('--extern', f'{name}={rlib(name)}')]
-    words += [word for name in below for word in ('-L', f'dependency={os.path.dirname(rlib(name))}')]
-    words += ['--antt-project', f'{home}/rattle/logic/antt-project.json', '--logic-built', f'{home}/logic_built', '--jobs', str(min(os.cpu_count() or 1, 4)),
-              '--links', f'{CRATE}=', '--crate-type', 'staticlib', '--toolchain', toolchain, '--backend', 'llvm', '-o', archive]
+    words = [*over(CRATE, 'build'), '--jobs', str(min(os.cpu_count() or 1, 4)), '--crate-type', 'staticlib', '--toolchain', toolchain, '--backend', 'llvm', '-o', archive]
     if not any(DONE.match(line or '') for line in [*lines_of(words, FOLDER)]):
         raise BuildFailed(f'{CRATE}: no verdict')
 
 
 def after_ci(since):
-    if are_of_run(since):
+    if are_of_run(since, below(CRATE)):
         try:
             with tempfile.TemporaryDirectory() as work:
                 build_over(os.path.join(work, ARCHIVE), os.path.join(library_build.kit(), 'toolchain'))

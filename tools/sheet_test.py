@@ -244,6 +244,15 @@ class Json(InFolder):
             self.assertEqual(json.loads(text), objects(out)[0], command)
 
 
+def manual_shows(test, command):
+    """What the manual shows of a command of ./sheet is what that prints."""
+    with open(os.path.join(ROOT, 'docs', 'MANUAL.md'), encoding='utf-8') as f:
+        shown = re.findall(rf'^    \$ (./sheet {command} .*)\n((?:    .*\n)+)', f.read(), re.M)
+    test.assertTrue(shown)
+    for words, text in shown:
+        test.assertEqual(sheet(*words.split()[1:])[1], re.sub(r'(?m)^    ', '', text), words)
+
+
 def units(strings):
     """d1's units from its strings."""
     return [ord(unit) for string in strings for unit in string]
@@ -557,11 +566,7 @@ class Room(InFolder):
                          'text of properties 51, functions 212, constructors 0, aliases 0, head 0\n')
 
     def test_the_manual_shows_what_is_printed(self):
-        with open(os.path.join(ROOT, 'docs', 'MANUAL.md'), encoding='utf-8') as f:
-            shown = re.findall(r'^    \$ (./sheet room .*)\n((?:    .*\n)+)', f.read(), re.M)
-        self.assertTrue(shown)
-        for command, text in shown:
-            self.assertEqual(sheet(*command.split()[1:])[1], re.sub(r'(?m)^    ', '', text), command)
+        manual_shows(self, 'room')
 
     def test_longest_and_sums(self):
         rooms = [room_of(name) for name in NAMES]
@@ -656,11 +661,7 @@ class Strings(InFolder):
             self.assertEqual([(s['index'], s['used'], s['text']) for s in o['strings']], [(i, i in used, text) for i, text in enumerate(texts)], name)
 
     def test_the_manual_shows_what_is_printed(self):
-        with open(os.path.join(ROOT, 'docs', 'MANUAL.md'), encoding='utf-8') as f:
-            shown = re.findall(r'^    \$ (./sheet strings .*)\n((?:    .*\n)+)', f.read(), re.M)
-        self.assertTrue(shown)
-        for command, text in shown:
-            self.assertEqual(sheet(*command.split()[1:])[1], re.sub(r'(?m)^    ', '', text), command)
+        manual_shows(self, 'strings')
 
     def test_what_may_be_blanked_is_blanked(self):
         """Other strings in their place, and none: the sheet stays, also where many are longer. What is fallen to is still told, and no more."""

@@ -3,7 +3,7 @@
        trace_files.py --check     whether it is right: each name of a row stands in one of the row's files, and no other file is named
 
 The files are those where the names in a row's first columns are defined: definitions and theorems in specs/ and proofs/, functions in src/,
-edits in must-fail/. Where a definition and a function have one name, the column says which is meant. Where several crates have a name, the crate that
+edits in must-fail/ and wrong-bodies/. Where a definition and a function have one name, the column says which is meant. Where several crates have a name, the crate that
 the cell names before it is meant, then that of the section, then one in which another name of the row stands."""
 import collections, pathlib, re, sys
 
@@ -15,7 +15,7 @@ CODE = r'^ *(?:pub(?:\(crate\))? )?(?:extern "C" )?(?:fn|struct|enum) (\w+)'
 CLAUSE = r'^ *ensures (\w+) \{'
 # words in backquotes that name nothing of the crates: of the Rust, of the kit, parameters
 OUTSIDE = {'default_jvm_signature', 'of', 'is_local', 'class_name', 'first', 'second', 'src', 'msg', 'base', 'set', 'sets', 'take', 'drop', 'Consumes'}
-TESTS = ('tests', 'ruled out', 'must-fail', 'requires')
+TESTS = ('tests', 'ruled out', 'wrong edits', 'requires')
 
 
 class Names:
@@ -84,7 +84,7 @@ def preferred(files, kinds, crates, modules):
 
 
 KINDS = {'definition': ['specs'], 'theorem or contract': ['src', 'proofs', 'specs'], 'function': ['src'], 'contract': ['specs', 'proofs'],
-         'edit that the check refuses': ['must-fail'], 'held by': ['src', 'specs'], 'in the code': ['src', 'specs']}
+         'edit that the check refuses': ['must-fail', 'wrong-bodies'], 'held by': ['src', 'specs'], 'in the code': ['src', 'specs']}
 
 
 def row_files(names, columns, cells, section):

@@ -21,7 +21,7 @@ const LONGEST: usize = 400;
 fn main() {
     let Some(folder) = std::env::args().nth(1) else {
         eprintln!(
-            "vectors FOLDER    writes made, limits and classes, each as .bin and .lines, and the files of area_replays and of converter_vectors"
+            "vectors FOLDER    writes made, limits and classes, each as .bin and .lines, the files of replays, and conversions.lines"
         );
         std::process::exit(2);
     };
@@ -29,8 +29,8 @@ fn main() {
     std::fs::create_dir_all(folder).expect("a folder to write to");
     write(folder, "made", &made_inputs());
     write(folder, "limits", &examples::limits());
-    sized::write(&folder.join("area_replays"));
-    published::write(&folder.join("converter_vectors"));
+    sized::write(&folder.join("replays"));
+    published::write(&folder.join("conversions.lines"));
     let classes = corpus::classes();
     if classes.is_empty() {
         println!("classes: none, no file of real classes in {}", corpus::folder().display());

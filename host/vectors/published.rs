@@ -1,5 +1,5 @@
-//! What the crate `converter_vectors` must write: both conversions on the inputs of BitEncoding's own test, which are java.util.Random's bytes, and on
-//! cases for each refusal.
+//! What the module `of_converter` of the crate `vectors` must write: both conversions on the inputs of BitEncoding's own test, which are
+//! java.util.Random's bytes, and on cases for each refusal.
 
 use harness::conversion::{convert, Converted, Way};
 use harness::forms::marked;
@@ -11,12 +11,11 @@ const ROOM: usize = 1 << 16;
 const AREA: usize = 9;
 const PATTERN: u16 = 0xee;
 
-pub fn write(folder: &Path) {
-    std::fs::create_dir_all(folder).expect("a folder to write to");
+pub fn write(file: &Path) {
     let short = (0..=100).map(|length| tally(length, 100) + &units(&old_form(length, 1).units) + "\n");
     let long = [1000, 32_000, 33_000].map(|length| tally(length, 3) + "\n");
     let lines: String = short.chain(long).chain(cases().iter().map(|d1| both(d1))).collect();
-    std::fs::write(folder.join("stdout"), lines).expect("a file written");
+    std::fs::write(file, lines).expect("a file written");
 }
 
 /// The bytes that java.util.Random gives for a seed, by its documentation: each step of 48 bits gives 32, the lowest byte first.

@@ -17,7 +17,7 @@ const LONGEST_SHEET: u64 = 150;
 const ACCEPTED: usize = 26;
 const REFUSED: usize = 4;
 
-/// What the crate `area_replays` is run on and what it must write: a file for each list, its arguments, and all lines.
+/// What the crate `replays` is run on beside its standard input and what it must write of that: a file for each list, its arguments, and all lines.
 pub fn write(folder: &Path) {
     let data = folder.join("data");
     std::fs::create_dir_all(&data).expect("a folder to write to");

@@ -47,16 +47,16 @@ use Rattle.answer_lines.specs.told.LineTold.{kept_input, input_with, version_at,
 use Rattle.answer_lines.proofs.KeptLaws.{length_numbers, read_kept}
 
 -- the lengths that an answer tells lie in its areas, and in those that were lent
-pub record Inside (S T : List ℕ) (a : R.Answer) : Type 0 where
+pub record LengthsInside (S T : List ℕ) (a : R.Answer) : Type 0 where
   pub sheet_in : a.sheet_length ≤ length a.sheet
   pub text_in : a.text_length ≤ length a.text
   pub sheet_lent : a.sheet_length ≤ length S
   pub text_lent : a.text_length ≤ length T
 
-refused-inside : (S T : List ℕ) (c : Cause) (place : ℕ) → Inside S T (refusal S T c place)
+refused-inside : (S T : List ℕ) (c : Cause) (place : ℕ) → LengthsInside S T (refusal S T c place)
 refused-inside S T c place = record { sheet_in = omega arith; text_in = omega arith; sheet_lent = omega arith; text_lent = omega arith }
 
-accepted-inside : (S T s t : List ℕ) (n : ℕ) → length s ≤ length S → length t ≤ length T → Inside S T (accepted S T s t n)
+accepted-inside : (S T s t : List ℕ) (n : ℕ) → length s ≤ length S → length t ≤ length T → LengthsInside S T (accepted S T s t n)
 accepted-inside S T s t n h k = record {
   sheet_in = omega (arith, length-append s (drop (length s) S));
   text_in = omega (arith, length-append t (drop (length t) T));
@@ -64,16 +64,16 @@ accepted-inside S T s t n h k = record {
   text_lent = k;
 }
 
-sheet-inside : (S T : List ℕ) (rows : List Row) (n : ℕ) → length (texts rows) ≤ length T → Inside S T (sheet_written S T rows n)
+sheet-inside : (S T : List ℕ) (rows : List Row) (n : ℕ) → length (texts rows) ≤ length T → LengthsInside S T (sheet_written S T rows n)
 unfolding sheet_written
 sheet-inside S T rows n k =
-    if_ind (Inside S T) (ltb (length S) (length (sheet_from 0 rows))) {y = accepted S T (sheet_from 0 rows) (texts rows) n}
+    if_ind (LengthsInside S T) (ltb (length S) (length (sheet_from 0 rows))) {y = accepted S T (sheet_from 0 rows) (texts rows) n}
     (λ t. refused-inside S T sheet_too_long 0) λ t. accepted-inside S T (sheet_from 0 rows) (texts rows) n (ltb-false _ _ t) k
 
-written-inside : (S T : List ℕ) (rows : List Row) (n : ℕ) → Inside S T (written S T rows n)
+written-inside : (S T : List ℕ) (rows : List Row) (n : ℕ) → LengthsInside S T (written S T rows n)
 unfolding written
 written-inside S T rows n =
-    if_ind (Inside S T) (ltb (min (length T) text_limit) (length (texts rows))) {y = sheet_written S T rows n}
+    if_ind (LengthsInside S T) (ltb (min (length T) text_limit) (length (texts rows))) {y = sheet_written S T rows n}
     (λ t. refused-inside S T text_too_long 0) λ t. sheet-inside S T rows n (fits t)
   where
     fits : ltb (min (length T) text_limit) (length (texts rows)) ≡ false → length (texts rows) ≤ length T
@@ -81,11 +81,11 @@ written-inside S T rows n =
         let h : length (texts rows) ≤ min (length T) text_limit = ltb-false _ _ t in
         omega arith
 
-answered-inside : (S T : List ℕ) (kind : ℕ) (r : Res (Declarations × ℕ)) → Inside S T (answered S T kind r)
+answered-inside : (S T : List ℕ) (kind : ℕ) (r : Res (Declarations × ℕ)) → LengthsInside S T (answered S T kind r)
 answered-inside S T kind (refused c p) = refused-inside S T c p
 answered-inside S T kind (ok r) = written-inside S T (declaration_rows kind r.0) (allowance - r.1)
 
-pub read-inside : (S T : List ℕ) (i : Input) → Inside S T (read S T i)
+pub read-inside : (S T : List ℕ) (i : Input) → LengthsInside S T (read S T i)
 unfolding read
 read-inside S T i = answered-inside S T (kind_of i.k) (reading i)
 
@@ -142,8 +142,8 @@ wrote_whole bs t s h {kept} e {r} {S} {S'} w =
 
 -- what the entry answers lies in the areas
 pub entry_inside : (S T : List ℕ) (i : Input) (o : Std.Result Sizes Refusal) {S' T' : List ℕ} → read S T i ≡ told o S' T' → {sizes : Sizes}
-    → o ≡ Std.Ok sizes → Inside S T (told (Std.Ok sizes) S' T')
-entry_inside S T i o {S'} {T'} e f = subst (Inside S T) (e ∙ ap (λ (x : Std.Result Sizes Refusal). told x S' T') f) (read-inside S T i)
+    → o ≡ Std.Ok sizes → LengthsInside S T (told (Std.Ok sizes) S' T')
+entry_inside S T i o {S'} {T'} e f = subst (LengthsInside S T) (e ∙ ap (λ (x : Std.Result Sizes Refusal). told x S' T') f) (read-inside S T i)
 
 -- what was taken from the bytes kept is what the counts announce
 pub numbers_kept : (w : ℕ) (bs : List ℕ) (at at' n m r : ℕ) (S S' : List ℕ) → at ≡ at' → length S ≡ m → r ≡ min n (length S)

@@ -12,7 +12,7 @@ use line::stream::{KEPT, Taken, take_input};
 use metadata::read;
 use std::io::Read;
 
-// The reader's answer to d1, d2 and ends, with k and mv from what is kept. area_replays takes both in the same way: one function for these two lines would
+// The reader's answer to d1, d2 and ends, with k and mv from what is kept. replays takes both in the same way: one function for these two lines would
 // need a definition, a contract and laws of its own, which are longer.
 fn put_read(kept: &[u8], d1: &[u16], d2: &[u16], ends: &[u32], area: &mut [u8]) -> usize
     ensures { WroteRead kept.now d1.now d2.now ends.now result area.old area.new }
@@ -30,7 +30,7 @@ fn put_read(kept: &[u8], d1: &[u16], d2: &[u16], ends: &[u32], area: &mut [u8]) 
     }
 }
 
-// The same with d1, d2 and ends from what is kept, by the counts. area_replays has these three arrays too: there is no heap, and a function that gave them
+// The same with d1, d2 and ends from what is kept, by the counts. replays has these three arrays too: there is no heap, and a function that gave them
 // back would copy 147 KB.
 fn put_kept(kept: &[u8], counts: Counts, area: &mut [u8]) -> usize
     requires { CountsFit counts }

@@ -55,7 +55,7 @@ abbrev pub decoded : Lead → ℕ → List ℕ → ℕ
 decoded l b bs = sixes (leading (length l.following) b) bs
 
 -- Bytes that fit a row of the table, and give the number c.
-pub record Encoded (c : ℕ) (bytes : List ℕ) : Type 0 where
+pub record InRow (c : ℕ) (bytes : List ℕ) : Type 0 where
   pub row : Lead
   pub first : ℕ
   pub more : List ℕ
@@ -75,7 +75,7 @@ trails : (n : ℕ) → T (in_range trail (continuation n))
 trails n = in_range_lem trail (continuation n) (omega arith)
 
 module _ (c : ℕ) where
-  one : c < 0x80 → Encoded c (c ∷ [])
+  one : c < 0x80 → InRow c (c ∷ [])
   one h = record {
     row = ◌then◌ (◌to◌ 0x00 0x7f) [];
     first = c;
@@ -87,7 +87,7 @@ module _ (c : ℕ) where
     back = refl;
   }
 
-  two : 0x80 ≤ c → c < 0x800 → Encoded c (bytes2 c)
+  two : 0x80 ≤ c → c < 0x800 → InRow c (bytes2 c)
   two h k = record {
     row = ◌then◌ (◌to◌ 0xc2 0xdf) (trail ∷ []);
     first = 0xc0 + c / 64;
@@ -105,7 +105,7 @@ module _ (c : ℕ) where
     Within b d = (f.low ≤ b) × (b ≤ f.high) × (r.low ≤ d) × (d ≤ r.high)
 
     three : Memᴰ (◌then◌ f (r ∷ trail ∷ [])) leads → (c < 0x10000) × Within (0xe0 + c / 64 / 64) (continuation (c / 64))
-        → Encoded c (bytes3 c)
+        → InRow c (bytes3 c)
     three m h = record {
       row = ◌then◌ f (r ∷ trail ∷ []);
       first = 0xe0 + c / 64 / 64;
@@ -118,7 +118,7 @@ module _ (c : ℕ) where
     }
 
     four : Memᴰ (◌then◌ f (r ∷ trail ∷ trail ∷ [])) leads
-        → (c ≤ 0x10ffff) × Within (0xf0 + c / 64 / 64 / 64 % 8) (continuation (c / 64 / 64)) → Encoded c (bytes4 c)
+        → (c ≤ 0x10ffff) × Within (0xf0 + c / 64 / 64 / 64 % 8) (continuation (c / 64 / 64)) → InRow c (bytes4 c)
     four m h = record {
       row = ◌then◌ f (r ∷ trail ∷ trail ∷ []);
       first = 0xf0 + c / 64 / 64 / 64 % 8;
@@ -130,9 +130,9 @@ module _ (c : ℕ) where
       back = six _ c (six _ (c / 64) (six _ (c / 64 / 64) (omega arith)));
     }
 
-  pub encoded : T (is_scalar c) → Encoded c (utf8_of c)
+  pub encoded : T (is_scalar c) → InRow c (utf8_of c)
   encoded s =
-      by_width (λ n. Encoded c) c one two
+      by_width (λ n. InRow c) c one two
       (λ h k.
       below 0x1000 c (λ i. three (◌to◌ 0xe0 0xe0) (◌to◌ 0xa0 0xbf) (search member) (omega arith)) λ i.
       below 0xd000 c (λ j. three (◌to◌ 0xe1 0xec) trail (search member) (omega arith)) λ j.

@@ -138,10 +138,10 @@ counts-put o a b c at S p q r =
     sets_then (little 2 a ++ little 2 b) (little 2 c) S at (sets_then (little 2 a) (little 2 b) S at p refl q) refl r
 
 -- A cell of a record is small, if it holds a name by its text or a number of 8 bytes at most.
-abbrev pub Small : Cell → Type 0
-Small c = cell_length c + length (cell_text c) ≤ cell_limit
+abbrev pub SmallCell : Cell → Type 0
+SmallCell c = cell_length c + length (cell_text c) ≤ cell_limit
 
-cells_most : (cs : List Cell) (o : ℕ) → All Small cs → length (body_bytes o cs) + length (body_text cs) ≤ length cs * cell_limit
+cells_most : (cs : List Cell) (o : ℕ) → All SmallCell cs → length (body_bytes o cs) + length (body_text cs) ≤ length cs * cell_limit
 unfolding body_bytes body_text
 cells_most [] o h = omega arith
 cells_most (c ∷ cs) o h =
@@ -155,12 +155,12 @@ cells_most (c ∷ cs) o h =
       length-append (cell_text c) (body_text cs),
     )
 
-both_small : (x y : Option Text) → Small (name_cell x) → Small (name_cell y) → All Small (signature_cells (both_of signed x y))
+both_small : (x y : Option Text) → SmallCell (name_cell x) → SmallCell (name_cell y) → All SmallCell (signature_cells (both_of signed x y))
 both_small none y f g = (omega arith, (omega arith, tt))
 both_small (some t) none f g = (omega arith, (omega arith, tt))
 both_small (some t) (some u) f g = (f, (g, tt))
 
-pub init_name_small : Small (name_cell (some (ascii "<init>")))
+pub init_name_small : SmallCell (name_cell (some (ascii "<init>")))
 unfolding utf8 utf8_of
 init_name_small = omega arith
 
@@ -169,7 +169,7 @@ module _ {payload d2 : List ℕ} where
   room_within k l r = record { payload = r.payload; d2 = r.d2; places = omega (arith, r.places) }
 
   -- What is left of it after cells, and after a record's kind and cells.
-  module _ (cs : List Cell) {m b : ℕ} {s s' : State} {S S' T T' : List ℕ} (h : All Small cs) (r : RecordRoom m payload d2 s) where
+  module _ (cs : List Cell) {m b : ℕ} {s s' : State} {S S' T T' : List ℕ} (h : All SmallCell cs) (r : RecordRoom m payload d2 s) where
     pub cells-room : PutCells cs b s s' S S' T T' → RecordRoom (m + length cs * cell_limit) payload d2 s'
     cells-room p = record {
       payload = r.payload;
@@ -189,43 +189,43 @@ module _ {payload d2 : List ℕ} where
     row_room k p = head-room k (put_same p (rw append-nil) (rw append-nil))
 
   -- A name's cell is small.
-  pub present-small : {m : ℕ} {s : State} → RecordRoom m payload d2 s → (n : Name) → Small (name_cell (some (named_text payload d2 n)))
+  pub present-small : {m : ℕ} {s : State} → RecordRoom m payload d2 s → (n : Name) → SmallCell (name_cell (some (named_text payload d2 n)))
   present-small r n = omega (arith, name-most payload d2 n 32768 r.payload r.d2 (omega arith) false, ap length (name-text payload d2 n))
 
-  pub name-small : {m : ℕ} {s : State} → RecordRoom m payload d2 s → (o : rust.Option Name) → Small (name_cell (name_text payload d2 o))
+  pub name-small : {m : ℕ} {s : State} → RecordRoom m payload d2 s → (o : rust.Option Name) → SmallCell (name_cell (name_text payload d2 o))
   name-small r None = omega arith
   name-small r (Some n) = present-small r n
 
-  pub signature-small : {m : ℕ} {s : State} → RecordRoom m payload d2 s → (n : SignatureNames) → All Small (signature_cells (signature_by payload d2 n))
+  pub signature-small : {m : ℕ} {s : State} → RecordRoom m payload d2 s → (n : SignatureNames) → All SmallCell (signature_cells (signature_by payload d2 n))
   signature-small r n =
       both_small (name_text payload d2 n.name) (name_text payload d2 n.descriptor) (name-small r n.name) (name-small r n.descriptor)
 
-  pub init-small : {m : ℕ} {s : State} → RecordRoom m payload d2 s → (n : SignatureNames) → All Small (signature_cells (init_by payload d2 n))
+  pub init-small : {m : ℕ} {s : State} → RecordRoom m payload d2 s → (n : SignatureNames) → All SmallCell (signature_cells (init_by payload d2 n))
   init-small r n =
       let x = name_text payload d2 n.name in
       both_small (or_else x (some (ascii "<init>"))) (name_text payload d2 n.descriptor) (go x (name-small r n.name))
       (name-small r n.descriptor)
     where
-      go : (x : Option Text) → Small (name_cell x) → Small (name_cell (or_else x (some (ascii "<init>"))))
+      go : (x : Option Text) → SmallCell (name_cell x) → SmallCell (name_cell (or_else x (some (ascii "<init>"))))
       go none h = init_name_small
       go (some t) h = h
 
   -- so are all cells of a record
   module _ {m : ℕ} {s : State} (r : RecordRoom m payload d2 s) where
-    pub head_small : (kind : ℕ) (n : rust.Option Name) (flags : ℕ) → All Small (head_cells kind (name_text payload d2 n) flags)
+    pub head_small : (kind : ℕ) (n : rust.Option Name) (flags : ℕ) → All SmallCell (head_cells kind (name_text payload d2 n) flags)
     head_small kind n flags = (omega arith, (name-small r n, (omega arith, tt)))
 
-    pub constructor-small : (flags : ℕ) (n : SignatureNames) → All Small (constructor_cells flags (init_by payload d2 n))
+    pub constructor-small : (flags : ℕ) (n : SignatureNames) → All SmallCell (constructor_cells flags (init_by payload d2 n))
     constructor-small flags n = (omega arith, init-small r n)
 
     pub function-small : (name : rust.Option Name) (flags : ℕ) (n : SignatureNames) (receiver : Bool)
-        → All Small (function_cells (name_text payload d2 name) flags (signature_by payload d2 n) receiver)
+        → All SmallCell (function_cells (name_text payload d2 name) flags (signature_by payload d2 n) receiver)
     function-small name flags n receiver =
         let h = signature-small r n in
         (name-small r name, (omega arith, (h.0, (h.1.0, (omega arith, tt)))))
 
     pub property-small : (name : rust.Option Name) (flags : ℕ) (receiver getter setter : Bool) (f g h : SignatureNames)
-        → All Small
+        → All SmallCell
         (property_cells (name_text payload d2 name) flags receiver getter setter (signature_by payload d2 f) (signature_by payload d2 g)
         (signature_by payload d2 h))
     property-small name flags receiver getter setter f g h =
@@ -235,5 +235,5 @@ module _ {payload d2 : List ℕ} where
           (omega arith, (omega arith, (omega arith, (omega arith, (p.0, (p.1.0, (q.0, (q.1.0, signature-small r h)))))))),
         )
 
-    pub alias-small : (name : rust.Option Name) (flags : ℕ) → All Small (alias_cells (name_text payload d2 name) flags)
+    pub alias-small : (name : rust.Option Name) (flags : ℕ) → All SmallCell (alias_cells (name_text payload d2 name) flags)
     alias-small name flags = (name-small r name, (omega arith, tt))

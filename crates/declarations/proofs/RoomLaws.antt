@@ -16,7 +16,7 @@ use Rattle.wire.specs.Messages.{values, bytes_of, bodies_of, cut_option, message
 use Rattle.messages.specs.told.Asked.{bodies}
 use Rattle.names.specs.Records.{Record, record_of}
 use Rattle.names.specs.Names.{records_of}
-use Rattle.wire.proofs.Readers.{Within, within_shorter, after_shorter, varint-after, value_after}
+use Rattle.wire.proofs.Readers.{PieceOf, within_shorter, after_shorter, varint-after, value_after}
 use Rattle.wire.proofs.Progress.{every-gives}
 use Rattle.wire.proofs.MessageLaws.{values_few}
 use Rattle.wire.proofs.Places.{cut_in, bytes_of-in}
@@ -51,7 +51,7 @@ bodies_few k p {m} e =
 Few : Part → Message → Type 0
 Few p t = 2 * length t ≤ length p.bytes
 
-option_few : (p : Part) (o : Option Part) → IfSome (Within p) o → Gives (IfSome (Few p)) (cut_option o)
+option_few : (p : Part) (o : Option Part) → IfSome (PieceOf p) o → Gives (IfSome (Few p)) (cut_option o)
 unfolding Few
 option_few p none w = tt
 option_few p (some q) w = gives_bind (Few q) (IfSome (Few p)) (cut q) _ (cut_halved q) λ t h. omega (arith, within_shorter w)

@@ -33,7 +33,7 @@ pub struct Sections {
 }
 
 // The field of a list, which a class and a package number apart.
-fn field_of(kind: Kind, in_class: u32, in_package: u32) -> u32
+pub fn field_of(kind: Kind, in_class: u32, in_package: u32) -> u32
     ensures { result ≡ (if eqb (kind_number kind) 1 then in_class else in_package) }
 {
     if kind.is_class() {

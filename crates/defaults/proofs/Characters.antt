@@ -16,20 +16,20 @@ use Rattle.foundation.proofs.EveryLaws.{all_split}
 use Rattle.defaults.proofs.ChoiceLaws.{all_map_iff}
 
 -- A character is one byte, itself, or two to four bytes from 80 hex on.
-pub data Encoded (c : ℕ) : List ℕ → Type 0 where
-  alone : c < 0x80 → Encoded c (c ∷ [])
-  high : {b : ℕ} {bs : List ℕ} → 0x80 ≤ c → All (λ x. 0x80 ≤ x) (b ∷ bs) → Encoded c (b ∷ bs)
+pub data OneOrHigh (c : ℕ) : List ℕ → Type 0 where
+  alone : c < 0x80 → OneOrHigh c (c ∷ [])
+  high : {b : ℕ} {bs : List ℕ} → 0x80 ≤ c → All (λ x. 0x80 ≤ x) (b ∷ bs) → OneOrHigh c (b ∷ bs)
 
-encoded : (c : ℕ) → Encoded c (utf8_of c)
+encoded : (c : ℕ) → OneOrHigh c (utf8_of c)
 unfolding utf8_of
 encoded c =
-    if_ind (Encoded c) (ltb c 0x80) (λ t. alone (ltb-true c 0x80 t)) λ t.
-    if_ind (Encoded c) (ltb c 0x800) (λ u. high (ltb-false c 0x80 t) (omega arith)) λ u.
-    if_ind (Encoded c) (ltb c 0x10000) (λ v. high (ltb-false c 0x80 t) (omega arith)) λ v. high (ltb-false c 0x80 t) (omega arith)
+    if_ind (OneOrHigh c) (ltb c 0x80) (λ t. alone (ltb-true c 0x80 t)) λ t.
+    if_ind (OneOrHigh c) (ltb c 0x800) (λ u. high (ltb-false c 0x80 t) (omega arith)) λ u.
+    if_ind (OneOrHigh c) (ltb c 0x10000) (λ v. high (ltb-false c 0x80 t) (omega arith)) λ v. high (ltb-false c 0x80 t) (omega arith)
 
 -- So a byte below 80 hex occurs in the text exactly where it is a character.
 module _ (b : ℕ) (below : b < 0x80) where
-  character-iff : {c : ℕ} {bs : List ℕ} → Encoded c bs → All (λ x. x ≢ b) bs ↔ (c ≢ b)
+  character-iff : {c : ℕ} {bs : List ℕ} → OneOrHigh c bs → All (λ x. x ≢ b) bs ↔ (c ≢ b)
   character-iff (alone h) = (λ k. k.0, λ k. (k, tt))
   character-iff {c} (high {b = first} {bs = rest} h k) =
       (λ n e. omega arith, λ n. all_weaken (λ x. 0x80 ≤ x) (λ x. x ≢ b) (λ x j e. omega arith) (first ∷ rest) k)
@@ -44,7 +44,7 @@ module _ (b : ℕ) (below : b < 0x80) where
         λ h. all_append (λ x. x ≢ b) (utf8_of c) (utf8 cs) (first.1 h.0) (rest.1 h.1),
       )
 
-encoded_some : {c : ℕ} {bs : List ℕ} → Encoded c bs → bs ≢ []
+encoded_some : {c : ℕ} {bs : List ℕ} → OneOrHigh c bs → bs ≢ []
 encoded_some {c} (alone h) = cons-ne-nil c []
 encoded_some (high {b} {bs} h k) = cons-ne-nil b bs
 

@@ -35,7 +35,7 @@ use Rattle.std.specs.Prelude as std
 use Rattle.std.specs.Prelude.{Some, None}
 use Rattle.descriptors.specs.told.DefaultsTold.{erased_at, part_cost, PartWithin, PartTold, ReadFound, ErasedTold, parameters_part, ParametersTold}
 use Rattle.descriptors.specs.told.PartsTold.{PartRoom, Gave, PartOf, TypeGiven, type_part, preceded}
-use Rattle.descriptors.proofs.GivenLaws.{parameters-given, FirstGiven, first-given, none-given, parameter_type}
+use Rattle.descriptors.proofs.GivenLaws.{parameters-given, FirstParameter, first-given, none-given, parameter_type}
 use Rattle.descriptors.proofs.JoinLaws.{both, parameters_cons, text_none, text_then, told_then, told_absent, told_same, preceded-sum}
 use Rattle.foundation.specs.declared.Span.{Span}
 use Rattle.messages.specs.told.Asked.{span}
@@ -80,7 +80,7 @@ module _ (e : Lent) (at : ℕ) (position : Position) {start end inline indexed :
     }
 
 -- The walk over the parameters: what is right from here on is right from the start.
-pub record Rest (c : Scope) (msg : List ℕ) (base number at : ℕ) (ps : List Parameter) (A₀ : List ℕ) (here size : ℕ) (A : List ℕ) : Type 0 where
+pub record PartsLeft (c : Scope) (msg : List ℕ) (base number at : ℕ) (ps : List Parameter) (A₀ : List ℕ) (here size : ℕ) (A : List ℕ) : Type 0 where
   pub rest : Message
   pub left : List Message
   pub cuts : cut (rest_of base msg here) ≡ ok rest
@@ -93,7 +93,7 @@ pub record Parting (e : Lent) (msg : List ℕ) (base number at : ℕ) (A₀ : Li
   pub inside : here ≤ length msg
   pub few : size ≤ part_cost * here
   pub going : (c : Scope) → Scoped e c → (m : Message) → EntryAt e.payload base (base + length msg) m → (ps : List Parameter)
-      → Gave (parameters_in c number m) ps → Rest c msg base number at ps A₀ here size A
+      → Gave (parameters_in c number m) ps → PartsLeft c msg base number at ps A₀ here size A
 
 told-start : (o : Option (List ℕ)) (at : ℕ) (r : std.Option ℕ) (A A₁ : List ℕ) → PartTold o (at + 0) r A A₁ → PartTold o at (preceded 0 r) A A₁
 told-start o at (Some n) A A₁ (t, e, p) = (t, e, text_then (text_none at A) p)
@@ -119,7 +119,7 @@ parts-start e msg base number at A₀ st = record {
 
 module _ {e : Lent} {msg : List ℕ} {base number at : ℕ} {A₀ : List ℕ} {here size : ℕ} {A : List ℕ} (p : Parting e msg base number at A₀ here size A)
     {x : std.Option Span} (t : NextBodyTold base msg number here x) where
-  next-is : {y : std.Option Span} → x ≡ y → {c : Scope} {ps : List Parameter} (g : Rest c msg base number at ps A₀ here size A)
+  next-is : {y : std.Option Span} → x ≡ y → {c : Scope} {ps : List Parameter} (g : PartsLeft c msg base number at ps A₀ here size A)
       → NextIs base msg number g.rest y
   next-is q g = subst (NextIs base msg number g.rest) q (t.is g.rest g.cuts)
 
@@ -153,7 +153,7 @@ module _ {e : Lent} {msg : List ℕ} {base number at : ℕ} {A₀ : List ℕ} {h
         (u : PartOf (TypeGiven ValueParameter-type ValueParameter-type_id) (type_part position.Parameter) part_cost e (base + a) (base + a + length (take (b - a) (drop a msg))) (at + size) r A A₁) where
       -- what is told of the parameter, and of those after it
       module _ (c : Scope) (s : Scoped e c) (m : Message) (k : EntryAt e.payload base (base + length msg) m) (ps : List Parameter)
-          (g : Rest c msg base number at ps A₀ here size A) where
+          (g : PartsLeft c msg base number at ps A₀ here size A) where
         the_rest : Message
         the_rest = (next-is q g).0
 
@@ -161,7 +161,7 @@ module _ {e : Lent} {msg : List ℕ} {base number at : ℕ} {A₀ : List ℕ} {h
         unfolding the_rest
         one = cut-first (part_between base msg a b) (bodies number (next-is q g).0) g.left (ap cut_all (sym (next-is q g).2) ∙ g.many)
 
-        first : FirstGiven c one.first one.others g.later
+        first : FirstParameter c one.first one.others g.later
         first =
             first-given c one.first one.others
             (subst (λ (ms : List Message). Gave (each (parameter_in c) ms) g.later) one.are g.reads)

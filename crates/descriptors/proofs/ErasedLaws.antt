@@ -37,7 +37,7 @@ use Rattle.names.specs.declared.name.Source.TheVariants.{D2}
 use Rattle.names.proofs.NameLaws.{source-units, name-parts}
 use Rattle.names.proofs.PresentLaws.{name-most}
 use Rattle.names.proofs.FittedLaws.{fitted_ind, zeros-first}
-use Rattle.names.proofs.ScalarLaws.{Strings, qualified-characters, d2_characters, substituted-keeps}
+use Rattle.names.proofs.ScalarLaws.{StringsOfCharacters, qualified-characters, d2_characters, substituted-keeps}
 use Rattle.declaration_rows.specs.Declarations.{invariant, Ty}
 use Rattle.schema.specs.Reading.{pure, lift, Scope, class_name_in}
 use Rattle.schema.specs.told.SchemaTold.{Lent, NamesOf, Scoped, Stands}
@@ -180,10 +180,10 @@ pub units_each : (l : List ℕ) → ((i : ℕ) → get_or l i 0 < 65536) → Uni
 units_each [] h = tt
 units_each (u ∷ us) h = (h 0, units_each us λ i. h (suc i))
 
-lent-strings : (e : Lent) (c : Scope) → Scoped e c → Units e.d2 → Strings c.names
+lent-strings : (e : Lent) (c : Scope) → Scoped e c → Units e.d2 → StringsOfCharacters c.names
 lent-strings e c o u i = rw o.names.strings (d2_characters e.ends e.d2 u i)
 
-class_characters : (c : Scope) (k : ℕ) (m : Message) (l b : ℕ) (n : Text) → Strings c.names → class_name_in c k m l ≡ ok (some n, b) → Characters n
+class_characters : (c : Scope) (k : ℕ) (m : Message) (l b : ℕ) (n : Text) → StringsOfCharacters c.names → class_name_in c k m l ≡ ok (some n, b) → Characters n
 unfolding class_name_in
 class_characters c k m l b n s e = go (index k m) e
   where

@@ -69,21 +69,21 @@ module _ (c : Scope) where
   parameters-given n m g = gave_reads (ParametersGiven n m) (parameters-read n m) g
 
   -- the first of them, and the others
-  pub record FirstGiven (m : Message) (ms : List Message) (ps : List Parameter) : Type 0 where
+  pub record FirstParameter (m : Message) (ms : List Message) (ps : List Parameter) : Type 0 where
     pub one : Parameter
     pub others : List Parameter
     pub first : Gave (parameter_in c m) one
     pub later : Gave (each (parameter_in c) ms) others
     pub are : ps ≡ one ∷ others
 
-  first_reads : (m : Message) (ms : List Message) → Reads (FirstGiven m ms) (each (parameter_in c) (m ∷ ms))
+  first_reads : (m : Message) (ms : List Message) → Reads (FirstParameter m ms) (each (parameter_in c) (m ∷ ms))
   unfolding each
   first_reads m ms =
       reads-bind (reads_self (parameter_in c m)) λ p g.
       reads-bind (reads_self (each (parameter_in c) ms)) λ ps h. reads-pure (record { one = p; others = ps; first = g; later = h; are = refl })
 
-  pub first-given : (m : Message) (ms : List Message) {ps : List Parameter} → Gave (each (parameter_in c) (m ∷ ms)) ps → FirstGiven m ms ps
-  first-given m ms g = gave_reads (FirstGiven m ms) (first_reads m ms) g
+  pub first-given : (m : Message) (ms : List Message) {ps : List Parameter} → Gave (each (parameter_in c) (m ∷ ms)) ps → FirstParameter m ms ps
+  first-given m ms g = gave_reads (FirstParameter m ms) (first_reads m ms) g
 
   none_reads : Reads (λ ps. ps ≡ []) (each (parameter_in c) [])
   unfolding each

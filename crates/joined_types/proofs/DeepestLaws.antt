@@ -15,7 +15,7 @@ use Rattle.foundation.proofs.ResultLaws.{Gives, gives_weaken, gives-ok}
 use Rattle.fields.specs.Fields.{Type-argument, Type-class_name, Type-Argument-type}
 use Rattle.wire.specs.Wire.{Value, varint, fixed, body, Message, cut}
 use Rattle.wire.specs.Messages.{as_body, index, bytes_of, cut_option, message, messages}
-use Rattle.wire.proofs.Readers.{Within, ReadIn, within-length}
+use Rattle.wire.proofs.Readers.{PieceOf, ReadIn, within-length}
 use Rattle.wire.proofs.WalkLaws.{ok_same}
 use Rattle.wire.proofs.MessageLaws.{Values, values_weaken, messages-all}
 use Rattle.wire.proofs.Places.{CutIn, cut_in, cut_in_within, bytes_of-in}
@@ -82,7 +82,7 @@ module _ (base : ℕ) (last : List ℕ) where
   there p = ◌from◌ p.at (part_from (p.at - base) (p.at - base + length p.bytes) last)
 
   -- a part of these bytes, by where it begins and how long it is
-  within-there : {q : Part} → Within whole q → (p : Part) → extent p ≡ extent q → there p ≡ q
+  within-there : {q : Part} → PieceOf whole q → (p : Part) → extent p ≡ extent q → there p ≡ q
   within-there {q} w p e =
       let at : p.at ≡ base + w.start = ap (λ (x : ℕ × ℕ). x.0) e ∙ ap (λ (x : Part). x.at) w.is in
       let many : length p.bytes ≡ w.count = ap (λ (x : ℕ × ℕ). x.1) e ∙ within-length w in
@@ -101,7 +101,7 @@ module _ (base : ℕ) (last : List ℕ) where
     twin-cut (refused c place) (ok m') a = absurd (cc)
     twin-cut (refused c place) (refused c' place') a = ap (λ (r : Res (Option Message)). r >>= λ o. refused c place) a
 
-    twin-option : (o o' : Option Part) → map_option extent o ≡ map_option extent o' → Inner (cut_option o) (cut_option o') → IfSome (Within whole) o' → TwinAt base last o
+    twin-option : (o o' : Option Part) → map_option extent o ≡ map_option extent o' → Inner (cut_option o) (cut_option o') → IfSome (PieceOf whole) o' → TwinAt base last o
     twin-option none o' e a w = tt
     twin-option (some p) none e a w = absurd (cc)
     twin-option (some p) (some q) e a w =
@@ -139,18 +139,18 @@ module _ (base : ℕ) (last : List ℕ) where
 
   -- the other type's were, as it was itself
   module _ (m' : Message) (c : CutIn whole m') where
-    bodies-in : Values (λ v. IfSome (Within whole) (as_body v)) m'
-    bodies-in = values_weaken (ReadIn whole) (λ v. IfSome (Within whole) (as_body v)) as-body m' c
+    bodies-in : Values (λ v. IfSome (PieceOf whole) (as_body v)) m'
+    bodies-in = values_weaken (ReadIn whole) (λ v. IfSome (PieceOf whole) (as_body v)) as-body m' c
       where
-        as-body : (v : Value) → ReadIn whole v → IfSome (Within whole) (as_body v)
+        as-body : (v : Value) → ReadIn whole v → IfSome (PieceOf whole) (as_body v)
         as-body (varint n) r = tt
         as-body (fixed w n) r = tt
         as-body (body q) r = r
 
     arguments-in : Gives (All (CutIn whole)) (messages Type-argument m')
     arguments-in =
-        let cuts : (p : Part) → Within whole p → Gives (CutIn whole) (cut p) = λ p w. gives_weaken (CutIn p) (CutIn whole) (cut p) (cut_in p) (cut_in_within w) in
-        gives_weaken _ (All (CutIn whole)) (messages Type-argument m') (messages-all (Within whole) (CutIn whole) cuts Type-argument m' bodies-in) λ ms a. a.0
+        let cuts : (p : Part) → PieceOf whole p → Gives (CutIn whole) (cut p) = λ p w. gives_weaken (CutIn p) (CutIn whole) (cut p) (cut_in p) (cut_in_within w) in
+        gives_weaken _ (All (CutIn whole)) (messages Type-argument m') (messages-all (PieceOf whole) (CutIn whole) cuts Type-argument m' bodies-in) λ ms a. a.0
 
     twins-by : (k : ℕ) (m : Message) → SameType 0 k m m' → (ms : List Message) → messages Type-argument m ≡ ok ms → All (ArgumentTwin base last) ms
     unfolding SameType

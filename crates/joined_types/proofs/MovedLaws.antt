@@ -226,12 +226,12 @@ module _ (s : List ℕ) (at count : ℕ) (g : EntriesBefore s at count) {x : rus
       w.2 ∙ omega arith
 
   module _ {p : Span} (q : x ≡ Some p) where
-    pub entries_in : (at < p.end) × (p.end ≤ length s)
-    entries_in = let i = subst (PieceInside s) q t.inside in (subst (PieceAfter at) q t.later, i.1)
+    pub entry-inside-table : (at < p.end) × (p.end ≤ length s)
+    entry-inside-table = let i = subst (PieceInside s) q t.inside in (subst (PieceAfter at) q t.later, i.1)
 
     pub entries_next : EntriesBefore s p.end (count + 1)
     entries_next = record {
-      few = omega (arith, g.few, entries_in.0);
+      few = omega (arith, g.few, entry-inside-table.0);
       counted = λ m e.
           let w = g.counted m e in
           let n = subst (NextIs 0 s TypeTable-type w.0) q (t.is w.0 w.1) in

@@ -18,7 +18,7 @@ use Rattle.foundation.proofs.ChoiceLaws.{and_left, and_right}
 use Rattle.characters.specs.told.Places.{part_from}
 use Rattle.names.specs.Records.{Record}
 use Rattle.names.specs.Names.{record_at, strings_from, ends_fit}
-use Rattle.names.specs.told.Index.{sums_from, ranges_of, served_from, Sums, UnpackedTold}
+use Rattle.names.specs.told.Index.{sums_from, ranges_of, served_from, Sums, PairPartTold}
 use Rattle.lookup.specs.told.Lookups.{PlaceTold}
 use Rattle.foundation.specs.declared.Span.{Span}
 use Rattle.std.specs.Prelude.{Some, None}
@@ -196,6 +196,6 @@ module _ (ends units : List ℕ) (f : ends_fit 0 ends (length units) ≡ true) {
 
 -- Where a record stands, by its first word.
 pub place-told : (bytes notes : List ℕ) (k : ℕ) (o : rust.Option Span) → 3 * k + 2 < length notes
-    → UnpackedTold (get_or notes (3 * k) 0) (length bytes) o → PlaceTold bytes notes k o
+    → PairPartTold (get_or notes (3 * k) 0) (length bytes) o → PlaceTold bytes notes k o
 place-told bytes notes k (Some p) h t = (t.0, t.1, t.2, t.3, omega arith, h)
 place-told bytes notes k None h t = λ _. t

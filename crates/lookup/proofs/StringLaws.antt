@@ -115,7 +115,7 @@ part-fits units start end h =
     part-most start end s = omega (arith, length-take (end - start) (drop start s), length-drop start s)
 
 -- All strings.
-pub record Strings (units ends before notes : List ℕ) (at : ℕ) : Type 0 where
+pub record StringsSized (units ends before notes : List ℕ) (at : ℕ) : Type 0 where
   pub keeps : Keeps (sizes_from (length before)) before notes
   pub place : length notes ≤ at + 32
   pub sizes : ends_fit 0 ends (length units) ≡ true → SizesOf units ends notes

@@ -21,7 +21,7 @@ use crate::codes::code_at;
 use crate::strings::size_at;
 use foundation::{Context, Span, wide};
 use names::name::{Name, Source};
-use names::records::{RECORD_WORDS, unpacked};
+use names::records::{RECORD_WORDS, part_of_pair};
 use record_names::note::{Words, noted, noted_class};
 use record_names::plain;
 
@@ -104,7 +104,7 @@ pub(crate) fn place_of(bytes: &[u8], notes: &[u64], at: usize) -> Option<Span>
     if notes.len() / RECORD_WORDS <= at {
         return None;
     }
-    unpacked(notes[RECORD_WORDS * at], bytes.len())
+    part_of_pair(notes[RECORD_WORDS * at], bytes.len())
 }
 
 // What is noted of the record that serves an index.

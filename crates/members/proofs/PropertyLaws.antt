@@ -40,7 +40,7 @@ use Rattle.declaration_rows.specs.declared.SignatureNames.{SignatureNames}
 use Rattle.members.specs.told.SignaturesTold.{Signed}
 use Rattle.members.specs.declared.signatures.PropertyNames.{PropertyNames}
 use Rattle.members.specs.told.SignaturesTold.{PropertySigned}
-use Rattle.declaration_rows.proofs.WrittenLaws.{Small, property-small}
+use Rattle.declaration_rows.proofs.WrittenLaws.{SmallCell, property-small}
 use Rattle.declaration_rows.proofs.RecordLaws.{property-put}
 use Rattle.schema.proofs.CountLaws.{within_both, spends-within}
 use Rattle.std.specs.declared.option.Option.TheVariants.{Some}
@@ -54,7 +54,7 @@ cost_of [] = 0
 cost_of (num w n ∷ cs) = w + cost_of cs
 cost_of (ref t ∷ cs) = cell_limit + cost_of cs
 
-cells_cost : (cs : List Cell) (o : ℕ) → All Small cs → length (body_bytes o cs) + length (body_text cs) ≤ cost_of cs
+cells_cost : (cs : List Cell) (o : ℕ) → All SmallCell cs → length (body_bytes o cs) + length (body_text cs) ≤ cost_of cs
 unfolding body_bytes body_text
 cells_cost [] o h = omega arith
 cells_cost (num w n ∷ cs) o h =
@@ -71,7 +71,7 @@ cells_cost (ref t ∷ cs) o h =
       length-append (cell_text (ref t)) (body_text cs),
     )
 
-row_cost : (k : ℕ) (cs : List Cell) (n : ℕ) → All Small cs → 1 + cost_of cs ≤ n → {s s' : State} {S S' T T' : List ℕ}
+row_cost : (k : ℕ) (cs : List Cell) (n : ℕ) → All SmallCell cs → 1 + cost_of cs ≤ n → {s s' : State} {S S' T T' : List ℕ}
     → PutRows (row k cs ∷ []) s.types s s' S S' T T' → Within n s s'
 unfolding sheet_from texts
 row_cost k cs n small l {s} {s'} {S} {S'} {T} {T'} p =

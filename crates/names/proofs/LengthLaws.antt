@@ -22,14 +22,14 @@ use Rattle.names.specs.Names.{Names, unwrapped, qualified_name}
 use Rattle.names.specs.told.Name.{operation_of, turned, dropped}
 use Rattle.names.specs.declared.name.Operation.{Operation}
 use Rattle.names.specs.declared.name.Operation.TheVariants.{Nothing, InternalToClassId, DescToClassId}
-use Rattle.names.proofs.StepLaws.{PartOf, unwrapped-part, dropped-part, operated-is, base_ind, text-keeps, qualified-keeps}
+use Rattle.names.proofs.StepLaws.{StandsIn, unwrapped-part, dropped-part, operated-is, base_ind, text-keeps, qualified-keeps}
 
 -- A part is no longer than its text, in bytes too; a text keeps its length when a character is replaced, and gains no bytes if
 -- that is done by one that takes a single byte.
-pub part_length : (t u : Text) → PartOf t u → length u ≤ length t
+pub part_length : (t u : Text) → StandsIn t u → length u ≤ length t
 part_length t u e = omega (arith, ap length e.whole, length-append e.before (u ++ e.after), length-append u e.after)
 
-pub part_bytes : (t u : Text) → PartOf t u → length (utf8 u) ≤ length (utf8 t)
+pub part_bytes : (t u : Text) → StandsIn t u → length (utf8 u) ≤ length (utf8 t)
 part_bytes t u e =
     omega (arith, ap (λ (x : Text). length (utf8 x)) e.whole, bytes-append e.before (u ++ e.after), bytes-append u e.after)
 
@@ -85,13 +85,13 @@ text-bytes r =
     (replace_length (base_length r)) λ op t h. omega (arith, operated-bytes op t, bytes_most t)
 
 -- A name takes no more than the strings of d2 and the texts of records may take; nor does its qualified form.
-abbrev pub Fitting : ℕ → Record → Type 0
-Fitting k r = 4 * base_length r ≤ k
+abbrev pub BaseFits : ℕ → Record → Type 0
+BaseFits k r = 4 * base_length r ≤ k
 
-module _ (k : ℕ) (n : Names) (strings : (i : ℕ) → Gives (IfSome (InBytes k)) (n.d2 i)) (records : All (Fitting k) n.records) where
+module _ (k : ℕ) (n : Names) (strings : (i : ℕ) → Gives (IfSome (InBytes k)) (n.d2 i)) (records : All (BaseFits k) n.records) where
   texts-bytes : All (λ r. IfSome (InBytes k) (text_of r)) n.records
   texts-bytes =
-      all_weaken (Fitting k) (λ r. IfSome (InBytes k) (text_of r))
+      all_weaken (BaseFits k) (λ r. IfSome (InBytes k) (text_of r))
       (λ r h. some_weaken (InBytes (4 * base_length r)) (InBytes k) (text_of r) (text-bytes r) λ t p. omega arith) n.records records
 
   pub qualified-bytes : (i : ℕ) → Gives (IfSome (InBytes k)) (qualified_name n i)

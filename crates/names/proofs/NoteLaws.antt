@@ -21,7 +21,7 @@ use Rattle.messages.proofs.BodyLaws.{checked_at}
 use Rattle.characters.specs.told.Places.{part_from}
 use Rattle.names.specs.Records.{Record, record_of, served}
 use Rattle.names.specs.Names.{records_of}
-use Rattle.names.specs.told.Index.{sums_from, ranges_of, packed_places, start_of, end_of, served_from, Sums, RecordAt, IndexOf, RecordIndex, NotedTold, IndexTold}
+use Rattle.names.specs.told.Index.{sums_from, ranges_of, pair_places, start_of, end_of, served_from, Sums, RecordAt, IndexOf, RecordIndex, NotedTold, IndexTold}
 use Rattle.std.specs.Prelude.{Option, Some, None, Result, Ok, Err}
 use Rattle.names.specs.declared.records.IndexError.{IndexError}
 use Rattle.names.specs.declared.records.IndexError.TheVariants.{NoRoom, Wire}
@@ -54,11 +54,11 @@ length-map f [] = refl
 length-map f (x ∷ l) = ap suc (length-map f l)
 
 -- Two places in one number are what they were.
-pub packed_start : (start end : ℕ) → start < 2 ^ 32 → start_of (packed_places start end) ≡ start
-packed_start start end h = omega arith
+pub pair_start : (start end : ℕ) → start < 2 ^ 32 → start_of (pair_places start end) ≡ start
+pair_start start end h = omega arith
 
-pub packed-end : (start end : ℕ) → start < 2 ^ 32 → end_of (packed_places start end) ≡ end
-packed-end start end h = omega arith
+pub pair-end : (start end : ℕ) → start < 2 ^ 32 → end_of (pair_places start end) ≡ end
+pair-end start end h = omega arith
 
 get_or-front : (xs ys : List ℕ) (k : ℕ) → k < length xs → get_or (xs ++ ys) k 0 ≡ get_or xs k 0
 get_or-front [] ys k h = absurd (omega arith)
@@ -153,22 +153,22 @@ module _ (bytes notes : List ℕ) (count : ℕ) (records : List Record) (i : Ind
             ∙ ap (λ (t : List ℕ). get_or t k 0) (sym sums)
 
     each_more : {start end : ℕ} (next : ℕ) (r : Record) → start < 2 ^ 32 → RecordAt bytes start end r → (k : ℕ) (x : Record) → get_elem? (records ++ (r ∷ [])) k ≡ some x
-        → RecordAt bytes (start_of (get_or (noted_more notes count (packed_places start end) next) (3 * k) 0)) (end_of (get_or (noted_more notes count (packed_places start end) next) (3 * k) 0)) x
+        → RecordAt bytes (start_of (get_or (noted_more notes count (pair_places start end) next) (3 * k) 0)) (end_of (get_or (noted_more notes count (pair_places start end) next) (3 * k) 0)) x
     each_more {start} {end} next r u a k x e = go (elem_snoc records r k e)
       where
         go : ((k < length records) × (get_elem? records k ≡ some x)) ⊎ ((k ≡ length records) × (r ≡ x))
-            → RecordAt bytes (start_of (get_or (noted_more notes count (packed_places start end) next) (3 * k) 0)) (end_of (get_or (noted_more notes count (packed_places start end) next) (3 * k) 0)) x
+            → RecordAt bytes (start_of (get_or (noted_more notes count (pair_places start end) next) (3 * k) 0)) (end_of (get_or (noted_more notes count (pair_places start end) next) (3 * k) 0)) x
         go (inl (l, q)) =
             let n : k < count = omega (arith, i.sums.many) in
-            rw (place_same notes count (packed_places start end) next h k n) (i.each k x q)
+            rw (place_same notes count (pair_places start end) next h k n) (i.each k x q)
         go (inr (l, q)) =
             let z : k ≡ count = l ∙ i.sums.many in
-            rw (z, place-new notes count (packed_places start end) next h, packed_start start end u, packed-end start end u, ← q) a
+            rw (z, place-new notes count (pair_places start end) next h, pair_start start end u, pair-end start end u, ← q) a
 
     pub index-more : {start end : ℕ} (r : Record) → start < 2 ^ 32 → RecordAt bytes start end r
-        → IndexOf bytes (noted_more notes count (packed_places start end) (served_from notes count + r.range)) (count + 1) (records ++ (r ∷ []))
+        → IndexOf bytes (noted_more notes count (pair_places start end) (served_from notes count + r.range)) (count + 1) (records ++ (r ∷ []))
     index-more {start} {end} r u a = record {
-      sums = sums-more (packed_places start end) r;
+      sums = sums-more (pair_places start end) r;
       each = each_more (served_from notes count + r.range) r u a;
     }
 
@@ -261,7 +261,7 @@ module _ (bytes : List ℕ) (start : ℕ) (notes : List ℕ) (total count at : �
 
         pub noting-next : 3 * count + 2 < length notes → part.start < 2 ^ 32 → {range : ℕ} (x : Option ℕ)
             → ((m : Message) → cut (◌from◌ part.start (part_from part.start part.end bytes)) ≡ ok m → index Record-range m ≡ index_told x) → range ≡ served (index_told x)
-            → {notes' : List ℕ} → notes' ≡ noted_more notes count (packed_places part.start part.end) (total + range) → Noting bytes start notes' (total + range) (count + 1) part.end
+            → {notes' : List ℕ} → notes' ≡ noted_more notes count (pair_places part.start part.end) (total + range) → Noting bytes start notes' (total + range) (count + 1) part.end
         unfolding record_of
         noting-next hs short {range} x d u {notes'} pf m w =
             let n = i m w in
@@ -269,7 +269,7 @@ module _ (bytes : List ℕ) (start : ℕ) (notes : List ℕ) (total count at : �
             let y = inner.0 in
             let v : (record_of y).range ≡ range = ap served (d y here) ∙ sym u in
             let sum : served_from notes count + (record_of y).range ≡ total + range = rw (n.last, v) in
-            let z : notes' ≡ noted_more notes count (packed_places part.start part.end) (served_from notes count + (record_of y).range) = pf ∙ ap (noted_more notes count (packed_places part.start part.end)) (sym sum) in
+            let z : notes' ≡ noted_more notes count (pair_places part.start part.end) (served_from notes count + (record_of y).range) = pf ∙ ap (noted_more notes count (pair_places part.start part.end)) (sym sum) in
             record {
               rest = b.0;
               cuts = b.1;
@@ -288,7 +288,7 @@ module _ (bytes : List ℕ) (start : ℕ) (notes : List ℕ) (total count at : �
                     is = refl;
                   }) in
                   rw (z, map_snoc record_of n.before y) p;
-              last = rw (z, first-new notes count (packed_places part.start part.end) (served_from notes count + (record_of y).range) hs) sum;
+              last = rw (z, first-new notes count (pair_places part.start part.end) (served_from notes count + (record_of y).range) hs) sum;
             }
 
 -- The local names are looked into after all records are cut.

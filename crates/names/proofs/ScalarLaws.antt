@@ -21,11 +21,11 @@ use Rattle.characters.proofs.TestLaws.{scalar_below}
 use Rattle.foundation.proofs.EveryLaws.{each, every, every_all, all_any, all-at, all_split, all_take, all_drop, some_map}
 use Rattle.names.specs.Records.{Record, predefined_strings, predefined_text, substituted, replace_of, dotted, dollars_dotted, without_ends, operated, text_of}
 use Rattle.names.specs.Names.{Names, string, unwrapped, qualified_name, strings_from, d2_string}
-use Rattle.names.proofs.StepLaws.{PartOf, unwrapped-part, ends-part, base_ind, text-keeps, string-keeps, qualified-keeps, d2-keeps}
+use Rattle.names.proofs.StepLaws.{StandsIn, unwrapped-part, ends-part, base_ind, text-keeps, string-keeps, qualified-keeps, d2-keeps}
 
 -- Substring, replacement and operation keep characters.
 module _ (P : ℕ → Type 0) where
-  pub part-keeps : (t u : Text) → PartOf t u → All P t → All P u
+  pub part-keeps : (t u : Text) → StandsIn t u → All P t → All P u
   part-keeps t u e p = (all_split P u e.after (all_split P e.before (u ++ e.after) (rw e.whole p)).1).0
 
   pub substituted-keeps : (from to : ℕ) (t : Text) → P to → All P t → All P (substituted from to t)
@@ -34,7 +34,7 @@ module _ (P : ℕ → Type 0) where
   pub dotted-keeps : (t : Text) → P 0x2e → All P t → All P (dotted t)
   dotted-keeps t q p = substituted-keeps 0x2f 0x2e (substituted 0x24 0x2e t) q (substituted-keeps 0x24 0x2e t q p)
 
-pub part_characters : (t u : Text) → PartOf t u → Characters t → Characters u
+pub part_characters : (t u : Text) → StandsIn t u → Characters t → Characters u
 part_characters = part-keeps λ c. T (is_scalar c)
 
 pub dotted_characters : (t : Text) → Characters t → Characters (dotted t)
@@ -73,10 +73,10 @@ text_characters r =
     text-keeps Characters Characters r base part_characters replace_characters operated_characters
 
 -- So are names, if the strings of d2 are.
-abbrev pub Strings : Names → Type 0
-Strings n = (i : ℕ) → Gives (IfSome Characters) (n.d2 i)
+abbrev pub StringsOfCharacters : Names → Type 0
+StringsOfCharacters n = (i : ℕ) → Gives (IfSome Characters) (n.d2 i)
 
-module _ (n : Names) (strings : Strings n) where
+module _ (n : Names) (strings : StringsOfCharacters n) where
   texts-characters : All (λ r. IfSome Characters (text_of r)) n.records
   texts-characters = all_any (λ r. IfSome Characters (text_of r)) text_characters n.records
 

@@ -25,18 +25,18 @@ use Rattle.names.specs.declared.name.Operation.TheVariants.{Nothing, InternalToC
 use Rattle.names.specs.Names.{Names, record_at, string, without_last, unwrapped, qualified_name, strings_from, d2_string}
 
 -- A text that stands in another.
-pub record PartOf (t u : Text) : Type 0 where
+pub record StandsIn (t u : Text) : Type 0 where
   pub before : Text
   pub after : Text
   pub whole : before ++ (u ++ after) ≡ t
 
-pub substring-part : (start stop : ℕ) (t : Text) → IfSome (PartOf t) (substring_of start stop t)
+pub substring-part : (start stop : ℕ) (t : Text) → IfSome (StandsIn t) (substring_of start stop t)
 unfolding substring_of
 substring-part start stop t =
-    if_ind (IfSome (PartOf t)) (ltb stop start) (λ e. tt) λ e.
-    some_then (Joins t) (PartOf t) (split_at start t) _ (split_joins start t) λ h p.
+    if_ind (IfSome (StandsIn t)) (ltb stop start) (λ e. tt) λ e.
+    some_then (Joins t) (StandsIn t) (split_at start t) _ (split_joins start t) λ h p.
     let n = stop - start in
-    some_map (Joins h.after) (PartOf t) (λ m. m.before) (split_at n h.after) (split_joins n h.after) λ m q.
+    some_map (Joins h.after) (StandsIn t) (λ m. m.before) (split_at n h.after) (split_joins n h.after) λ m q.
     record { before = h.before; after = m.after; whole = ap (λ (u : Text). h.before ++ u) q ∙ p }
 
 abbrev pub Ends : ℕ → Text → Text → Type 0
@@ -50,14 +50,14 @@ without_last_lem c (a ∷ b ∷ t) =
     let Q = Ends c (a ∷ b ∷ t) in
     some_map (Ends c (b ∷ t)) Q (λ u. a ∷ u) (without_last c (b ∷ t)) (without_last_lem c (b ∷ t)) λ u. ap (λ (v : Text). a ∷ v)
 
-pub unwrapped-part : (t : Text) → PartOf t (unwrapped t)
+pub unwrapped-part : (t : Text) → StandsIn t (unwrapped t)
 unwrapped-part [] = record { before = []; after = []; whole = refl }
-unwrapped-part (c ∷ t) = if_ind (PartOf (c ∷ t)) (eqb c 0x4c) (λ e. go (without_last 0x3b t) (without_last_lem 0x3b t)) λ e. same
+unwrapped-part (c ∷ t) = if_ind (StandsIn (c ∷ t)) (eqb c 0x4c) (λ e. go (without_last 0x3b t) (without_last_lem 0x3b t)) λ e. same
   where
-    same : PartOf (c ∷ t) (c ∷ t)
+    same : StandsIn (c ∷ t) (c ∷ t)
     same = record { before = []; after = []; whole = append-nil (c ∷ t) }
 
-    go : (o : Option Text) → IfSome (Ends 0x3b t) o → PartOf (c ∷ t) (if_some o (c ∷ t) λ u. u)
+    go : (o : Option Text) → IfSome (Ends 0x3b t) o → StandsIn (c ∷ t) (if_some o (c ∷ t) λ u. u)
     go none q = same
     go (some u) q = record { before = c ∷ []; after = 0x3b ∷ []; whole = ap (λ (v : Text). c ∷ v) q }
 
@@ -69,7 +69,7 @@ ends_with b (c ∷ t) =
     let e = ends_with c t in
     (e.0, ap (λ (u : Text). b ∷ u) e.1)
 
-pub ends-part : (t : Text) → PartOf t (without_ends t)
+pub ends-part : (t : Text) → StandsIn t (without_ends t)
 unfolding without_ends
 ends-part [] = record { before = []; after = []; whole = refl }
 ends-part (a ∷ []) = record { before = []; after = []; whole = refl }
@@ -77,7 +77,7 @@ ends-part (a ∷ b ∷ t) =
     let e = ends_with b t in
     record { before = a ∷ []; after = e.0 ∷ []; whole = ap (λ (u : Text). a ∷ u) e.1 }
 
-pub dropped-part : (op : Operation) (t : Text) → PartOf t (dropped op t)
+pub dropped-part : (op : Operation) (t : Text) → StandsIn t (dropped op t)
 dropped-part Nothing t = record { before = []; after = []; whole = append-nil t }
 dropped-part InternalToClassId t = record { before = []; after = []; whole = append-nil t }
 dropped-part DescToClassId t = ends-part t
@@ -108,11 +108,11 @@ module _ (P : Text → Type 0) where
   stepped-keeps f h none t p = p
   stepped-keeps f h (some n) t p = h n.0 n.1 t p
 
-  pub substring-keeps : ((t u : Text) → PartOf t u → P t → P u) → (a b : ℕ) (t : Text) → P t → IfSome P (substring_of a b t)
-  substring-keeps part a b t p = some_weaken (PartOf t) P (substring_of a b t) (substring-part a b t) λ u q. part t u q p
+  pub substring-keeps : ((t u : Text) → StandsIn t u → P t → P u) → (a b : ℕ) (t : Text) → P t → IfSome P (substring_of a b t)
+  substring-keeps part a b t p = some_weaken (StandsIn t) P (substring_of a b t) (substring-part a b t) λ u q. part t u q p
 
   -- what substring and replacement keep, and the operation turns into Q
-  pub text-keeps : (Q : Text → Type 0) (r : Record) → IfSome P (base_text r) → ((t u : Text) → PartOf t u → P t → P u)
+  pub text-keeps : (Q : Text → Type 0) (r : Record) → IfSome P (base_text r) → ((t u : Text) → StandsIn t u → P t → P u)
       → ((a b : ℕ) (t : Text) → P t → IfSome P (replace_of a b t)) → ((op : ℕ) (t : Text) → P t → Q (operated op t)) → IfSome Q (text_of r)
   unfolding text_of
   text-keeps Q r base part replace operate =
@@ -146,10 +146,10 @@ module _ (P : Text → Type 0) (n : Names) (strings : (i : ℕ) → Gives (IfSom
       gives_bind (IfSome P) (IfSome Q) (string n i) _ (string-keeps texts i) λ o p. some_map P Q (λ u. dotted (unwrapped u)) o p h
 
 -- The strings of d2, by any law of units in a row that their parts keep.
-abbrev pub Kept : (List ℕ → Type 0) → (ℕ → List ℕ → List ℕ) → Type 0
-Kept U f = (n : ℕ) (us : List ℕ) → U us → U (f n us)
+abbrev pub PartsKeep : (List ℕ → Type 0) → (ℕ → List ℕ → List ℕ) → Type 0
+PartsKeep U f = (n : ℕ) (us : List ℕ) → U us → U (f n us)
 
-module _ (U : List ℕ → Type 0) (taken : Kept U take) (left : Kept U drop) where
+module _ (U : List ℕ → Type 0) (taken : PartsKeep U take) (left : PartsKeep U drop) where
   strings-keep : (at : ℕ) (ends units : List ℕ) → U units → All U (strings_from at ends units)
   unfolding strings_from
   strings-keep at [] units h = tt

@@ -9,7 +9,7 @@ ghost use Rattle.messages.specs.told.Asked.{FoundTold, index_told};
 ghost use Rattle.wire.specs.told.WireTold.{rest_of};
 ghost use Rattle.names.specs.declared.records.IndexError.TheVariants.{Wire};
 ghost use Rattle.names.specs.Records.{served, two_of};
-ghost use Rattle.names.specs.told.Index.{packed_places, UnpackedTold, NotedTold, IndexTold};
+ghost use Rattle.names.specs.told.Index.{pair_places, PairPartTold, NotedTold, IndexTold};
 ghost use Rattle.names.specs.told.RecordTold.{operation_in, both_numbers, RecordTold};
 
 use fields::{
@@ -104,15 +104,15 @@ impl From<WireError> for IndexError {
 const PLACES: u64 = 4294967296;
 
 // Two places in one number. Two numbers of 32 bits and no `Span`, so that nothing is asked of a caller.
-pub fn packed(start: u32, end: u32) -> u64
-    ensures { result ≡ packed_places start end }
+pub fn place_pair(start: u32, end: u32) -> u64
+    ensures { result ≡ pair_places start end }
 {
     u64::from(start) + PLACES * u64::from(end)
 }
 
 // The part that two places in one number name, if it lies in so many bytes.
-pub fn unpacked(places: u64, size: usize) -> Option<Span>
-    ensures { UnpackedTold places size result }
+pub fn part_of_pair(places: u64, size: usize) -> Option<Span>
+    ensures { PairPartTold places size result }
 {
     // `as`, here and in `note_records`: both halves are below 2^32, and Rust has no `From` between `usize` and `u32` or `u64`.
     let start = (places % PLACES) as usize;
@@ -133,10 +133,10 @@ pub const RECORD_WORDS: usize = 3;
 // more parameters and more laws.
 fn put_entry(notes: &mut [u64], count: usize, start: u32, end: u32, next: u64)
     requires { 3 * count + 2 < length notes.old }
-    ensures { notes.new ≡ set (set notes.old (3 * count) (packed_places start end)) (3 * count + 2) next }
+    ensures { notes.new ≡ set (set notes.old (3 * count) (pair_places start end)) (3 * count + 2) next }
 {
     let at = RECORD_WORDS * count;
-    notes[at] = packed(start, end);
+    notes[at] = place_pair(start, end);
     notes[at + 2] = next;
 }
 

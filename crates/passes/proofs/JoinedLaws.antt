@@ -91,8 +91,8 @@ module _ (bytes new : List ℕ) (p : Parts) (t : SplitTold bytes (read_delimited
       sym (take_all (length bytes - p.rest) (drop p.rest put) (rw (length-drop, as-long) (omega arith)))
       ∙ between-put_mid p.rest (length bytes - p.rest) bytes new (length bytes) t.4 left
 
-  pub body-put : BytesJoined bytes put
-  body-put = bytes-joined bytes put p t as-long (take-put_mid_below p.rest (length bytes - p.rest) bytes new p.rest (omega arith) t.4) (rw (end-is, ← whole) body)
+  pub joined-put_back : BytesJoined bytes put
+  joined-put_back = bytes-joined bytes put p t as-long (take-put_mid_below p.rest (length bytes - p.rest) bytes new p.rest (omega arith) t.4) (rw (end-is, ← whole) body)
 
 -- What is passed of the bytes that they become is passed of them.
 module _ {bytes bytes' : List ℕ} (j : BytesJoined bytes bytes') where

@@ -61,7 +61,7 @@ refusal_numbered text_too_long = omega arith
 refusal_numbered sheet_too_long = omega arith
 
 -- the rows of an answer, which fit both areas
-pub record Fitting (sheet text : List ℕ) (rows : List Row) (n : ℕ) (a : Answer) : Type 0 where
+pub record RowsFit (sheet text : List ℕ) (rows : List Row) (n : ℕ) (a : Answer) : Type 0 where
   pub answer : a ≡ accepted sheet text (sheet_from 0 rows) (texts rows) n
   pub sheet_fits : length (sheet_from 0 rows) ≤ length sheet
   pub text_fits : length (texts rows) ≤ length text
@@ -69,25 +69,25 @@ pub record Fitting (sheet text : List ℕ) (rows : List Row) (n : ℕ) (a : Answ
 
 module _ (sheet text : List ℕ) (rows : List Row) (n : ℕ) where
   sheet-fitting : length (texts rows) ≤ min (length text) text_limit → (sheet_written sheet text rows n).number ≡ 0
-      → Fitting sheet text rows n (sheet_written sheet text rows n)
+      → RowsFit sheet text rows n (sheet_written sheet text rows n)
   unfolding sheet_written
   sheet-fitting h = go (ltb (length sheet) (length (sheet_from 0 rows))) refl
     where
       Either : Bool → Answer
       Either b = if b then refusal sheet text sheet_too_long 0 else accepted sheet text (sheet_from 0 rows) (texts rows) n
 
-      go : (b : Bool) → ltb (length sheet) (length (sheet_from 0 rows)) ≡ b → (Either b).number ≡ 0 → Fitting sheet text rows n (Either b)
+      go : (b : Bool) → ltb (length sheet) (length (sheet_from 0 rows)) ≡ b → (Either b).number ≡ 0 → RowsFit sheet text rows n (Either b)
       go true e z = absurd (omega (arith, refusal_numbered sheet_too_long))
       go false e z = record { answer = refl; sheet_fits = ltb-false _ _ e; text_fits = omega arith; text_short = omega arith }
 
-  written-fitting : (written sheet text rows n).number ≡ 0 → Fitting sheet text rows n (written sheet text rows n)
+  written-fitting : (written sheet text rows n).number ≡ 0 → RowsFit sheet text rows n (written sheet text rows n)
   unfolding written
   written-fitting = go (ltb (min (length text) text_limit) (length (texts rows))) refl
     where
       Either : Bool → Answer
       Either b = if b then refusal sheet text text_too_long 0 else sheet_written sheet text rows n
 
-      go : (b : Bool) → ltb (min (length text) text_limit) (length (texts rows)) ≡ b → (Either b).number ≡ 0 → Fitting sheet text rows n (Either b)
+      go : (b : Bool) → ltb (min (length text) text_limit) (length (texts rows)) ≡ b → (Either b).number ≡ 0 → RowsFit sheet text rows n (Either b)
       go true e z = absurd (omega (arith, refusal_numbered text_too_long))
       go false e z = sheet-fitting (ltb-false _ _ e) z
 
@@ -96,7 +96,7 @@ pub record Accepted (sheet text : List ℕ) (i : Input) : Type 0 where
   pub declarations : Declarations
   pub left : ℕ
   pub reads : reading i ≡ ok (declarations, left)
-  pub fitting : Fitting sheet text (declaration_rows (kind_of i.k) declarations) (allowance - left) (read sheet text i)
+  pub fitting : RowsFit sheet text (declaration_rows (kind_of i.k) declarations) (allowance - left) (read sheet text i)
 
 pub accepted-reads : (sheet text : List ℕ) (i : Input) → (read sheet text i).number ≡ 0 → Accepted sheet text i
 unfolding read
@@ -108,11 +108,11 @@ accepted-reads sheet text i = go (reading i) refl
       declarations = r.0;
       left = r.1;
       reads = e;
-      fitting = subst (λ (q : Res (Declarations × ℕ)). Fitting sheet text (declaration_rows (kind_of i.k) r.0) (allowance - r.1) (answered sheet text (kind_of i.k) q)) (sym e)
+      fitting = subst (λ (q : Res (Declarations × ℕ)). RowsFit sheet text (declaration_rows (kind_of i.k) r.0) (allowance - r.1) (answered sheet text (kind_of i.k) q)) (sym e)
           (written-fitting sheet text (declaration_rows (kind_of i.k) r.0) (allowance - r.1) z);
     }
 
-module _ {sheet text : List ℕ} {rows : List Row} {n : ℕ} {a : Answer} (f : Fitting sheet text rows n a) where
+module _ {sheet text : List ℕ} {rows : List Row} {n : ℕ} {a : Answer} (f : RowsFit sheet text rows n a) where
   pub sheet-bytes : take a.sheet_length a.sheet ≡ sheet_from 0 rows
   sheet-bytes = rw f.answer (take-append_seam (sheet_from 0 rows) (drop (length (sheet_from 0 rows)) sheet))
 

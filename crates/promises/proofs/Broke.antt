@@ -39,11 +39,11 @@ use Rattle.declarations.specs.Payload.{declaration_rows}
 use Rattle.passes.specs.Answered.{text_limit, sheet_written, written, answered}
 use Rattle.metadata.specs.Read.{reading, read}
 use Rattle.promises.specs.Promises.{tells_offset, BrokeAt}
-use Rattle.promises.proofs.Places.{Placed, BreaksAt, before, inside, Breaks, reading_breaks}
+use Rattle.promises.proofs.Places.{PlaceHolds, BreaksAt, before, inside, Breaks, reading_breaks}
 
 module _ (i : Input) (sheet text : List ℕ) where
   -- a refusal of what is read of the decoded bytes, by its cause
-  placed-broke : (bytes : List ℕ) → decoded i.d1 ≡ ok bytes → (c : Cause) (place : ℕ) → Placed (length bytes) c place → T (tells_offset (number_of c))
+  placed-broke : (bytes : List ℕ) → decoded i.d1 ≡ ok bytes → (c : Cause) (place : ℕ) → PlaceHolds (length bytes) c place → T (tells_offset (number_of c))
       → BrokeAt i (refusal sheet text c place)
   unfolding number_of detail_of
   placed-broke bytes e d1_too_long place p z = absurd z

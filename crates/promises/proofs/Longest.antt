@@ -22,7 +22,7 @@ use Rattle.declarations.specs.Payload.{declaration_rows}
 use Rattle.passes.specs.Answered.{text_limit, accepted, sheet_written, written, answered}
 use Rattle.metadata.specs.Read.{reading, read}
 use Rattle.promises.specs.Promises.{longest_sheet, sheet_bytes, text_bytes, Enough}
-use Rattle.promises.proofs.Accepted.{accepted-reads, Fitting, sheet-bytes, text-bytes}
+use Rattle.promises.proofs.Accepted.{accepted-reads, RowsFit, sheet-bytes, text-bytes}
 use Rattle.promises.proofs.Costs.{members_cost, declarations-length}
 use Rattle.promises.proofs.Places.{Breaks, breaks_early, reading_breaks}
 use Rattle.promises.proofs.Sound.{body_limit, reading_costs, reading_enters}
@@ -104,7 +104,7 @@ module _ (sheet text : List ℕ) (i : Input) where
       let short = sheet-short i a.declarations a.left a.reads in
       let t = a.fitting.text_short in
       let w = read-written sheet text i a.declarations a.left a.reads ∙ written-fits sheet text rows (allowance - a.left) (omega arith) (omega arith) in
-      let f : Fitting sheet text rows (allowance - a.left) (read sheet text i) =
+      let f : RowsFit sheet text rows (allowance - a.left) (read sheet text i) =
       record { answer = w; sheet_fits = omega arith; text_fits = omega arith; text_short = t } in (
         ap (λ (b : Answer). b.number) w,
         sheet-bytes f ∙ sym (sheet-bytes a.fitting),

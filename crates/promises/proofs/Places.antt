@@ -45,7 +45,7 @@ use Rattle.foundation.proofs.ResultLaws.{Gives, gives_weaken}
 use Rattle.encoding.specs.Encoding.{unit_limit, decoded, first_above255}
 use Rattle.wire.specs.Wire.{Value, varint, fixed, body, Message, VARINT, I64, LEN, I32, group, groups_from, read_varint, read_bytes, read_delimited, read_fixed, read_value, is_field_number, read_field, is_empty, repeated, cut, packed}
 use Rattle.wire.specs.Messages.{values, as_body, index, cut_option, bytes_of, message, bodies_of, cut_all, messages, varints_in, joined, varints}
-use Rattle.wire.proofs.Readers.{After, Within, ReadIn, after-length, after_shorter, within-length, varint-after, delimited_after, field-after}
+use Rattle.wire.proofs.Readers.{After, PieceOf, ReadIn, after-length, after_shorter, within-length, varint-after, delimited_after, field-after}
 use Rattle.wire.proofs.MessageLaws.{Values, values_weaken, values-all, bytes_of_all}
 use Rattle.wire.proofs.Places.{cut_in}
 use Rattle.names.specs.Names.{Names, records_of, record_at, string, qualified_name, ends_fit, strings_from, d2_string}
@@ -62,27 +62,27 @@ use Rattle.metadata.specs.Read.{reading}
 
 -- What holds of a refusal's place where n bytes are read. What a tag says stands after the tag's first byte, and a varint is oversized after
 -- eleven bytes; a varint or a fixed value may be missing at the very end.
-abbrev pub Placed : ℕ → Cause → ℕ → Type 0
-Placed n d1_too_long place = Unit {0}
-Placed n d2_too_long place = Unit {0}
-Placed n string_ends place = Unit {0}
-Placed n newer_version place = Unit {0}
-Placed n empty_payload place = Unit {0}
-Placed n (not_a_byte unit) place = Unit {0}
-Placed n varint_cut_short place = place ≤ n
-Placed n past_its_message place = place ≤ n
-Placed n field_too_large place = place < n
-Placed n forbidden_field place = place < n
-Placed n (wire_type type) place = place < n
-Placed n oversized_varint place = place < n
-Placed n too_many_types place = Unit {0}
-Placed n text_too_long place = ⊥
-Placed n sheet_too_long place = ⊥
+abbrev pub PlaceHolds : ℕ → Cause → ℕ → Type 0
+PlaceHolds n d1_too_long place = Unit {0}
+PlaceHolds n d2_too_long place = Unit {0}
+PlaceHolds n string_ends place = Unit {0}
+PlaceHolds n newer_version place = Unit {0}
+PlaceHolds n empty_payload place = Unit {0}
+PlaceHolds n (not_a_byte unit) place = Unit {0}
+PlaceHolds n varint_cut_short place = place ≤ n
+PlaceHolds n past_its_message place = place ≤ n
+PlaceHolds n field_too_large place = place < n
+PlaceHolds n forbidden_field place = place < n
+PlaceHolds n (wire_type type) place = place < n
+PlaceHolds n oversized_varint place = place < n
+PlaceHolds n too_many_types place = Unit {0}
+PlaceHolds n text_too_long place = ⊥
+PlaceHolds n sheet_too_long place = ⊥
 
 -- What is read is as P says, or it is refused at such a place.
 abbrev pub Placing : {A : Type 0} → ℕ → (A → Type 0) → Res A → Type 0
 Placing n P (ok a) = P a
-Placing n P (refused c place) = Placed n c place
+Placing n P (refused c place) = PlaceHolds n c place
 
 abbrev Any : {A : Type 0} → A → Type 0
 Any a = Unit {0}
@@ -113,7 +113,7 @@ module _ (n : ℕ) where
   in_after : {m : ℕ} {p q : Part} → After m p q → In p → In q
   in_after a h = omega (arith, ap (λ (x : Part). x.at) a.is, after-length a)
 
-  in_within : {p q : Part} → Within p q → In p → In q
+  in_within : {p q : Part} → PieceOf p q → In p → In q
   in_within w h = omega (arith, ap (λ (x : Part). x.at) w.is, within-length w, w.fits)
 
   -- readers of parts
@@ -135,7 +135,7 @@ module _ (n : ℕ) where
   unfolding read_bytes
   placing-bytes place k p h = if_ind (Placing n Any) (ltb (length p.bytes) k) (λ t. h) λ t. tt
 
-  placing-delimited : (p : Part) → In p → Placing n (λ g. Within p g.0 × After 1 p g.1) (read_delimited p)
+  placing-delimited : (p : Part) → In p → Placing n (λ g. PieceOf p g.0 × After 1 p g.1) (read_delimited p)
   unfolding read_delimited
   placing-delimited p h =
       placing-both _ (read_delimited p) (delimited_after p)
@@ -161,7 +161,7 @@ module _ (n : ℕ) where
       let there : p.at < n = omega (arith, after_shorter q) in
       if_ind (Placing n Any) (is_field_number (a.0 / 8))
       (λ t. placing-map _ (read_value p.at (a.0 % 8) a.1) (placing-value p.at (a.0 % 8) a.1 there (in_after q h))) λ t.
-      if_ind (λ c. Placed n c p.at) (ltb (a.0 / 8) (2 ^ 32)) (λ t. there) λ t. there)
+      if_ind (λ c. PlaceHolds n c p.at) (ltb (a.0 / 8) (2 ^ 32)) (λ t. there) λ t. there)
 
   module _ {A : Type 0} (read : Part → Res (Got A)) (one : (p : Part) → In p → Placing n (λ g. In g.1) (read p)) where
     placing-repeated : (k : ℕ) (p : Part) → In p → Placing n Any (repeated read k p)
@@ -460,7 +460,7 @@ Unread c = number_of c ≤ 6
 -- Where a refusal comes from: no byte was read, or d1 was decoded, and the place is among its bytes.
 pub data BreaksAt (i : Input) (c : Cause) (place : ℕ) : Type 0 where
   before : Unread c → BreaksAt i c place
-  inside : (bytes : List ℕ) → decoded i.d1 ≡ ok bytes → Placed (length bytes) c place → BreaksAt i c place
+  inside : (bytes : List ℕ) → decoded i.d1 ≡ ok bytes → PlaceHolds (length bytes) c place → BreaksAt i c place
 
 abbrev pub Breaks : {A : Type 0} → Input → Res A → Type 0
 Breaks i (ok a) = Unit {0}
@@ -508,7 +508,7 @@ reading_breaks i = go (fault_of i) (fault_unread i)
     go (some c) h = before h
 
 -- and none is refused with 11 or 12
-placed-early : (n : ℕ) (c : Cause) (place : ℕ) → Placed n c place → 11 ≤ number_of c → number_of c ≤ 12 → ⊥
+placed-early : (n : ℕ) (c : Cause) (place : ℕ) → PlaceHolds n c place → 11 ≤ number_of c → number_of c ≤ 12 → ⊥
 unfolding number_of
 placed-early n d1_too_long place p h g = omega arith
 placed-early n d2_too_long place p h g = omega arith

@@ -35,7 +35,7 @@ fn source_kind(source: Source) -> u64
 }
 
 // A part packed into 32 bits: its start is in the low 16, its end in the 16 above.
-// Not `names::records::packed`, which gives a place 32 bits: one word holds four places here.
+// Not `names::records::place_pair`, which gives a place 32 bits: one word holds four places here.
 // `as`, here and below: Rust has no `From` between `usize` and `u64`, nor from `u64` to `u32`; what is cut off a word fits.
 fn noted_place(part: Span) -> u64
     requires { (part.start < 65536) × (part.end < 65536) }

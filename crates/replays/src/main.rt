@@ -1,31 +1,14 @@
-// Reads inputs one after the other, each with its length in 4 bytes in front, and writes a line for each.
+// Reads the files that its arguments name, whose inputs have areas of given sizes, then the inputs on standard input, and writes a line for each.
 #![tactic(auto)]
 
-use line::input::four_in;
-use line::stream::read_full;
-use std::io;
-use std::io::Read;
+use std::{env, io};
 
-// One input; false at the end.
-fn replay<R: Read>(rt: &impl Print, input: &mut R) -> io::Result<bool> {
-    let mut head = [0u8; 4];
-    if read_full(input, &mut head) < head.len() {
-        return Ok(false);
-    }
-    let size = four_in(&head, 0, 0);
-    let mut area = [0u8; 262190];
-    let length = answer_lines::answer_input(input, size, &mut area);
-    rt.write_all(&area[..length])?;
-    Ok(true)
-}
+mod areas; // areas.rt: files, every byte of the areas shown
+mod lines; // lines.rt: standard input, the lines of sheet_reader
 
 fn main(rt: HostRuntime) -> io::Result<()> {
-    let mut input = rt.stdin();
-    // A loop has to end, and a reader need not.
-    for _ in 0..1000000 {
-        if !replay(&rt, &mut input)? {
-            break;
-        }
+    for name in env::args(&rt)?.skip(1) {
+        areas::replay_named(&rt, name.as_str())?;
     }
-    Ok(())
+    lines::replay_all(&rt, &mut rt.stdin())
 }

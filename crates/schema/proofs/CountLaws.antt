@@ -17,7 +17,7 @@ use Rattle.declaration_rows.specs.told.Written.{cell_limit}
 use Rattle.schema.specs.told.SchemaTold.{Lent, Picked, Ready, Spends}
 use Rattle.schema.specs.told.MembersTold.{ListWalked, Affords, Within, PickedWithin, ListedWithin}
 use Rattle.schema.specs.declared.Section.{Section}
-use Rattle.declaration_rows.proofs.WrittenLaws.{Small, head-room}
+use Rattle.declaration_rows.proofs.WrittenLaws.{SmallCell, head-room}
 
 -- Steps one after the other; a step that takes no more than is said.
 pub within_none : (s : State) → Within 0 s s
@@ -71,7 +71,7 @@ module _ {e : Lent} {n : ℕ} {s : State} (h : Affords e n s) where
   affords-room = record { payload = h.payload-short; d2 = h.d2-short; places = omega (arith, h.room) }
 
   -- What a record's kind and cells take.
-  module _ (cs : List Cell) (small : All Small cs) {s' : State} {S S' T T' : List ℕ} where
+  module _ (cs : List Cell) (small : All SmallCell cs) {s' : State} {S S' T T' : List ℕ} where
     pub head-within : (k : ℕ) → PutHead k cs s.types s s' S S' T T' → Within (1 + length cs * cell_limit) s s'
     head-within k p =
         let r = head-room cs small affords-places k p in

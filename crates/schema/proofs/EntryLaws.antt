@@ -14,7 +14,7 @@ use Rattle.foundation.proofs.PresenceLaws.{elem_none, elem_there}
 use Rattle.wire.specs.Wire.{Message}
 use Rattle.messages.specs.told.Asked.{index_told}
 use Rattle.characters.specs.told.Places.{part_from}
-use Rattle.names.specs.told.Index.{start_of, end_of, UnpackedTold}
+use Rattle.names.specs.told.Index.{start_of, end_of, PairPartTold}
 use Rattle.names.specs.Names.{Names, strings_from, d2_string}
 use Rattle.schema.specs.Reading.{pure, lift}
 use Rattle.schema.specs.told.Alike.{SameAtLast, JoinedAs, DeepestOf}
@@ -48,15 +48,15 @@ module _ (payload notes : List ℕ) (first count i : ℕ) {j : ℕ} (e : j ≡ i
       go none q = refl
       go (some m) q = absurd (h m q)
 
-  pub entry-unpacked : j < count → (r : rust.Option Span) → UnpackedTold (get_or notes (first + j) 0) (length payload) r
+  pub entry-part : j < count → (r : rust.Option Span) → PairPartTold (get_or notes (first + j) 0) (length payload) r
       → EntryTold payload (drop first notes) count i r
-  entry-unpacked h (Some p) (f, g, k, l) = record {
+  entry-part h (Some p) (f, g, k, l) = record {
     is = λ types o. let m = elem_there types i (omega (arith, o.many)) in (m.0, m.1, rw (f, g) (at types o m.0 m.1).cuts);
     inside = (k, l);
     below = omega arith;
     placed = (f ∙ ap start_of (sym there), g ∙ ap end_of (sym there));
   }
-  entry-unpacked h None u = record {
+  entry-part h None u = record {
     is = λ types o. nowhere types λ m q. let x = at types o m q in u x.ordered x.inside;
     inside = tt;
     below = tt;

@@ -20,8 +20,8 @@ use Rattle.messages.specs.told.Asked.{CheckedTold, index_told, bodies, NextBodyT
 use Rattle.wire.specs.declared.WireError.{WireError}
 use Rattle.messages.proofs.BodyLaws.{part-is}
 use Rattle.characters.specs.told.Places.{part_from}
-use Rattle.names.specs.told.Index.{packed_places, start_of, end_of}
-use Rattle.names.proofs.NoteLaws.{packed_start, packed-end, elem_snoc, after, after_none, after_one, after-refused}
+use Rattle.names.specs.told.Index.{pair_places, start_of, end_of}
+use Rattle.names.proofs.NoteLaws.{pair_start, pair-end, elem_snoc, after, after_none, after_one, after-refused}
 use Rattle.lookup.proofs.LookupLaws.{part_longer}
 use Rattle.schema.specs.Types.{no_table, type_table_in}
 use Rattle.schema.specs.told.SchemaTold.{EntryAt, EntriesOf}
@@ -47,7 +47,7 @@ entries_none bytes notes = record {
 
 module _ (bytes notes : List ℕ) (count : ℕ) (ms : List Message) (o : EntriesOf bytes notes count ms) where
   entries-more : count < length notes → {a b : ℕ} (m : Message) → a < 2 ^ 32 → EntryAt bytes a b m
-      → EntriesOf bytes (set notes count (packed_places a b)) (count + 1) (ms ++ (m ∷ []))
+      → EntriesOf bytes (set notes count (pair_places a b)) (count + 1) (ms ++ (m ∷ []))
   entries-more h {a} {b} m u at = record {
     many = length-append ms (m ∷ []) ∙ ap (λ (k : ℕ). k + 1) o.many;
     long = rw length-set (omega arith);
@@ -55,13 +55,13 @@ module _ (bytes notes : List ℕ) (count : ℕ) (ms : List Message) (o : Entries
   }
     where
       go : (k : ℕ) (x : Message) → ((k < length ms) × (get_elem? ms k ≡ some x)) ⊎ ((k ≡ length ms) × (m ≡ x))
-          → EntryAt bytes (start_of (get_or (set notes count (packed_places a b)) k 0)) (end_of (get_or (set notes count (packed_places a b)) k 0)) x
+          → EntryAt bytes (start_of (get_or (set notes count (pair_places a b)) k 0)) (end_of (get_or (set notes count (pair_places a b)) k 0)) x
       go k x (inl (l, q)) =
           let n : k ≡ count → ⊥ = λ z. omega (arith, o.many) in
-          rw (get_or-set_other notes count k (packed_places a b) 0 n) (o.each k x q)
+          rw (get_or-set_other notes count k (pair_places a b) 0 n) (o.each k x q)
       go k x (inr (l, q)) =
           let z : k ≡ count = l ∙ o.many in
-          rw (z, get_or-set_same notes count (packed_places a b) 0 h, packed_start a b u, packed-end a b u, ← q) at
+          rw (z, get_or-set_same notes count (pair_places a b) 0 h, pair_start a b u, pair-end a b u, ← q) at
 
 entries_longer : (bytes : List ℕ) (n : ℕ) (notes : List ℕ) (count : ℕ) (ms : List Message) → EntriesOf (take n bytes) notes count ms
     → EntriesOf bytes notes count ms
@@ -79,7 +79,7 @@ entries_longer bytes n notes count ms o = record {
 }
 
 -- of the table m what is noted before the place `at`
-pub record Noted (bytes : List ℕ) (m : Message) (notes : List ℕ) (count at : ℕ) : Type 0 where
+pub record EntriesNoted (bytes : List ℕ) (m : Message) (notes : List ℕ) (count at : ℕ) : Type 0 where
   pub rest : Message
   pub cuts : cut (rest_of 0 bytes at) ≡ ok rest
   pub before : List Message
@@ -87,10 +87,10 @@ pub record Noted (bytes : List ℕ) (m : Message) (notes : List ℕ) (count at :
   pub many : length (bodies TypeTable-type m) ≡ count + length (bodies TypeTable-type rest)
   pub noted : EntriesOf bytes notes count before
 
-abbrev pub Noting : List ℕ → ℕ → List ℕ → ℕ → ℕ → Type 0
-Noting bytes start notes count at = (m : Message) → cut (rest_of 0 bytes start) ≡ ok m → Noted bytes m notes count at
+abbrev pub EntriesNoting : List ℕ → ℕ → List ℕ → ℕ → ℕ → Type 0
+EntriesNoting bytes start notes count at = (m : Message) → cut (rest_of 0 bytes start) ≡ ok m → EntriesNoted bytes m notes count at
 
-pub noting_start : (bytes : List ℕ) (at : ℕ) (notes : List ℕ) → Noting bytes at notes 0 at
+pub noting_start : (bytes : List ℕ) (at : ℕ) (notes : List ℕ) → EntriesNoting bytes at notes 0 at
 unfolding messages
 noting_start bytes at notes m w = record {
   rest = m;
@@ -101,7 +101,7 @@ noting_start bytes at notes m w = record {
   noted = entries_none bytes notes;
 }
 
-module _ (bytes : List ℕ) (start : ℕ) (notes : List ℕ) (count at : ℕ) (i : Noting bytes start notes count at) {r : rust.Option Span}
+module _ (bytes : List ℕ) (start : ℕ) (notes : List ℕ) (count at : ℕ) (i : EntriesNoting bytes start notes count at) {r : rust.Option Span}
     (t : NextBodyTold 0 bytes TypeTable-type at r) where
   pub noting-none : r ≡ None → (m : Message) → cut (rest_of 0 bytes start) ≡ ok m → EntriesTold bytes m notes (Ok count)
   unfolding cut_all
@@ -142,8 +142,8 @@ module _ (bytes : List ℕ) (start : ℕ) (notes : List ℕ) (count at : ℕ) (i
       inner : (x : Message) × (cut (part_between 0 bytes a b) ≡ ok x)
       inner = subst (CheckedTold (cut (part_between 0 bytes a b))) q k
 
-      pub noting-next : count < length notes → a < 2 ^ 32 → {notes' : List ℕ} → notes' ≡ set notes count (packed_places a b)
-          → Noting bytes start notes' (count + 1) b
+      pub noting-next : count < length notes → a < 2 ^ 32 → {notes' : List ℕ} → notes' ≡ set notes count (pair_places a b)
+          → EntriesNoting bytes start notes' (count + 1) b
       noting-next hs short {notes'} ps m w =
           let n = i m w in
           let v = next.is n.rest n.cuts in

@@ -5,13 +5,13 @@ ghost use Rattle.foundation.specs.Results.{ok, ◌from◌};
 ghost use Rattle.wire.specs.Wire.{cut, Message};
 ghost use Rattle.wire.specs.told.WireTold.{rest_of};
 ghost use Rattle.characters.specs.told.Places.{part_from};
-ghost use Rattle.names.specs.told.Index.{packed_places};
+ghost use Rattle.names.specs.told.Index.{pair_places};
 ghost use Rattle.schema.specs.told.TableTold.{EntriesTold, TableTold, TypeIndexTold};
 
 use fields::{TYPE_TABLE_FIRST_NULLABLE, TYPE_TABLE_TYPE};
 use foundation::{Located, Span};
 use messages::{bodies_from, check, index, message};
-use names::records::{IndexError, packed};
+use names::records::{IndexError, place_pair};
 
 // How many entries the type table has, and from which of them on all are nullable, if any is.
 #[derive(Clone, Copy)]
@@ -22,9 +22,9 @@ pub struct TypeIndex {
 
 fn put_entry(notes: &mut [u64], count: usize, start: u32, end: u32)
     requires { count < length notes.old }
-    ensures { notes.new ≡ set notes.old count (packed_places start end) }
+    ensures { notes.new ≡ set notes.old count (pair_places start end) }
 {
-    notes[count] = packed(start, end);
+    notes[count] = place_pair(start, end);
 }
 
 // Cuts the entries of the type table in `bytes` from `at` on, and notes for each where it stands.

@@ -5,7 +5,7 @@ ghost use Rattle.schema.specs.told.SchemaTold.{entry_nullable, entries_in};
 ghost use Rattle.schema.specs.told.TypesTold.{EntryTold};
 
 use foundation::{Context, Span, Tables, wide};
-use names::records::{RECORD_WORDS, unpacked};
+use names::records::{RECORD_WORDS, part_of_pair};
 
 // Is an entry of the type table nullable by its place?
 pub fn is_nullable(tables: Tables, index: u32) -> bool
@@ -32,5 +32,5 @@ pub fn entry_at(context: &Context<'_>, index: u32) -> Option<Span>
         return None;
     }
     let place = notes[RECORD_WORDS * records + i];
-    unpacked(place, context.payload.len())
+    part_of_pair(place, context.payload.len())
 }

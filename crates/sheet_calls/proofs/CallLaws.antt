@@ -30,7 +30,7 @@ use Rattle.room.specs.Room.{Room, room_by, room}
 use Rattle.room.specs.Exact.{RoomExact}
 use Rattle.room.proofs.Exact.{room_exact}
 use Rattle.strings.specs.Unused.{AlikeButStrings, NoneOfThree, UnusedStrings}
-use Rattle.strings.proofs.Unused.{Later, same-reading, unused_strings}
+use Rattle.strings.proofs.Unused.{LaterFault, same-reading, unused_strings}
 use Rattle.string_marks.specs.UsedStrings.{UsedAnswer, UsedStrings}
 use Rattle.sheet_calls.specs.Calls.{DemandWithAny, room_in, UnusedInRoom}
 
@@ -89,7 +89,7 @@ pub two_calls_alike : (sheet text : List ℕ) (i j : Input) (a b : definition.An
 two_calls_alike sheet text i j a b p q = p.1.1.1.1.1.1 j b q.0
 
 -- what is refused of an input before its payload is looked at is told by its room
-room-later : (i : Input) → NoneOfThree (room i).number → Later i
+room-later : (i : Input) → NoneOfThree (room i).number → LaterFault i
 unfolding room reading
 room-later i h c e =
     let kind = kind_of i.k in
@@ -103,7 +103,7 @@ same_rooms i j k e = ap (λ (x : ℤ). room_by (kind_of x) (reading i)) k ∙ ap
 unused_in_room : (i : Input) {r : Room} → room i ≡ r → UnusedInRoom i r
 unused_in_room i {r} e j q f g h alike = sym e ∙ (same_rooms i j alike.k (same-reading i j alike (later i e g) (later j f h)) ∙ f)
   where
-    later : (k : Input) {x : Room} → room k ≡ x → NoneOfThree x.number → Later k
+    later : (k : Input) {x : Room} → room k ≡ x → NoneOfThree x.number → LaterFault k
     later k p n = room-later k (subst (λ (y : Room). NoneOfThree y.number) (sym p) n)
 
 -- What `sheet_room` ensures of its answer, clause by clause, where the units of d2 are of 16 bits.

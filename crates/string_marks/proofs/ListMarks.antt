@@ -32,7 +32,7 @@ pub record Among (m : Message) (all : List Message) : Type 0 where
   pub are : all ≡ before ++ (m ∷ after)
 
 -- What is left of a list's messages at a place: where they are marked, all are.
-pub record Going {A : Type 0} (ss : List (List ℕ)) (f : Lookup → Message → Read (Option A)) (number base : ℕ) (msg : List ℕ) (all : List Message) (used₀ : List ℕ)
+pub record MarksLeft {A : Type 0} (ss : List (List ℕ)) (f : Lookup → Message → Read (Option A)) (number base : ℕ) (msg : List ℕ) (all : List Message) (used₀ : List ℕ)
     (at : ℕ) (used : List ℕ) : Type 0 where
   pub rest : Message
   pub passed : List Message
@@ -43,7 +43,7 @@ pub record Going {A : Type 0} (ss : List (List ℕ)) (f : Lookup → Message →
   pub goes : (used' : List ℕ) → Marks ss (λ s. kept (f s) left) used used' → Marks ss (λ s. kept (f s) all) used₀ used'
 
 module _ {A : Type 0} (ss : List (List ℕ)) (f : Lookup → Message → Read (Option A)) (number base : ℕ) (msg : List ℕ) (all : List Message) (used₀ : List ℕ) where
-  going_start : (m : Message) → cut (◌from◌ base msg) ≡ ok m → messages number m ≡ ok all → Going ss f number base msg all used₀ 0 used₀
+  going_start : (m : Message) → cut (◌from◌ base msg) ≡ ok m → messages number m ≡ ok all → MarksLeft ss f number base msg all used₀ 0 used₀
   unfolding messages
   going_start m k h = record {
     rest = m;
@@ -55,7 +55,7 @@ module _ {A : Type 0} (ss : List (List ℕ)) (f : Lookup → Message → Read (O
     goes = λ used' w. w;
   }
 
-  module _ (at : ℕ) (used : List ℕ) (g : Going ss f number base msg all used₀ at used) {x : rust.Option Span} (t : NextBodyTold base msg number at x) where
+  module _ (at : ℕ) (used : List ℕ) (g : MarksLeft ss f number base msg all used₀ at used) {x : rust.Option Span} (t : NextBodyTold base msg number at x) where
     next_is : {y : rust.Option Span} → x ≡ y → NextIs base msg number g.rest y
     next_is e = subst (NextIs base msg number g.rest) e (t.is g.rest g.cuts)
 
@@ -76,7 +76,7 @@ module _ {A : Type 0} (ss : List (List ℕ)) (f : Lookup → Message → Read (O
       the_among = record { before = g.passed; after = the_first.others; are = the_are }
 
       going_next : {used₁ : List ℕ} → ((m : Message) → cut (part_between base msg a b) ≡ ok m → Among m all → Marks ss (λ s. f s m) used used₁)
-          → Going ss f number base msg all used₀ b used₁
+          → MarksLeft ss f number base msg all used₀ b used₁
       unfolding the_first
       going_next {used₁} h = record {
         rest = (next_is e).0;
@@ -92,25 +92,25 @@ module _ {A : Type 0} (ss : List (List ℕ)) (f : Lookup → Message → Read (O
       }
 
 -- The same with every name table and type table that are noted.
-pub record Looping {A : Type 0} (e : Lent) (base : ℕ) (msg : List ℕ) (number : ℕ) (read : Scope → Message → Read (Option A)) (used₀ : List ℕ) (at : ℕ)
+pub record MarksLoop {A : Type 0} (e : Lent) (base : ℕ) (msg : List ℕ) (number : ℕ) (read : Scope → Message → Read (Option A)) (used₀ : List ℕ) (at : ℕ)
     (used : List ℕ) : Type 0 where
   pub is : (records : List Record) (table : TypeTable) → Scoped e (scope_by records table (d2_string (strings_in e))) → (m : Message)
       → cut (◌from◌ base msg) ≡ ok m → (all : List Message) → messages number m ≡ ok all
-      → Going (strings_in e) (λ s. read (scope_by records table s)) number base msg all used₀ at used
+      → MarksLeft (strings_in e) (λ s. read (scope_by records table s)) number base msg all used₀ at used
 
 module _ {A : Type 0} {e : Lent} {base : ℕ} {msg : List ℕ} {number : ℕ} {read : Scope → Message → Read (Option A)} where
-  pub looping_start : {u : List ℕ} → Looping e base msg number read u 0 u
+  pub looping_start : {u : List ℕ} → MarksLoop e base msg number read u 0 u
   looping_start {u} = record {
     is = λ records table o m c all h. going_start (strings_in e) (λ s. read (scope_by records table s)) number base msg all u m c h;
   }
 
-  module _ {u : List ℕ} {at : ℕ} {v : List ℕ} (g : Looping e base msg number read u at v) {x : rust.Option Span} (t : NextBodyTold base msg number at x) where
+  module _ {u : List ℕ} {at : ℕ} {v : List ℕ} (g : MarksLoop e base msg number read u at v) {x : rust.Option Span} (t : NextBodyTold base msg number at x) where
     -- One message, of which something may be known that is known of all.
     pub looping_among : {a b : ℕ} → x ≡ Some (span a b) → {w : List ℕ}
         → ((records : List Record) (table : TypeTable) → Scoped e (scope_by records table (d2_string (strings_in e))) → (m : Message)
         → cut (◌from◌ base msg) ≡ ok m → (all : List Message) → messages number m ≡ ok all → (n : Message) → cut (part_between base msg a b) ≡ ok n → Among n all
         → Marks (strings_in e) (λ s. read (scope_by records table s) n) v w)
-        → Looping e base msg number read u b w
+        → MarksLoop e base msg number read u b w
     looping_among p h = record {
       is = λ records table o m c all q.
           let going = g.is records table o m c all q in
@@ -118,7 +118,7 @@ module _ {A : Type 0} {e : Lent} {base : ℕ} {msg : List ℕ} {number : ℕ} {r
     }
 
     pub looping_next : {a b : ℕ} → x ≡ Some (span a b) → {w : List ℕ} → MarksIn e (base + a) (take (b - a) (drop a msg)) read v w
-        → Looping e base msg number read u b w
+        → MarksLoop e base msg number read u b w
     looping_next p h = looping_among p λ records table o m c all q n k among. h.is records table o n k
 
     pub looping_end : x ≡ None → (records : List Record) (table : TypeTable) → Scoped e (scope_by records table (d2_string (strings_in e))) → (m : Message)
@@ -139,7 +139,7 @@ always-in {read} g = record { is = λ records table o m c. marks-always (λ s. r
 
 -- parameters, all of which are there
 pub looping-each : {e : Lent} {base : ℕ} {msg : List ℕ} {number : ℕ} {u : List ℕ} {at : ℕ} {v : List ℕ}
-    → Looping e base msg number (λ c m. always (parameter_in c m)) u at v → {x : rust.Option Span} → NextBodyTold base msg number at x → x ≡ None
+    → MarksLoop e base msg number (λ c m. always (parameter_in c m)) u at v → {x : rust.Option Span} → NextBodyTold base msg number at x → x ≡ None
     → MarksIn e base msg (λ c. parameters_in c number) u v
 unfolding parameters_in
 looping-each {e} {number} g t p = record {

@@ -17,7 +17,7 @@ use Rattle.fields.specs.Fields.{Type-argument, Type-Argument-type}
 use Rattle.wire.specs.Wire.{Value, varint, fixed, body, Message, cut}
 use Rattle.wire.specs.Messages.{as_body, bytes_of, messages}
 use Rattle.wire.specs.told.WireTold.{part_between}
-use Rattle.wire.proofs.Readers.{Within, ReadIn, within-length}
+use Rattle.wire.proofs.Readers.{PieceOf, ReadIn, within-length}
 use Rattle.wire.proofs.WalkLaws.{ok_same}
 use Rattle.wire.proofs.MessageLaws.{values_weaken, messages-all}
 use Rattle.wire.proofs.Places.{CutIn, cut_in, cut_in_within, bytes_of-in}
@@ -46,16 +46,16 @@ module _ (whole : Part) (m : Message) (e : cut whole ≡ ok m) where
   arguments-in : Gives (All (CutIn whole)) (messages Type-argument m)
   arguments-in =
       let c : CutIn whole m = gives-ok (CutIn whole) e (cut_in whole) in
-      let bodies = values_weaken (ReadIn whole) (λ v. IfSome (Within whole) (as_body v)) as-body m c in
-      let all = messages-all (Within whole) (CutIn whole) cuts Type-argument m bodies in
+      let bodies = values_weaken (ReadIn whole) (λ v. IfSome (PieceOf whole) (as_body v)) as-body m c in
+      let all = messages-all (PieceOf whole) (CutIn whole) cuts Type-argument m bodies in
       gives_weaken _ (All (CutIn whole)) (messages Type-argument m) all λ ms a. a.0
     where
-      as-body : (v : Value) → ReadIn whole v → IfSome (Within whole) (as_body v)
+      as-body : (v : Value) → ReadIn whole v → IfSome (PieceOf whole) (as_body v)
       as-body (varint n) r = tt
       as-body (fixed w n) r = tt
       as-body (body q) r = r
 
-      cuts : (p : Part) → Within whole p → Gives (CutIn whole) (cut p)
+      cuts : (p : Part) → PieceOf whole p → Gives (CutIn whole) (cut p)
       cuts p w = gives_weaken (CutIn p) (CutIn whole) (cut p) (cut_in p) (cut_in_within w)
 
 -- A part that lies in these bytes is read at its place as what stands there.
@@ -83,7 +83,7 @@ module _ (e : Lent) (many : length e.deepest ≡ length e.payload) (base : ℕ) 
       → PartTwin e (bytes_of Type-Argument-type a)
   argument-placed a c t = go (bytes_of Type-Argument-type a) (bytes_of-in (◌from◌ base msg) Type-Argument-type a c) t
     where
-      go : (o : Option Part) → IfSome (Within (◌from◌ base msg)) o → TwinAt base (part_from base (base + length msg) e.deepest) o → PartTwin e o
+      go : (o : Option Part) → IfSome (PieceOf (◌from◌ base msg)) o → TwinAt base (part_from base (base + length msg) e.deepest) o → PartTwin e o
       go none w h = tt
       go (some p) w h =
           let at : p.at ≡ base + w.start = ap (λ (q : Part). q.at) w.is in

@@ -44,7 +44,7 @@ use Rattle.string_marks.specs.told.MarksTold.{Marks, scope_by, strings_in, NameM
 use Rattle.string_marks.specs.told.InnerTold.{steps, TableInside, PartInner, EntryInner, ArgumentInner}
 use Rattle.string_marks.specs.declared.types.Inner.{Inner}
 use Rattle.string_marks.proofs.MarkLaws.{marks-same, marks-refused, marks-alike, marks_bind, marks-made, marks-cut, marks-enter}
-use Rattle.string_marks.proofs.ListMarks.{Looping, looping_start, looping_among, looping_end}
+use Rattle.string_marks.proofs.ListMarks.{MarksLoop, looping_start, looping_among, looping_end}
 use Rattle.string_marks.proofs.TwinMarks.{placed-itself, entry-placed, inline-twin}
 
 -- The definitions of a type, by any look-up.
@@ -128,7 +128,7 @@ looked-falls left n bytes = omega arith
 -- The loop over a type's arguments, which stand one deeper.
 pub ArgumentsLooping : Lent → ℕ → List ℕ → (left : ℕ) → (in_table : Bool) → (used₀ : List ℕ) → (at : ℕ) → (used : List ℕ) → Type 0
 ArgumentsLooping e base msg left in_table used₀ at used =
-    TypeTwin e in_table base msg → (k d : ℕ) → left ≡ max_depth - d → Looping e base msg Type-argument (λ c. argument_in (type_at k c) c (d + 1)) used₀ at used
+    TypeTwin e in_table base msg → (k d : ℕ) → left ≡ max_depth - d → MarksLoop e base msg Type-argument (λ c. argument_in (type_at k c) c (d + 1)) used₀ at used
 
 module _ (e : Lent) (base : ℕ) (msg : List ℕ) (left : ℕ) (in_table : Bool) where
   pub arguments-start : (u : List ℕ) → ArgumentsLooping e base msg left in_table u 0 u

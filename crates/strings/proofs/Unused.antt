@@ -60,14 +60,14 @@ not-both i n f q =
     omega arith
 
 -- a fault that is none of 1 to 3
-abbrev pub Later : Input → Type 0
-Later i = (c : Cause) → fault_of i ≡ some c → NoneOfThree (number_of c)
+abbrev pub LaterFault : Input → Type 0
+LaterFault i = (c : Cause) → fault_of i ≡ some c → NoneOfThree (number_of c)
 
 -- is that of the version
 abbrev version_fault : ℤ → Option Cause
 version_fault v = if lt_z supported_major v then some newer_version else none
 
-later-is : (i : Input) → Later i → fault_of i ≡ version_fault (major i)
+later-is : (i : Input) → LaterFault i → fault_of i ≡ version_fault (major i)
 unfolding fault_of later_fault number_of
 later-is i h =
     go (ltb unit_limit (length i.d1)) (ltb unit_limit (length i.d2) || ltb string_limit (length i.ends)) (ends_fit 0 i.ends (length i.d2)) h
@@ -82,7 +82,7 @@ later-is i h =
     go false false false h = absurd ((h string_ends refl).2 refl)
     go false false true h = refl
 
-module _ (i j : Input) (a : AlikeButStrings i j) (p : Later i) (q : Later j) where
+module _ (i j : Input) (a : AlikeButStrings i j) (p : LaterFault i) (q : LaterFault j) where
   same-fault : fault_of i ≡ fault_of j
   same-fault = later-is i p ∙ (ap (λ (v : List ℤ). version_fault (get_or v 0 (pos 0))) a.mv ∙ sym (later-is j q))
 
@@ -104,7 +104,7 @@ module _ (i j : Input) (a : AlikeButStrings i j) (p : Later i) (q : Later j) whe
       go (inr k) = absurd (k.1 (a.fallen k.0 k.2))
 
 -- what is refused before the payload is looked at is the answer's number
-read-later : (sheet text : List ℕ) (i : Input) → NoneOfThree (read sheet text i).number → Later i
+read-later : (sheet text : List ℕ) (i : Input) → NoneOfThree (read sheet text i).number → LaterFault i
 unfolding read reading
 read-later sheet text i h c e = subst (λ (o : Option Cause). NoneOfThree (answered sheet text (kind_of i.k) (if_some o body λ c. refused c 0)).number) e h
   where
@@ -122,5 +122,5 @@ pub unused_strings : (sheet text : List ℕ) (i : Input) {a : Answer} → read s
 unused_strings sheet text i {a} e j b f p q alike =
     sym e ∙ (same-answered sheet text i j alike.k (same-reading i j alike (later i e p) (later j f q)) ∙ f)
   where
-    later : (k : Input) {c : Answer} → read sheet text k ≡ c → NoneOfThree c.number → Later k
+    later : (k : Input) {c : Answer} → read sheet text k ≡ c → NoneOfThree c.number → LaterFault k
     later k g h = read-later sheet text k (subst (λ (x : Answer). NoneOfThree x.number) (sym g) h)

@@ -185,7 +185,7 @@ module _ {base : ℕ} {msg last : List ℕ} {at end left : ℕ} {w : Wait} (p : 
       }
 
 -- What is told of a reading while some of its arguments wait: those from a place to an end, then those in the lent area.
-pub record Goes (told : Res (List Row × ℕ)) (c : Scope) (base : ℕ) (msg last : List ℕ) (nest : List Waiting) (height at end deep : ℕ) (s₀ s : State) (S₀ S T₀ T : List ℕ) : Type 0 where
+pub record WithWaiting (told : Res (List Row × ℕ)) (c : Scope) (base : ℕ) (msg last : List ℕ) (nest : List Waiting) (height at end deep : ℕ) (s₀ s : State) (S₀ S T₀ T : List ℕ) : Type 0 where
   pub wait : Wait
   pub later : List Wait
   pub here : Pends base msg last at end deep wait
@@ -193,7 +193,7 @@ pub record Goes (told : Res (List Row × ℕ)) (c : Scope) (base : ℕ) (msg las
   pub continues : Continues told c (wait ∷ later) s₀ s S₀ S T₀ T
 
 -- The loop: where it stands in the message, what waits in the lent area below `height`, and what was spent and written.
-pub record Looping (e : Lent) (msg last : List ℕ) (base left : ℕ) (s₀ : State) (S₀ T₀ : List ℕ) (at end deep height : ℕ) (s : State) (S T : List ℕ) (nest : List Waiting) : Type 0 where
+pub record WalkLoop (e : Lent) (msg last : List ℕ) (base left : ℕ) (s₀ : State) (S₀ T₀ : List ℕ) (at end deep height : ℕ) (s : State) (S T : List ℕ) (nest : List Waiting) : Type 0 where
   pub ordered : at ≤ end
   pub short : end ≤ length msg
   pub shallow : deep ≤ left
@@ -203,11 +203,11 @@ pub record Looping (e : Lent) (msg last : List ℕ) (base left : ℕ) (s₀ : St
   pub inside : (i : ℕ) → i < height → PendingInside msg left (waiting_at nest i)
   pub going : (c : Scope) → Scoped e c → (m : Message) → cut (◌from◌ base msg) ≡ ok m → (ms : List Message) → messages Type-argument m ≡ ok ms
       → All (ArgumentTwin base last) ms → (d : ℕ) → left ≡ max_depth - d
-      → Goes (rows_read argument_rows (kept (argument_in (type_at allowance c) c d) ms s₀.types)) c base msg last nest height at end deep s₀ s S₀ S T₀ T
+      → WithWaiting (rows_read argument_rows (kept (argument_in (type_at allowance c) c d) ms s₀.types)) c base msg last nest height at end deep s₀ s S₀ S T₀ T
 
 -- The loop after an answer, or the refusal of all arguments.
 abbrev LoopAfter : Lent → (msg last : List ℕ) → ℕ → ℕ → State → List ℕ → List ℕ → ℕ → ℕ → ℕ → ℕ → List ℕ → List ℕ → List Waiting → Walked → Type 0
-LoopAfter e msg last base left s₀ S₀ T₀ at end deep height S T nest (Ok s) = Looping e msg last base left s₀ S₀ T₀ at end deep height s S T nest
+LoopAfter e msg last base left s₀ S₀ T₀ at end deep height S T nest (Ok s) = WalkLoop e msg last base left s₀ S₀ T₀ at end deep height s S T nest
 LoopAfter e msg last base left s₀ S₀ T₀ at end deep height S T nest (Err stop) = ArgumentsTold e msg last base left s₀ (Err stop) S₀ S T₀ T
 
 -- What falls: the bytes of the message that are left here and of what waits, and one for each.
@@ -216,7 +216,7 @@ turns nest height at end = (end - at + 1) + weight nest height
 
 -- the same after arguments are passed, with what waits as it was
 module _ {told : Res (List Row × ℕ)} {c : Scope} {base : ℕ} {msg last : List ℕ} {nest : List Waiting} {height at end deep : ℕ} {s₀ s : State} {S₀ S T₀ T : List ℕ}
-    (o : Goes told c base msg last nest height at end deep s₀ s S₀ S T₀ T) {a b : ℕ} (n : Met base msg last end deep a b o.wait) where
+    (o : WithWaiting told c base msg last nest height at end deep s₀ s S₀ S T₀ T) {a b : ℕ} (n : Met base msg last end deep a b o.wait) where
   first-is : pending c (o.wait ∷ o.later) s.types ≡ pending c (waits o.wait.depth (n.first ∷ n.others) ∷ o.later) s.types
   first-is = ap (λ (ms : List Message). pending c (waits o.wait.depth ms ∷ o.later) s.types) n.are
 
@@ -227,7 +227,7 @@ module _ {told : Res (List Row × ℕ)} {c : Scope} {base : ℕ} {msg last : Lis
 
   module _ (nest' : List Waiting) (f : take height nest' ≡ take height nest) where
     goes_dropped : argument_in (type_at allowance c) c o.wait.depth n.first s.types ≡ ok (none, s.types)
-        → Goes told c base msg last nest' height b end deep s₀ s S₀ S T₀ T
+        → WithWaiting told c base msg last nest' height b end deep s₀ s S₀ S T₀ T
     goes_dropped h = record {
       wait = waits o.wait.depth n.others;
       later = o.later;
@@ -239,7 +239,7 @@ module _ {told : Res (List Row × ℕ)} {c : Scope} {base : ℕ} {msg last : Lis
     }
 
     goes_kept : (s' : State) (S' T' : List ℕ) {x : declaration.Argument} {l : ℕ} → argument_in (type_at allowance c) c o.wait.depth n.first s.types ≡ ok (some x, l)
-        → PutRows (shown_rows x) l s s' S S' T T' → Goes told c base msg last nest' height b end deep s₀ s' S₀ S' T₀ T'
+        → PutRows (shown_rows x) l s s' S S' T T' → WithWaiting told c base msg last nest' height b end deep s₀ s' S₀ S' T₀ T'
     goes_kept s' S' T' {x} {l} h p =
         let z : l ≡ s'.types = sym (put-types p) in
         let later = pending-kept c o.wait.depth o.later s.types n.first n.others h in
@@ -261,7 +261,7 @@ module _ {told : Res (List Row × ℕ)} {c : Scope} {base : ℕ} {msg last : Lis
       → (own : List Row) (s' : State) (S' T' : List ℕ) → PutRows own s'.types s s' S S' T T'
       → rows_read (λ t. rows_in argument_role projection (or_nullable false t)) (type_at allowance c o.wait.depth inner s.types)
       ≡ prefixed own (rows_read argument_rows (kept (argument_in (type_at allowance c) c (o.wait.depth + 1)) ms s'.types))
-      → Goes told c base msg last nest' (height + 1) x y deep' s₀ s' S₀ S' T₀ T'
+      → WithWaiting told c base msg last nest' (height + 1) x y deep' s₀ s' S₀ S' T₀ T'
   goes-entered nest' room e typed i x y deep' ms p own s' S' T' q r = record {
     wait = waits (o.wait.depth + 1) ms;
     later = waits o.wait.depth n.others ∷ o.later;
@@ -273,7 +273,7 @@ module _ {told : Res (List Row × ℕ)} {c : Scope} {base : ℕ} {msg last : Lis
   }
 
 module _ {e : Lent} {msg last : List ℕ} {base left : ℕ} {s₀ : State} {S₀ T₀ : List ℕ} where
-  pub loop-start : length last ≡ length msg → {nest : List Waiting} → Looping e msg last base left s₀ S₀ T₀ 0 (length msg) left 0 s₀ S₀ T₀ nest
+  pub loop-start : length last ≡ length msg → {nest : List Waiting} → WalkLoop e msg last base left s₀ S₀ T₀ 0 (length msg) left 0 s₀ S₀ T₀ nest
   unfolding weight
   loop-start long = record {
     ordered = omega arith;
@@ -298,7 +298,7 @@ module _ {e : Lent} {msg last : List ℕ} {base left : ℕ} {s₀ : State} {S₀
     };
   }
 
-  module _ {at end deep height : ℕ} {s : State} {S T : List ℕ} {nest : List Waiting} (g : Looping e msg last base left s₀ S₀ T₀ at end deep height s S T nest) where
+  module _ {at end deep height : ℕ} {s : State} {S T : List ℕ} {nest : List Waiting} (g : WalkLoop e msg last base left s₀ S₀ T₀ at end deep height s S T nest) where
     pub loop-ready : Ready e s₀ → Ready e s
     loop-ready h = ready-after h g.spends
 
@@ -339,7 +339,7 @@ module _ {e : Lent} {msg last : List ℕ} {base left : ℕ} {s₀ : State} {S₀
     module _ {x : rust.Option Span} (t : NextBodyTold base (take end msg) Type-argument at x) where
       -- no argument is left here
       module _ (q : x ≡ None) where
-        passed-all : {told : Res (List Row × ℕ)} {c : Scope} (o : Goes told c base msg last nest height at end deep s₀ s S₀ S T₀ T)
+        passed-all : {told : Res (List Row × ℕ)} {c : Scope} (o : WithWaiting told c base msg last nest height at end deep s₀ s S₀ S T₀ T)
             → Continues told c o.later s₀ s S₀ S T₀ T
         passed-all {told} {c} o =
             continues-same o.continues
@@ -357,7 +357,7 @@ module _ {e : Lent} {msg last : List ℕ} {base left : ℕ} {s₀ : State} {S₀
         }
 
         module _ (n : height ≡ 0 → ⊥) {a b : ℕ} (f : a ≡ (waiting_at nest (height - 1)).at) (h : b ≡ (waiting_at nest (height - 1)).end) where
-          pub loop-pop : {l : ℕ} → l ≡ (waiting_at nest (height - 1)).left → Looping e msg last base left s₀ S₀ T₀ a b l (height - 1) s S T nest
+          pub loop-pop : {l : ℕ} → l ≡ (waiting_at nest (height - 1)).left → WalkLoop e msg last base left s₀ S₀ T₀ a b l (height - 1) s S T nest
           loop-pop k = rw (f, h, k) (record {
             ordered = (last-inside n).ordered;
             short = (last-inside n).short;
@@ -392,7 +392,7 @@ module _ {e : Lent} {msg last : List ℕ} {base left : ℕ} {s₀ : State} {S₀
         passed-falls nest' f = omega (arith, weight-same nest nest' height f, body-in)
 
         module _ {r : Result ArgumentHead WireError} (u : ArgumentTold base msg last a b r) where
-          next-argument : {told : Res (List Row × ℕ)} {c : Scope} (o : Goes told c base msg last nest height at end deep s₀ s S₀ S T₀ T)
+          next-argument : {told : Res (List Row × ℕ)} {c : Scope} (o : WithWaiting told c base msg last nest height at end deep s₀ s S₀ S T₀ T)
               → Met base msg last end deep a b o.wait
           next-argument o = met o.here g.ordered t q
 
@@ -402,9 +402,9 @@ module _ {e : Lent} {msg last : List ℕ} {base left : ℕ} {s₀ : State} {S₀
 
           -- the loop from b on, once it is known what it tells
           loop-on : (s' : State) (S' T' : List ℕ) (nest' : List Waiting) → take height nest' ≡ take height nest → Spends s s'
-              → ((c : Scope) → Scoped e c → (told : Res (List Row × ℕ)) → Goes told c base msg last nest height at end deep s₀ s S₀ S T₀ T
-              → Goes told c base msg last nest' height b end deep s₀ s' S₀ S' T₀ T')
-              → Looping e msg last base left s₀ S₀ T₀ b end deep height s' S' T' nest'
+              → ((c : Scope) → Scoped e c → (told : Res (List Row × ℕ)) → WithWaiting told c base msg last nest height at end deep s₀ s S₀ S T₀ T
+              → WithWaiting told c base msg last nest' height b end deep s₀ s' S₀ S' T₀ T')
+              → WalkLoop e msg last base left s₀ S₀ T₀ b end deep height s' S' T' nest'
           loop-on s' S' T' nest' f p go = record {
             ordered = body-in.2;
             short = g.short;
@@ -416,7 +416,7 @@ module _ {e : Lent} {msg last : List ℕ} {base left : ℕ} {s₀ : State} {S₀
             going = λ c o m k ms h z d l. go c o _ (g.going c o m k ms h z d l);
           }
 
-          pub loop-passed : r ≡ Ok head.Nothing → Looping e msg last base left s₀ S₀ T₀ b end deep height s S T nest
+          pub loop-passed : r ≡ Ok head.Nothing → WalkLoop e msg last base left s₀ S₀ T₀ b end deep height s S T nest
           loop-passed v = loop-on s S T nest refl (spends_none s) λ c o told go.
               let n = next-argument go in
               let i = argument_is v n.first n.cuts n.twins in
@@ -449,7 +449,7 @@ module _ {e : Lent} {msg last : List ℕ} {base left : ℕ} {s₀ : State} {S₀
             pub loop-unstarred : {stop : Stop} → w ≡ Err stop → ArgumentsTold e msg last base left s₀ (Err stop) S₀ S' T₀ T'
             loop-unstarred {stop} h = refused_all stop λ c o m k t d l. star-read c d m s.types (argument_is v m k t) (star-is h)
 
-            pub loop-starred : {s' : State} → w ≡ Ok s' → Looping e msg last base left s₀ S₀ T₀ b end deep height s' S' T' nest
+            pub loop-starred : {s' : State} → w ≡ Ok s' → WalkLoop e msg last base left s₀ S₀ T₀ b end deep height s' S' T' nest
             loop-starred {s'} h = loop-on s' S' T' nest refl (subst (WalkedSpends s) h n.spends) λ c o told go.
                 let next = next-argument go in
                 let it = star-is h in
@@ -496,7 +496,7 @@ module _ {e : Lent} {msg last : List ℕ} {base left : ℕ} {s₀ : State} {S₀
                           let here : i ≡ height = omega (arith, ltb-false i height f) in
                           subst (λ (k : ℕ). PendingInside msg left (waiting_at nest' k)) (sym here) (subst (PendingInside msg left) (sym (push-here nest height pushed room p)) (record { ordered = body-in.2; short = g.short; deep = g.shallow }))
 
-                  pub loop-entered : {deep' : ℕ} → deep' ≡ deep - 1 → Looping e msg last base left s₀ S₀ T₀ start until deep' (height + 1) s' S' T' nest'
+                  pub loop-entered : {deep' : ℕ} → deep' ≡ deep - 1 → WalkLoop e msg last base left s₀ S₀ T₀ start until deep' (height + 1) s' S' T' nest'
                   loop-entered {deep'} less = record {
                     ordered = inline_in.1;
                     short = inline_in.3;
@@ -533,24 +533,24 @@ module _ {e : Lent} {msg last : List ℕ} {base left : ℕ} {s₀ : State} {S₀
               → cut (part_between base msg a b) ≡ ok m → Twinned base last a b (m ∷ []) → (d : ℕ) → deep ≡ max_depth - d
               → PickedTold (argument_in (type_at allowance c) c d m s.types) shown_rows s found S S' T T') (nest' : List Waiting)
               (f : take height nest' ≡ take height nest) where
-            found-is : {z : Picked} → found ≡ z → (c : Scope) → Scoped e c → {told : Res (List Row × ℕ)} (go : Goes told c base msg last nest height at end deep s₀ s S₀ S T₀ T)
+            found-is : {z : Picked} → found ≡ z → (c : Scope) → Scoped e c → {told : Res (List Row × ℕ)} (go : WithWaiting told c base msg last nest height at end deep s₀ s S₀ S T₀ T)
                 → PickedTold (argument_in (type_at allowance c) c go.wait.depth (next-argument go).first s.types) shown_rows s z S S' T T'
             found-is h c o go =
                 let next = next-argument go in
                 subst (λ (z : Picked). PickedTold (argument_in (type_at allowance c) c go.wait.depth next.first s.types) shown_rows s z S S' T T') h
                 (told_is c o next.first next.cuts next.twins go.wait.depth go.here.deep)
 
-            found-kept : {s' : State} → found ≡ Ok (Some s') → Looping e msg last base left s₀ S₀ T₀ b end deep height s' S' T' nest'
+            found-kept : {s' : State} → found ≡ Ok (Some s') → WalkLoop e msg last base left s₀ S₀ T₀ b end deep height s' S' T' nest'
             found-kept {s'} h = loop-on s' S' T' nest' f (subst (PickedSpends s) h spent) λ c o told go.
                 let it = found-is h c o go in
                 goes_kept go (next-argument go) nest' f s' S' T' it.2 it.3
 
-            found-dropped : found ≡ Ok None → Looping e msg last base left s₀ S₀ T₀ b end deep height s S' T' nest'
+            found-dropped : found ≡ Ok None → WalkLoop e msg last base left s₀ S₀ T₀ b end deep height s S' T' nest'
             found-dropped h = loop-on s S' T' nest' f (spends_none s) λ c o told go.
                 let it = found-is h c o go in
                 let same = goes_dropped go (next-argument go) nest' f it.0 in
-                subst (λ (l : List ℕ). Goes told c base msg last nest' height b end deep s₀ s S₀ l T₀ T') (sym it.1)
-                (subst (λ (l : List ℕ). Goes told c base msg last nest' height b end deep s₀ s S₀ S T₀ l) (sym it.2) same)
+                subst (λ (l : List ℕ). WithWaiting told c base msg last nest' height b end deep s₀ s S₀ l T₀ T') (sym it.1)
+                (subst (λ (l : List ℕ). WithWaiting told c base msg last nest' height b end deep s₀ s S₀ S T₀ l) (sym it.2) same)
 
             found-refused : {stop : Stop} → found ≡ Err stop → ArgumentsTold e msg last base left s₀ (Err stop) S₀ S' T₀ T'
             found-refused {stop} h = refused_all stop λ c o m k t d l.

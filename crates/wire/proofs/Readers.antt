@@ -44,7 +44,7 @@ pub record After (m : ℕ) (p q : Part) : Type 0 where
   pub is : q ≡ ◌from◌ (p.at + taken) (drop taken p.bytes)
 
 -- q is some of the bytes of p, in one piece
-pub record Within (p q : Part) : Type 0 where
+pub record PieceOf (p q : Part) : Type 0 where
   pub start : ℕ
   pub count : ℕ
   pub fits : start + count ≤ length p.bytes
@@ -78,10 +78,10 @@ pub after_then : {m n : ℕ} {p q r : Part} → After m p q → After n q r → 
 after_then a b = after_weaken (omega arith) (after_trans a b)
 
 -- a piece: how much it is, and the piece of a piece
-pub within-length : {p q : Part} (w : Within p q) → length q.bytes ≡ w.count
+pub within-length : {p q : Part} (w : PieceOf p q) → length q.bytes ≡ w.count
 within-length w = rw (ap (λ (x : Part). x.bytes) w.is, length-take, length-drop) (omega (arith, w.fits))
 
-pub within_shorter : {p q : Part} → Within p q → length q.bytes ≤ length p.bytes
+pub within_shorter : {p q : Part} → PieceOf p q → length q.bytes ≤ length p.bytes
 within_shorter w = omega (arith, within-length w, w.fits)
 
 piece_of_front : (s n k : ℕ) (l : List ℕ) → s + n ≤ k → take n (drop s (take k l)) ≡ take n (drop s l)
@@ -90,7 +90,7 @@ piece_of_front (suc s) n zero l h = absurd (omega arith)
 piece_of_front (suc s) n (suc k) [] h = refl
 piece_of_front (suc s) n (suc k) (b ∷ l) h = piece_of_front s n k l (omega arith)
 
-pub within_trans : {p q r : Part} → Within p q → Within q r → Within p r
+pub within_trans : {p q r : Part} → PieceOf p q → PieceOf q r → PieceOf p r
 within_trans {p} v w =
     let place = ap (λ (x : Part). x.at) v.is in
     let bytes = ap (λ (x : Part). x.bytes) v.is in
@@ -104,7 +104,7 @@ within_trans {p} v w =
     }
 
 -- what is left of a part is a piece of it
-pub after-within : {m : ℕ} {p q : Part} → After m p q → Within p q
+pub after-within : {m : ℕ} {p q : Part} → After m p q → PieceOf p q
 after-within {p} {q} a =
     let rest = drop a.taken p.bytes in
     let all : length rest ≤ length q.bytes = rw length-drop (omega (arith, after-length a)) in
@@ -177,20 +177,20 @@ pub bytes_past : (place n : ℕ) (p : Part) → length p.bytes < n → read_byte
 unfolding read_bytes
 bytes_past place n p h = rw (lt-ltb (length p.bytes) n h)
 
-front : (n : ℕ) (p : Part) → n ≤ length p.bytes → Within p (◌from◌ p.at (take n p.bytes))
+front : (n : ℕ) (p : Part) → n ≤ length p.bytes → PieceOf p (◌from◌ p.at (take n p.bytes))
 front n p h = record { start = 0; count = n; fits = omega arith; is = rw add-zero }
 
-pub bytes_after : (place n : ℕ) (p : Part) → Gives (λ g. Within p g.0 × After n p g.1) (read_bytes place n p)
+pub bytes_after : (place n : ℕ) (p : Part) → Gives (λ g. PieceOf p g.0 × After n p g.1) (read_bytes place n p)
 unfolding read_bytes
 bytes_after place n p =
-    if_ind (Gives (λ g. Within p g.0 × After n p g.1)) (ltb (length p.bytes) n) (λ t. tt) λ t.
+    if_ind (Gives (λ g. PieceOf p g.0 × After n p g.1)) (ltb (length p.bytes) n) (λ t. tt) λ t.
     let h = ltb-false (length p.bytes) n t in
     (front n p h, record { taken = n; least = omega arith; fits = h; is = refl })
 
-pub delimited_after : (p : Part) → Gives (λ g. Within p g.0 × After 1 p g.1) (read_delimited p)
+pub delimited_after : (p : Part) → Gives (λ g. PieceOf p g.0 × After 1 p g.1) (read_delimited p)
 unfolding read_delimited
 delimited_after p =
-    let P : Got Part → Type 0 = λ g. Within p g.0 × After 1 p g.1 in
+    let P : Got Part → Type 0 = λ g. PieceOf p g.0 × After 1 p g.1 in
     gives_bind _ P (read_varint p) _ (varint-after p) λ a q.
     gives_weaken _ P (read_bytes p.at a.0 a.1) (bytes_after p.at a.0 a.1) λ g w.
     (within_trans (after-within q) w.0, after_then q w.1)
@@ -199,9 +199,9 @@ delimited_after p =
 abbrev pub ReadIn : Part → Value → Type 0
 ReadIn p (varint n) = n < 2 ^ 64
 ReadIn p (fixed w n) = Unit {0}
-ReadIn p (body q) = Within p q
+ReadIn p (body q) = PieceOf p q
 
-pub read_in_within : {p q : Part} → Within p q → (v : Value) → ReadIn q v → ReadIn p v
+pub read_in_within : {p q : Part} → PieceOf p q → (v : Value) → ReadIn q v → ReadIn p v
 read_in_within w (varint n) r = r
 read_in_within w (fixed k n) r = r
 read_in_within w (body b) r = within_trans w r

@@ -1,7 +1,7 @@
 use mathlib.Core.Path.{refl}
 use native.Mathlib.Omega.{arith}
 use Rattle.messages.proofs.BodiesLaws.{goes-start, goes-next, goes-to}
-use Rattle.joined_types.proofs.MovedLaws.{EntriesBefore, entries_start, entries_end, entries_in, entries_next}
+use Rattle.joined_types.proofs.MovedLaws.{EntriesBefore, entries_start, entries_end, entry-inside-table, entries_next}
 use Rattle.joined_types.proofs.count_entries.Goals as goal
 
 pub loop-init : goal.loop-init
@@ -13,7 +13,7 @@ pub returns : goal.returns
 returns c = entries_end c.args.s.now c.loop.iterator'.at c.loop.count c.loop.invariant.1 (goes-next c.loop.invariant.0 c.in-None.ensures.steps).0 refl
 
 pub overflow_add-count : goal.overflow_add-count
-overflow_add-count c = let h = entries_in c.args.s.now c.loop.iterator'.at c.loop.count c.loop.invariant.1 (goes-next c.loop.invariant.0 c.in-Some.ensures.steps).0 refl in omega (arith, c.loop.invariant.1.few)
+overflow_add-count c = let h = entry-inside-table c.args.s.now c.loop.iterator'.at c.loop.count c.loop.invariant.1 (goes-next c.loop.invariant.0 c.in-Some.ensures.steps).0 refl in omega (arith, c.loop.invariant.1.few)
 
 pub loop-preserved : goal.loop-preserved
 loop-preserved c =

@@ -28,8 +28,8 @@ abbrev pub ranges_of : List Record → List ℕ
 ranges_of = map λ r. r.range
 
 -- two places in one number, and each of them
-abbrev pub packed_places : ℕ → ℕ → ℕ
-packed_places start end = start + 4294967296 * end
+abbrev pub pair_places : ℕ → ℕ → ℕ
+pair_places start end = start + 4294967296 * end
 
 abbrev pub start_of : ℕ → ℕ
 start_of n = n % 4294967296
@@ -38,9 +38,9 @@ abbrev pub end_of : ℕ → ℕ
 end_of n = n / 4294967296
 
 -- the part that two places in one number name, if it lies in so many bytes
-abbrev pub UnpackedTold : ℕ → ℕ → rust.Option Span → Type 0
-UnpackedTold places size (Some p) = (p.start ≡ start_of places) × (p.end ≡ end_of places) × (p.start ≤ p.end) × (p.end ≤ size)
-UnpackedTold places size None = start_of places ≤ end_of places → end_of places ≤ size → ⊥
+abbrev pub PairPartTold : ℕ → ℕ → rust.Option Span → Type 0
+PairPartTold places size (Some p) = (p.start ≡ start_of places) × (p.end ≡ end_of places) × (p.start ≤ p.end) × (p.end ≤ size)
+PairPartTold places size None = start_of places ≤ end_of places → end_of places ≤ size → ⊥
 
 -- The index of a name table's records has two numbers for each: where it stands among the decoded bytes, and the first index past those that
 -- it serves, which is where the next one's begin.

@@ -6,7 +6,7 @@ use Rattle.foundation.specs.Choices.{is_some}
 use Rattle.foundation.specs.Results as Results
 use Rattle.foundation.specs.Results.{Res, ok, Part, ◌from◌}
 use Rattle.foundation.specs.Texts.{Text}
-use Rattle.fields.specs.Fields.{Class-constructor, Property-property_signature, Type-Argument-type}
+use Rattle.fields.specs.Fields.{Property-property_signature, Type-Argument-type}
 use Rattle.encoding.specs.Encoding.{decoded}
 use Rattle.wire.specs.Wire.{Message, cut}
 use Rattle.wire.specs.Messages.{bytes_of, message}
@@ -17,11 +17,9 @@ use Rattle.lookup.specs.told.Lookups.{NotesOf}
 use Rattle.schema.specs.Reading.{Read, TypeTable, Scope, scope, name_in, class_name_in}
 use Rattle.declaration_rows.specs.Declarations.{Signature, Declarations}
 use Rattle.schema.specs.Types.{max_depth, resolve_at, argument_in, type_at, declared_type}
-use Rattle.schema.specs.Members.{signature_of, signature_in, field_in, of_signature, function_field, property_field, alias_field}
+use Rattle.schema.specs.Members.{signature_of, signature_in, field_in, of_signature}
 use Rattle.schema.specs.told.Alike.{Alike, SameAtLast}
 use Rattle.schema.specs.told.SchemaTold.{Lent, Scoped}
-use Rattle.members.specs.declared.list.Member.{Member}
-use Rattle.members.specs.declared.list.Member.TheVariants as member
 use Rattle.inputs.specs.Inputs.{carries_declarations}
 use Rattle.declarations.specs.Payload.{payload}
 use Rattle.passes.specs.Answered.{nothing_read}
@@ -118,13 +116,6 @@ FieldMarked e base msg used used' = SignatureMessageMarked e base msg field_in u
 
 abbrev pub AccessorMarked : Lent → ℕ → List ℕ → (number : ℕ) → List ℕ → List ℕ → Type 0
 AccessorMarked e base msg number used used' = SignatureMessageMarked e base msg (λ c. signature_in c none number) used used'
-
--- The field of a list of a class (true) or package.
-abbrev pub list_field : Bool → Member → ℕ
-list_field class member.Constructor = Class-constructor
-list_field class member.Function = function_field class
-list_field class member.Property = property_field class
-list_field class member.Alias = alias_field class
 
 -- what the decoded bytes ask for; and what d1 does, which is to be decoded
 abbrev pub BytesMarked : (kind : ℕ) (d2 ends bytes used used' : List ℕ) → Type 0

@@ -3,13 +3,13 @@ use Rattle.messages.proofs.BodiesLaws.{goes-start, goes-next, goes-to}
 use Rattle.messages.proofs.BodyLaws.{checked_in}
 use native.Mathlib.Omega.{arith}
 use Rattle.foundation.proofs.ErrorLaws.{handed_on}
-use Rattle.schema.proofs.TableLaws.{Noting, noting_start, noting-none, body-in, noting-refused, no_place, noting-next}
+use Rattle.schema.proofs.TableLaws.{EntriesNoting, noting_start, noting-none, body-in, noting-refused, no_place, noting-next}
 use Rattle.schema.proofs.table.note_entries.Goals as goal
 
 pub loop-entry-init : goal.loop-entry-init
 loop-entry-init c =
     let a = c.args in
-    let g = goes-start c.into_iter-entry-iterator.ensures.into_iter_gives c.bodies_from-entry-items.ensures (Noting a.bytes.now a.at a.notes.now 0) (noting_start a.bytes.now a.at a.notes.now) in
+    let g = goes-start c.into_iter-entry-iterator.ensures.into_iter_gives c.bodies_from-entry-items.ensures (EntriesNoting a.bytes.now a.at a.notes.now 0) (noting_start a.bytes.now a.at a.notes.now) in
     (rw (c.whole-table.ensures.0, c.whole-table.ensures.1) at g.0, refl, omega arith, g.1)
 
 pub returns : goal.returns

@@ -3,14 +3,14 @@ use Prim.Native.Nat.{ℕ}
 use Rattle.messages.proofs.BodiesLaws.{goes-start, goes-next, goes-to}
 use Rattle.schema.specs.told.SchemaTold.{lent}
 use Rattle.members.specs.Lists.{member_in}
-use Rattle.string_marks.proofs.ListMarks.{Looping, looping_start, looping_next, looping-kept}
+use Rattle.string_marks.proofs.ListMarks.{MarksLoop, looping_start, looping_next, looping-kept}
 use Rattle.string_marks.proofs.member_lists.mark_members.Goals as goal
 
 pub loop-body-init : goal.loop-body-init
 loop-body-init c =
     let a = c.args in
     goes-start c.into_iter-body-iterator.ensures.into_iter_gives c.bodies_from-body-items.ensures
-    (λ (at : ℕ). Looping (lent a.context.now) a.msg.base a.msg.bytes.now a.list.number (member_in a.list.member) a.used.now at a.used.now) looping_start
+    (λ (at : ℕ). MarksLoop (lent a.context.now) a.msg.base a.msg.bytes.now a.list.number (member_in a.list.member) a.used.now at a.used.now) looping_start
 
 pub part-requires : goal.part-requires
 part-requires c = let n = goes-next c.loop-body.invariant.0 c.in-Some.ensures.steps in (n.0.inside.0, n.0.inside.1)

@@ -6,14 +6,14 @@ use Rattle.schema.specs.Reading.{Scope}
 use Rattle.schema.specs.Members.{parameter_in}
 use Rattle.schema.specs.told.SchemaTold.{lent}
 use Rattle.schema.proofs.EachLaws.{always}
-use Rattle.string_marks.proofs.ListMarks.{Looping, looping_start, looping_next, looping-each, always-in}
+use Rattle.string_marks.proofs.ListMarks.{MarksLoop, looping_start, looping_next, looping-each, always-in}
 use Rattle.string_marks.proofs.member_lists.mark_parameters.Goals as goal
 
 pub loop-parameter-init : goal.loop-parameter-init
 loop-parameter-init c =
     let a = c.args in
     goes-start c.into_iter-parameter-iterator.ensures.into_iter_gives c.bodies_from-parameter-items.ensures
-    (λ (at : ℕ). Looping (lent a.context.now) a.msg.base a.msg.bytes.now a.number (λ (s : Scope) (m : Message). always (parameter_in s m)) a.used.now at a.used.now) looping_start
+    (λ (at : ℕ). MarksLoop (lent a.context.now) a.msg.base a.msg.bytes.now a.number (λ (s : Scope) (m : Message). always (parameter_in s m)) a.used.now at a.used.now) looping_start
 
 pub part-requires : goal.part-requires
 part-requires c = let n = goes-next c.loop-parameter.invariant.0 c.in-Some.ensures.steps in (n.0.inside.0, n.0.inside.1)

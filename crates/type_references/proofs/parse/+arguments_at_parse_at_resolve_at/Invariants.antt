@@ -3,7 +3,7 @@ use Rattle.sheet.specs.told.Put.{SameAreas}
 use mathlib.Core.Path.{◌≡◌}
 use Prim.Native.Nat.{◌+◌, ◌*◌}
 use lib.ListN.{length}
-use Rattle.type_references.proofs.WalkLaws.{Looping, turns}
+use Rattle.type_references.proofs.WalkLaws.{WalkLoop, turns}
 use Rattle.type_references.proofs.CycleLaws.{remaining}
 use Rattle.type_references.proofs.parse.+arguments_at_parse_at_resolve_at.Given as goal
 
@@ -17,7 +17,7 @@ abbrev pub decreases-resolve_at : goal.decreases-resolve_at
 decreases-resolve_at l = 3 * remaining l.left 0
 
 abbrev pub invariant-arguments_at-loop-part : goal.invariant-arguments_at-loop-part
-invariant-arguments_at-loop-part l = Looping (lent l.context) l.msg.bytes.now l.last.bytes.now l.msg.base l.left l.initial.out.state l.initial.out.sheet.now l.initial.out.text.now l.at l.end l.deep l.height l.out.state l.out.sheet.now l.out.text.now l.nest × (length l.nest ≡ length l.initial.nest) × SameAreas l.initial.out l.out
+invariant-arguments_at-loop-part l = WalkLoop (lent l.context) l.msg.bytes.now l.last.bytes.now l.msg.base l.left l.initial.out.state l.initial.out.sheet.now l.initial.out.text.now l.at l.end l.deep l.height l.out.state l.out.sheet.now l.out.text.now l.nest × (length l.nest ≡ length l.initial.nest) × SameAreas l.initial.out l.out
 
 abbrev pub decreases-arguments_at-loop-part : goal.decreases-arguments_at-loop-part
 decreases-arguments_at-loop-part l = turns l.nest l.height l.at l.end
