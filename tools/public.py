@@ -116,8 +116,11 @@ def contract_of(item, crate):
 
 
 def comment_above(item, crate):
+    """The comment above an item and its attributes."""
     lines = crate.files[item.file][:item.start].splitlines()
     if lines and not lines[-1].strip():
+        lines.pop()
+    while lines and lines[-1].lstrip().startswith('#['):
         lines.pop()
     said = []
     while lines and lines[-1].lstrip().startswith('//'):

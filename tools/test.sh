@@ -125,6 +125,8 @@ sed -i 's/^| `named`.*/&\n| `spare` | - |/' "$public/docs/TRACE.md"
 public_check > "$here/given" || { echo 'public.py: a proof names spare'; cat "$here/given"; failed=1; }
 rm "$public/crates/high/proofs/Lib.antt"
 begin_public
+sed -i 's/^pub fn asked/#[inline(always)]\n&/' "$public/crates/low/src/deep.rt"
+public_check > "$here/given" || { echo 'public.py: an attribute between a comment and its function'; cat "$here/given"; failed=1; }
 sed -i 's/Callers show/Callers know/' "$public/crates/low/src/deep.rt"
 refused 'low::deep::asked requires something' public_check
 begin_public

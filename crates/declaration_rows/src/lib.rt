@@ -77,6 +77,7 @@ fn put_present(context: &Context<'_>, name: Name, out: &mut Output<'_>)
 
 // A name's cell and its text; a ref to no text if it is absent.
 // Callers show `RecordRoom`: the records below from their own, type_references from the `Ready` that it requires.
+#[inline(always)]
 pub fn put_named(context: &Context<'_>, name: Option<Name>, out: &mut Output<'_>)
     requires { RecordRoom (2 ^ 63) context.now.payload.now context.now.d2.now out.old.state }
     ensures same_areas { SameAreas out.old out.new }

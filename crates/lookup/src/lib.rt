@@ -120,6 +120,7 @@ fn words_of(context: &Context<'_>, index: u32) -> Option<Words>
 
 // The name that the record of an index builds, if it decides: it has a string or a predefined index, even if its text can't be built and there
 // is no name.
+#[inline(always)]
 fn by_record(context: &Context<'_>, index: u32) -> Option<Option<Name>>
     ensures { DecidedTold context.now.notes.now context.now.tables.records index false result }
 {

@@ -29,6 +29,7 @@ fn check_from(s: Located<'_>, at: usize) -> Result<(), WireError>
 }
 
 // Tests that a whole message can be cut into fields. Else the answer is the first refusal.
+#[inline(always)]
 pub fn check(s: Located<'_>) -> Result<(), WireError>
     ensures { CheckedTold (cut (told_part s.entry)) result }
 {
@@ -138,6 +139,7 @@ fn body_of(asked: u32, field: Field) -> Option<Span>
 }
 
 // The next length-delimited occurrence of a field from a place on. Asked again from its end on, it gives the one after it.
+#[inline(always)]
 pub fn next_body(s: Located<'_>, number: u32, at: usize) -> Option<Span>
     ensures { NextBodyTold s.entry.base s.entry.bytes.now number at result }
 {

@@ -191,6 +191,7 @@ fn put_walked(
 
 // A name's text in UTF-8, as far as the area goes, and nothing where there is no name. Answers the place after it.
 // Callers show that this place fits 64 bits: by the limits of payload and d2, and of the place where they write.
+#[inline(always)]
 pub fn put_name(
     context: &Context<'_>,
     name: Option<Name>,

@@ -87,7 +87,7 @@ pub fn declared_place(msg: Located<'_>, slot: TypeSlot, context: &Context<'_>) -
 
 // The first kept argument of a type, in its message; `left` is what is left of the depth at its arguments. There is nothing to find of a star. The message
 // stands among the decoded bytes, or among others that are as many (`bytes_of_type`).
-// Callers show that it ends where the payload does at the latest: descriptors::erased cuts it out of bytes as long, whose limit its `PartRoom` has.
+// Callers show that it ends where the payload does at the latest: descriptors::erased cuts it out of bytes as long, and requires their limit itself.
 pub fn first_argument(msg: Located<'_>, left: usize, context: &Context<'_>) -> Option<FoundType>
     requires { (msg.base + length msg.bytes.now ≤ length context.now.payload.now) × (length context.now.payload.now ≤ 32768) }
     ensures { (source : List ℕ) → length source ≡ length context.now.payload.now → Stands source msg.entry.bytes.now msg.entry.base → ArgumentFound source context.now.payload.now context.now.notes.now context.now.tables msg.entry.base (msg.entry.base + length msg.entry.bytes.now) left result }

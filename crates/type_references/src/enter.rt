@@ -121,6 +121,7 @@ pub(crate) fn enter_star(context: &Context<'_>, out: &mut Output<'_>) -> Result<
 }
 
 // A type whose message is cut is entered; its arguments are to follow.
+#[inline(always)]
 pub(crate) fn enter_type(
     msg: Located<'_>,
     place: TypePlace,

@@ -84,6 +84,7 @@ fn arguments_at(
 
 // A type whose message is cut. One with no argument may be lent an empty area. `last` is the message as it is read where no look-up is left.
 #[cycle(arguments_at_parse_at_resolve_at)]
+#[inline(always)]
 pub(crate) fn parse_at(
     msg: Located<'_>,
     last: Located<'_>,
