@@ -1,4 +1,5 @@
 // Both conversions on the inputs of BitEncoding's own test, and on cases made for each refusal. README.md says what a line shows.
+use crate::hex::read_units;
 use converter::{ConvertFault, new_to_old, old_to_new};
 use std::io;
 
@@ -184,53 +185,25 @@ fn both(rt: &impl Print, d1: &[u16]) -> io::Result<()> {
     println!(rt)
 }
 
-fn forms(rt: &impl Print) -> io::Result<()> {
-    let empty = [0u16; 0];
-    both(rt, &empty)?;
-    let marker_alone = [0u16];
-    both(rt, &marker_alone)?;
-    let one_old = [5u16];
-    both(rt, &one_old)?;
-    let above_first = [0x12cu16, 1];
-    both(rt, &above_first)?;
-    let above_later = [1u16, 0x400, 0xffff];
-    both(rt, &above_later)?;
-    let above_marked = [0u16, 0x7f, 0x100];
-    both(rt, &above_marked)?;
-    let marker_in_low_byte = [0x100u16];
-    both(rt, &marker_in_low_byte)
+// A case: d1's units.
+pub(crate) fn show_case(rt: &impl Print, case: &[u8]) -> io::Result<()> {
+    let mut units = [0u16; 16];
+    let count = read_units(case, &mut units);
+    both(rt, &units[..count])
 }
 
-fn groups(rt: &impl Print) -> io::Result<()> {
-    let old = [2u16, 5, 0xd, 0x21, 0x51, 0x41, 0x42, 4];
-    both(rt, &old)?;
-    let high_bits = [1u16, 2, 3, 0x7f, 0x80, 0xff, 0x40, 0x55];
-    both(rt, &high_bits)?;
-    let later_zeros = [1u16, 0, 0, 0, 0, 0, 0, 0, 0];
-    both(rt, &later_zeros)?;
-    let ones = [0u16, 0x7f];
-    both(rt, &ones)?;
-    let all_ones = [0u16, 0xff, 0xff];
-    both(rt, &all_ones)?;
-    let marked = [0u16, 1, 2, 3, 4, 5, 6, 7];
-    both(rt, &marked)?;
-    let no_room = [0u16, 1, 2, 3, 4, 5, 6, 7, 8];
-    both(rt, &no_room)
-}
-
-fn limit(rt: &impl Print) -> io::Result<()> {
+// As many units as a line can't hold: the most that are converted, and one more.
+pub(crate) fn show_limits(rt: &impl Print) -> io::Result<()> {
     let at_limit = [1u16; 32768];
     both(rt, &at_limit)?;
     let over = [0u16; 32769];
     both(rt, &over)
 }
 
-pub(crate) fn run(rt: &impl Print) -> io::Result<()> {
+// The inputs of BitEncoding's own test.
+pub(crate) fn run_test(rt: &impl Print) -> io::Result<()> {
     all_short(rt)?;
     long(rt, 1000)?;
     long(rt, 32000)?;
-    long(rt, 33000)?;
-    forms(rt)?;
-    groups(rt)?;
-    limit(rt)
+    long(rt, 33000)
 }

@@ -1,5 +1,5 @@
-// Runs the encoding guide's published examples and damaged messages through `wire` and writes what it reads: each field's number, kind and
-// value or places, or the refusal with its offset.
+// Messages cut into fields by `wire`, and asked by `messages`: each field's number, kind and value or places, or the refusal with its offset.
+use crate::hex::{number, read_bytes};
 use foundation::Located;
 use messages::repeated::Two;
 use std::io;
@@ -17,8 +17,8 @@ fn print_value(rt: &impl Print, value: WireValue) -> io::Result<()> {
 }
 
 // The fields of a message, up to its end or to what refuses it. A loop by hand: `wire::fields_from` gives only fields of numbers that are named.
-fn show(rt: &impl Print, name: &str, s: Located<'_>) -> io::Result<()> {
-    println!(rt; "{name}")?;
+fn show(rt: &impl Print, s: Located<'_>) -> io::Result<()> {
+    println!(rt)?;
     let mut at = 0;
     while at < s.bytes.len() {
         let step = wire::field_at(s, at);
@@ -36,8 +36,8 @@ fn show(rt: &impl Print, name: &str, s: Located<'_>) -> io::Result<()> {
 }
 
 // The numbers of a packed run. One function with `show` would take a trait of what is read, with the law that it goes on: longer than this second loop.
-fn show_packed(rt: &impl Print, name: &str, s: Located<'_>) -> io::Result<()> {
-    print!(rt; "{name}\n ")?;
+fn show_packed(rt: &impl Print, s: Located<'_>) -> io::Result<()> {
+    print!(rt; "\n ")?;
     let mut at = 0;
     while at < s.bytes.len() {
         let step = wire::varint_at(s, at);
@@ -61,8 +61,8 @@ fn print_checked(rt: &impl Print, checked: Result<(), WireError>) -> io::Result<
 }
 
 // A message cut short after each of its bytes.
-fn show_cuts(rt: &impl Print, name: &str, s: &[u8]) -> io::Result<()> {
-    println!(rt; "{name}, cut short")?;
+fn show_cuts(rt: &impl Print, s: &[u8]) -> io::Result<()> {
+    println!(rt; ", cut short")?;
     for n in 0..s.len() {
         print!(rt; "  {n} bytes: ")?;
         print_checked(rt, messages::check(Located::whole(&s[..n])))?;
@@ -70,8 +70,8 @@ fn show_cuts(rt: &impl Print, name: &str, s: &[u8]) -> io::Result<()> {
     Ok(())
 }
 
-fn show_first(rt: &impl Print, name: &str, s: &[u8], number: u32) -> io::Result<()> {
-    print!(rt; "{name}\n  first")?;
+fn show_first(rt: &impl Print, s: &[u8], number: u32) -> io::Result<()> {
+    print!(rt; "\n  first")?;
     match messages::find(Located::whole(s), number) {
         Some(value) => print_value(rt, value),
         None => println!(rt; " nothing"),
@@ -87,189 +87,43 @@ fn print_two(rt: &impl Print, two: Two) -> io::Result<()> {
 }
 
 // The first two of a repeated number, mod 2^32.
-fn show_two(rt: &impl Print, name: &str, s: &[u8], number: u32) -> io::Result<()> {
-    print!(rt; "{name}\n  ")?;
+fn show_two(rt: &impl Print, s: &[u8], number: u32) -> io::Result<()> {
+    print!(rt; "\n  ")?;
     match messages::repeated::first_two(Located::whole(s), number) {
         Ok(two) => print_two(rt, two),
         Err(error) => println!(rt; "{error}"),
     }
 }
 
-fn published(rt: &impl Print) -> io::Result<()> {
-    show(rt, "150", Located::whole(b"\x08\x96\x01"))?;
-    show(rt, "testing", Located::whole(b"\x12\x07testing"))?;
-    show(rt, "embedded", Located::whole(b"\x1a\x03\x08\x96\x01"))?;
-    show(
-        rt,
-        "the message in it",
-        Located {
-            base: 2,
-            bytes: b"\x08\x96\x01",
-        },
-    )?;
-    show(
-        rt,
-        "hello and 1, 2, 3",
-        Located::whole(b"\x22\x05hello\x28\x01\x28\x02\x28\x03"),
-    )?;
-    show(
-        rt,
-        "packed",
-        Located::whole(b"\x32\x06\x03\x8e\x02\x9e\xa7\x05"),
-    )?;
-    show_packed(
-        rt,
-        "the numbers in it",
-        Located {
-            base: 2,
-            bytes: b"\x03\x8e\x02\x9e\xa7\x05",
-        },
-    )
+// What is asked of a message: its fields, its packed numbers, itself cut short, or its first field and first two numbers with a field number. The number is
+// that one, or the message's offset.
+fn show_asked(rt: &impl Print, kind: &[u8], n: u32, s: &[u8]) -> io::Result<()> {
+    let message = Located {
+        base: n as usize,
+        bytes: s,
+    };
+    if kind.starts_with(b"packed") {
+        return show_packed(rt, message);
+    }
+    if kind.starts_with(b"cuts") {
+        return show_cuts(rt, s);
+    }
+    if kind.starts_with(b"first") {
+        return show_first(rt, s, n);
+    }
+    if kind.starts_with(b"two") {
+        return show_two(rt, s, n);
+    }
+    show(rt, message)
 }
 
-fn numbers(rt: &impl Print) -> io::Result<()> {
-    show(
-        rt,
-        "-2",
-        Located::whole(b"\x08\xfe\xff\xff\xff\xff\xff\xff\xff\xff\x01"),
-    )?;
-    show(
-        rt,
-        "-1",
-        Located::whole(b"\x08\xff\xff\xff\xff\xff\xff\xff\xff\xff\x01"),
-    )?;
-    show(
-        rt,
-        "only the lowest bit of the tenth byte",
-        Located::whole(b"\x08\x80\x80\x80\x80\x80\x80\x80\x80\x80\x7e"),
-    )?;
-    show(
-        rt,
-        "fixed64 200",
-        Located::whole(b"\x31\xc8\x00\x00\x00\x00\x00\x00\x00"),
-    )?;
-    show(rt, "fixed32 200", Located::whole(b"\x35\xc8\x00\x00\x00"))?;
-    show(
-        rt,
-        "double 25.4",
-        Located::whole(b"\x29\x66\x66\x66\x66\x66\x66\x39\x40"),
-    )?;
-    show(rt, "float 25.4", Located::whole(b"\x2d\x33\x33\xcb\x41"))
-}
-
-fn cut_short(rt: &impl Print) -> io::Result<()> {
-    show_cuts(rt, "150", b"\x08\x96\x01")?;
-    show_cuts(rt, "testing", b"\x12\x07testing")?;
-    show_cuts(rt, "fixed64", b"\x31\xc8\x00\x00\x00\x00\x00\x00\x00")?;
-    show_cuts(rt, "fixed32", b"\x35\xc8\x00\x00\x00")?;
-    show_cuts(
-        rt,
-        "ten bytes",
-        b"\x08\xff\xff\xff\xff\xff\xff\xff\xff\xff\xff\x01",
-    )
-}
-
-fn wire_types(rt: &impl Print) -> io::Result<()> {
-    show(rt, "wire type 3", Located::whole(b"\x0b"))?;
-    show(rt, "wire type 4", Located::whole(b"\x08\x01\x0c"))?;
-    show(rt, "wire type 6", Located::whole(b"\x0e\x01"))?;
-    show(
-        rt,
-        "wire type 7",
-        Located {
-            base: 40,
-            bytes: b"\x0f\x01",
-        },
-    )?;
-    show(
-        rt,
-        "oversized",
-        Located::whole(b"\x08\xff\xff\xff\xff\xff\xff\xff\xff\xff\xff\x01"),
-    )?;
-    show(
-        rt,
-        "body one byte past its message",
-        Located::whole(b"\x12\x08testing"),
-    )?;
-    show(
-        rt,
-        "body of 2^64 - 1 bytes",
-        Located::whole(b"\x12\xff\xff\xff\xff\xff\xff\xff\xff\xff\x01"),
-    )
-}
-
-fn field_numbers(rt: &impl Print) -> io::Result<()> {
-    show(rt, "field 0", Located::whole(b"\x00\x05"))?;
-    show(
-        rt,
-        "field 0 with a body",
-        Located {
-            base: 7,
-            bytes: b"\x08\x01\x02\x00",
-        },
-    )?;
-    show(rt, "field 0 with wire type 3", Located::whole(b"\x03"))?;
-    show(
-        rt,
-        "field 0 in a tag of three bytes",
-        Located::whole(b"\x80\x80\x00\x05"),
-    )?;
-    show(
-        rt,
-        "field 1 in a tag of two bytes",
-        Located::whole(b"\x88\x00\x05"),
-    )
-}
-
-fn large_field_numbers(rt: &impl Print) -> io::Result<()> {
-    show(
-        rt,
-        "field 536,870,911",
-        Located::whole(b"\xf8\xff\xff\xff\x0f\x05"),
-    )?;
-    show(
-        rt,
-        "field 536,870,912",
-        Located::whole(b"\x80\x80\x80\x80\x10\x05"),
-    )?;
-    show(
-        rt,
-        "field 2^32 - 1",
-        Located::whole(b"\xf8\xff\xff\xff\x7f\x05"),
-    )?;
-    show(
-        rt,
-        "field 2^32",
-        Located::whole(b"\x80\x80\x80\x80\x80\x01\x05"),
-    )?;
-    show(
-        rt,
-        "field 2^32 with wire type 7",
-        Located::whole(b"\x87\x80\x80\x80\x80\x01"),
-    )
-}
-
-fn asked(rt: &impl Print) -> io::Result<()> {
-    show_first(rt, "1 before 2", b"\x08\x01\x08\x02", 1)?;
-    show_first(
-        rt,
-        "fixed before varint",
-        b"\x0d\x07\x00\x00\x00\x08\x02",
-        1,
-    )?;
-    show_first(rt, "no field 3", b"\x08\x01\x10\x02", 3)?;
-    show_first(rt, "field 0 is never found", b"\x00\x05", 0)?;
-    show_two(rt, "packed and single", b"\x32\x02\x03\x01\x30\x05", 6)?;
-    show_two(rt, "one", b"\x30\xff\xff\xff\xff\xff\x01", 6)?;
-    show_two(rt, "an error after two", b"\x30\x01\x30\x02\x32\x01\x80", 6)
-}
-
-pub(crate) fn run(rt: &impl Print) -> io::Result<()> {
-    published(rt)?;
-    numbers(rt)?;
-    cut_short(rt)?;
-    wire_types(rt)?;
-    field_numbers(rt)?;
-    large_field_numbers(rt)?;
-    asked(rt)
+// A line: what is asked, a note, the number, and the message's bytes.
+pub(crate) fn show_line(rt: &impl Print, line: &[u8]) -> io::Result<()> {
+    let mut parts = line.split(|byte| *byte == b'|');
+    let kind = parts.next().unwrap_or(&[]);
+    rt.write_all(parts.next().unwrap_or(&[]))?;
+    let n = number(parts.next().unwrap_or(&[]));
+    let mut area = [0u8; 16];
+    let size = read_bytes(parts.next().unwrap_or(&[]), &mut area);
+    show_asked(rt, kind, n, &area[..size])
 }
