@@ -1,7 +1,7 @@
 #!/usr/bin/env bash
 # The pages that tools make or hold to the crates. check_times.py: a small log, one of a gate that didn't pass, one without crates. trusted.py:
 # README as it is, and copies of the repository in which a definition rests on one file more, and in which README has one file fewer.
-# The lines of ./sheet that README shows. trace_files.py: TRACE as it is, with a name that is nowhere, and with a file renamed.
+# The lines of ./sheet that README shows. trace_files.py: TRACE as it is, with a name that is nowhere, with the file of another crate that defines the name, and with a file renamed.
 set -eu
 cd "$(dirname "$0")/.."
 here=$(mktemp -d)
@@ -102,6 +102,9 @@ traced() { # words that must be said
 }
 sed -i 's/`first_above255`/`first_above256`/' "$here/traced/docs/TRACE.md"
 traced 'first_above256 is defined nowhere'
+cp docs/TRACE.md "$here/traced/docs"
+sed -i 's|fields/specs/Fields.antt, schema/proofs|wire/src/lib.rt, schema/proofs|' "$here/traced/docs/TRACE.md"
+traced 'there should be .*fields/specs/Fields.antt, schema'
 cp docs/TRACE.md "$here/traced/docs"
 mv "$here/traced/crates/encoding/specs/Encoding.antt" "$here/traced/crates/encoding/specs/Units.antt"
 traced 'there should be .*encoding/specs/Units.antt'

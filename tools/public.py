@@ -8,7 +8,8 @@ usage: tools/public.py             a line for each such item, and what it could 
 Items are functions, methods, types, constants and modules. Another crate names one by its path in code, CRATE::MODULE::NAME, or in contracts,
 definitions and proofs, Rattle.CRATE.proofs.MODULE.NAME and Rattle.CRATE.specs.declared.MODULE.NAME; a method of a public type by a call VALUE.NAME(..),
 if the text doesn't show that the value is of another type. Comments don't count. A type or constant stays public where a public item's signature or
-fields name it, a module where it holds a public item. A function that is exported to C stays as it is.
+fields name it, a module where it holds a public item. A function that is exported to C stays as it is. One that is there for callers to come stays
+public by a comment line above it that has the words "Kept public" and says why.
 
 Told with them: a public function that requires something where no comment line above it says who shows that, in the words "Callers show"; and what the
 table "Public functions" of docs/TRACE.md lacks or has too much."""
@@ -19,6 +20,7 @@ import sys
 ROOT = pathlib.Path(__file__).resolve().parent.parent
 ITEM = re.compile(r'^( *)pub (fn|struct|enum|const|type|mod) (\w+)', re.M)
 SHOWN = 'Callers show'
+KEPT = 'Kept public'
 TRACE = ROOT / 'docs' / 'TRACE.md'
 
 
@@ -155,7 +157,7 @@ def is_named(item, others, answers):
 
 def kept(crate, others, answers):
     """The items of a crate that stay public: those that other crates name, then what these show. A method stays only if its type does."""
-    named = {item for item in crate.items if is_named(item, others, answers)}
+    named = {item for item in crate.items if KEPT in comment_above(item, crate) or is_named(item, others, answers)}
     stay = {item for item in named if not owner_of(item)}
     while True:
         shown = set(re.findall(r'\w+', ' '.join(item.seen for item in stay)))
@@ -229,9 +231,11 @@ def main(words):
     for crate in crates:
         for function, answer in crate.answers:
             answers.setdefault(function, set()).add(answer)
-    found, requiring, silent = {}, [], []
+    found, requiring, silent, needless = {}, [], [], []
     for crate in crates:
-        stay = kept(crate, [other for other in crates if other is not crate], answers)
+        others = [other for other in crates if other is not crate]
+        stay = kept(crate, others, answers)
+        needless += [item for item in crate.items if KEPT in comment_above(item, crate) and is_named(item, others, answers)]
         found |= narrowed([item for item in crate.items if item not in stay], crate, answers)
         requiring += (asks := [item for item in crate.items if item.kind == 'fn' and 'requires' in contract_of(item, crate)])
         silent += [item for item in asks if SHOWN not in comment_above(item, crate)]
@@ -242,11 +246,13 @@ def main(words):
         print(f'public.py: {item.whole} ({item.kind}): no other crate names it; it can be {word.strip() or "private"}')
     for item in silent:
         print(f'public.py: {item.whole} requires something; no comment line above it says "{SHOWN} .."')
+    for item in needless:
+        print(f'public.py: {item.whole} ({item.kind}): another crate names it; its comment need not say "{KEPT}"')
     wrong = list(untraced(crates))
     for line in wrong:
         print(f'public.py: {line}')
     if words == ['--check']:
-        return len(found) + len(silent) + len(wrong) > 0
+        return len(found) + len(silent) + len(needless) + len(wrong) > 0
     public = [item for crate in crates for item in crate.items if item.kind == 'fn']
     narrow = [item for item in found if item.kind == 'fn']
     print(f'{len(public)} public functions, {len(requiring)} with a requires; no other crate names {len(narrow)}, '

@@ -125,6 +125,12 @@ sed -i 's/^| `named`.*/&\n| `spare` | - |/' "$public/docs/TRACE.md"
 public_check > "$here/given" || { echo 'public.py: a proof names spare'; cat "$here/given"; failed=1; }
 rm "$public/crates/high/proofs/Lib.antt"
 begin_public
+printf '// Kept public: for callers to come.\npub fn spare() {}\n' >> "$public/crates/low/src/lib.rt"
+sed -i 's/^| `named`.*/&\n| `spare` | - |/' "$public/docs/TRACE.md"
+public_check > "$here/given" || { echo 'public.py: a function that is kept public'; cat "$here/given"; failed=1; }
+echo 'use low::spare;' >> "$public/crates/high/src/lib.rt"
+refused 'low::spare (fn): another crate names it; its comment need not say "Kept public"' public_check
+begin_public
 sed -i 's/^pub fn asked/#[inline(always)]\n&/' "$public/crates/low/src/deep.rt"
 public_check > "$here/given" || { echo 'public.py: an attribute between a comment and its function'; cat "$here/given"; failed=1; }
 sed -i 's/Callers show/Callers know/' "$public/crates/low/src/deep.rt"

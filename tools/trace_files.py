@@ -14,7 +14,7 @@ CONSTRUCTORS = r'^  ((?:[^\s:(){}.=]+ )+): '
 CODE = r'^ *(?:pub(?:\(crate\))? )?(?:extern "C" )?(?:fn|struct|enum) (\w+)'
 CLAUSE = r'^ *ensures (\w+) \{'
 # words in backquotes that name nothing of the crates: of the Rust, of the kit, parameters
-OUTSIDE = {'default_jvm_signature', 'of', 'is_local', 'class_name', 'first', 'second', 'src', 'msg', 'base', 'set', 'sets', 'take', 'drop', 'Consumes'}
+OUTSIDE = {'default_jvm_signature', 'of', 'is_local', 'class_name', 'first', 'second', 'src', 'msg', 'base', 'set', 'sets', 'take', 'drop', 'last', 'Consumes'}
 TESTS = ('tests', 'ruled out', 'wrong edits', 'requires')
 
 
@@ -46,8 +46,9 @@ class Names:
             for name in [path.stem, *re.findall(r'^# (\w+) in \w', path.read_text(encoding='utf-8'), re.M)]:
                 self.files[name].add(str(at))
 
-    def of(self, name):
-        """The files of a name as it stands in backquotes, its module if it says one, and whether it is defined there, or a part of what is."""
+    def of(self, name, crate):
+        """The files of a name as it stands in backquotes, its module if it says one, and whether it is defined there, or a part of what is. A crate that the
+        cell names before it may have it as a part only, as a file, where another crate defines such a name."""
         found = re.match(r'[^\s(<,]+', name)
         words = found[0].split('::') if found else ['']
         types = [word for word in words[:-1] if word[:1].isupper()]
@@ -56,8 +57,15 @@ class Names:
             return found | self.files.get(name, set()), [], True
         for word in (types or words)[::-1]:
             if word not in OUTSIDE and (word in self.files or word in self.parts):
-                return self.files.get(word) or self.parts[word], words[:-1], word in self.files
+                defined, parts = self.files.get(word, set()), self.parts.get(word, set())
+                if within(parts, crate) and not within(defined, crate):
+                    defined = set()
+                return defined or parts, words[:-1], bool(defined)
         return set(), words[:-1], False
+
+
+def within(files, crate):
+    return any(file.split('/')[0] == crate for file in files)
 
 
 def narrowed(files, tests):
@@ -97,7 +105,7 @@ def row_files(names, columns, cells, section):
         for word, name in re.findall(r'([A-Za-z_]+)|`([^`]+)`', re.sub(r"'s\b", '', cell)):
             crate = word if word in names.crates else crate if word else crate
             if name:
-                files, modules, defined = names.of(name)
+                files, modules, defined = names.of(name, crate)
                 if files:
                     seen.append((of_kind(files, KINDS[column], crate, defined), KINDS[column], crate, modules))
                 elif re.fullmatch(r'[\w·′-]+(::\w+)*', name) and name not in OUTSIDE:

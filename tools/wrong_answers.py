@@ -32,6 +32,12 @@ HEADER = re.compile(r"^(?:pub(?:\(crate\))? )?(impl|trait)(?:<[^>]*>)? ([\w:<>'&
 UNMET = r'note: src/(?P<file>\S+\.rt):(?P<line>\d+):\d+: it is not proved that '
 REFUSED = r'(?:\./)?proofs/(?P<place>\S+)/(?:Answers|Proof)\.antt:\d+:\d+: error: `'
 GONE = re.compile('is not in scope|has no field|has no `')  # a proof that names what isn't there any more
+# what is said of a search where no file has the answer, as of an answer; and the lines that go on about either
+SEARCH = r'note: what antt said of a `search` in the proof that rattle made: src/(?P<file>\S+\.rt):(?P<line>\d+):\d+: error: `'
+SAID = r'(?P<name>[^`]*)`: (?P<words>.*(?:\n  .*)*)'
+# a limit of the prover's own, in the words that rt knows; and one of a tactic's call. It gives no verdict: a right body could meet it too
+LIMIT = re.compile(r'antt ran out of (?:stack|the (?:steps|memory) that the check of one declaration may (?:take|use))|(?:outgrew the memory limit|stopped at the step limit) \(|\n  `\w+` broke off')
+LIMITED = 'refused only by a limit of the prover, which gave no verdict'
 
 
 class Edit:
@@ -87,8 +93,8 @@ def functions_of(crate):
             if header and header[0][0] == 'trait':  # what its methods promise; they have no code
                 continue
             end = text.index(f'\n{indent}}}\n', start)
-            # the type, and of a trait's `impl` the trait after it, as TFromU and RefSliceU8FromU
-            owner = [(of or first, re.sub(r"\W", '', first) if of else '') for _, first, of in header]
+            # the type, and of a trait's `impl` the trait after it, as TFromU, TFromU8 and RefSliceU8FromU
+            owner = [(of or first, re.sub(r'\W', '', re.sub(r'<\w', lambda begin: begin[0].upper(), first)) if of else '') for _, first, of in header]
             home = next((homes[name.split('<')[0]] for name, _ in owner if name.split('<')[0] in homes), module)
             names = [spelled(name) + trait for name, trait in owner]
             path = '::'.join(home + names + [match.group(2)])
@@ -170,34 +176,46 @@ def is_by_hand(crate, function):
 
 
 def refusals(function, log):
-    """The goals of a function that the check says are not met; why its proof no longer fits, if so."""
+    """The goals of a function that the check says are not met; why its proof no longer fits, if so; the goals at which the prover met a limit of its own."""
     goals = [found[3] for found in re.finditer(rf'^{UNMET}.*\(`([^`]*)`\)', log, re.M) if function.has(found['file'], int(found['line']))]
-    for found in re.finditer(rf'^{REFUSED}(?P<name>[^`]*)`: (?P<words>.*)', log, re.M):
-        if found['place'] != function.place or 'was not admitted' in found['words']:
+    searches = [found for found in re.finditer(rf'^{SEARCH}{SAID}', log, re.M) if function.has(found['file'], int(found['line']))]
+    limits = [found['name'] for found in searches if LIMIT.search(found['words'])]
+    for found in re.finditer(rf'^{REFUSED}{SAID}', log, re.M):
+        words = found['words'].split('\n')[0]
+        if found['place'] != function.place or 'was not admitted' in words:
             continue
-        if GONE.search(found['words']):
-            return goals, found['words']
-        goals.append(found['name'])
-    return goals, None
+        if GONE.search(words):
+            return goals, words, limits
+        (limits if LIMIT.search(found['words']) else goals).append(found['name'])
+    return goals, None, limits
+
+
+def refused_at(crate, function, log):
+    """The goals at which a function is refused, by its line and the rest of the log; and if at none, why."""
+    line = re.search(rf'^fn {crate}::{re.escape(function.path)}: (.*)$', log, re.M)
+    if line is None:
+        return [], 'it did not reach the prover'
+    said = line[1]
+    if said == 'proved':
+        return [], 'PROVED'
+    goals, misfit, limits = refusals(function, log)
+    if misfit:
+        return [], f'{MISFIT}: {misfit[:100]}'
+    searched = re.search(r'`search` did not prove ((?:`[^`]*`(?:, | and )?)+)', said)
+    searched = re.findall('`([^`]*)`', searched[1]) if searched else []
+    goals = list(dict.fromkeys([*(name for name in searched if name not in limits), *goals]))
+    if not goals and (limits or LIMIT.search(said)):
+        return [], f'{LIMITED}: {", ".join(limits) or said[:100]}'
+    if not goals and 'which is not proved' in said:
+        return [], 'not tried, for ' + said.split(': ')[-1].split('; ')[-1]
+    return goals, said
 
 
 def verdict(crate, function, log):
     """AT_GOAL, BY_HAND or WRONG, and in which words the log says so."""
-    line = re.search(rf'^fn {crate}::{re.escape(function.path)}: (.*)$', log, re.M)
-    if line is None:
-        return WRONG, 'it did not reach the prover'
-    said = line[1]
-    if said == 'proved':
-        return WRONG, 'PROVED'
-    goals, misfit = refusals(function, log)
-    if misfit:
-        return WRONG, f'{MISFIT}: {misfit[:100]}'
-    searched = re.search(r'`search` did not prove ((?:`[^`]*`(?:, | and )?)+)', said)
-    goals = list(dict.fromkeys([*(re.findall('`([^`]*)`', searched[1]) if searched else []), *goals]))
-    if not goals and 'which is not proved' in said:
-        return WRONG, 'not tried, for ' + said.split(': ')[-1].split('; ')[-1]
+    goals, why = refused_at(crate, function, log)
     if not goals:
-        return WRONG, said
+        return WRONG, why
     hand = is_by_hand(crate, function)
     return BY_HAND if hand else AT_GOAL, f'refused{" in a proof by hand" if hand else ""} at {", ".join(goals)}'
 

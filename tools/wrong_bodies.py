@@ -9,6 +9,10 @@ function has to show stays as it is: its proof goes by its own code and by the c
 in one check, of these functions alone, and each is refused on its own, at a goal of the function that it names. Nothing may be refused that no edit changes.
 Edits of one function are tried one after the other, over what the first check of the crate has proved.
 
+Where the prover met a limit of its own it gave no verdict, so that such an edit is not refused. A `return` that an edit adds is a goal that the code as it is
+doesn't have. In a function with a proof file a right one would be refused there too, for want of an answer. So such an edit must be refused at a goal that the
+file answers, with the edit's lines.
+
 `rt ci` tries each file of must-fail by itself: it loads all libraries for each, proves the crate once more for them, and tells only what is refused first. That
 is for edits of definitions, since such an edit may fall on any function. For edits of bodies it took half of the gate's time."""
 import concurrent.futures
@@ -22,7 +26,7 @@ import tempfile
 
 import edits
 import proving
-from wrong_answers import AT_GOAL, BY_HAND, REFUSED, ROOT, UNMET, copy_to, functions_of, restore, verdict
+from wrong_answers import AT_GOAL, BY_HAND, REFUSED, ROOT, UNMET, copy_to, follow, functions_of, refused_at, restore, verdict
 
 ERROR = r'(?:\./)?(?:src|specs|proofs)/\S+:\d+:\d+: error'
 PARTS = ('src', 'specs', 'proofs')
@@ -65,13 +69,37 @@ def elsewhere(log, functions):
             yield line
 
 
+def adds_return(part):
+    """Whether an edit's new code has more returns than its old code."""
+    code = [pair for pair in part.pairs if pair[0].startswith('src/')]
+    old, new = (sum(len(re.findall(r'\breturn\b', pair[at])) for pair in code) for at in (1, 2))
+    return old < new
+
+
+def answered(function, part):
+    """The goals that a function's proof answers, with the edit's lines; none if it has no file."""
+    texts = [pathlib.Path(path).read_text() for path in follow.files(ROOT / 'crates' / part.crate, function.place)]
+    lines = [new for file, _, new in part.pairs if file.startswith('proofs/')] if texts else []
+    return set(re.findall(r'^pub (\S+) :', '\n'.join([*texts, *lines]), re.M))
+
+
+def only_added(function, part, log):
+    """The goals of a function at which an edit that adds a return is refused, if none of them has an answer where others do."""
+    goals, _ = refused_at(part.crate, function, log)
+    known = answered(function, part) if adds_return(part) else set()
+    return goals if known and not known & set(goals) else []
+
+
 def misses(crate, group, log):
     """Of the edits of one check, those that are not refused as they must be, with why."""
     known = functions_of(crate)
     for _, part, _ in group:
         said = [verdict(crate, known[name], log) for name in part.named]
+        added = [only_added(known[name], part, log) for name in part.named]
         if not any(kind in (AT_GOAL, BY_HAND) for kind, _ in said):
             yield part.label, '; '.join(f'{name}: {words}' for name, (_, words) in zip(part.named, said))
+        elif all(goals or kind not in (AT_GOAL, BY_HAND) for goals, (kind, _) in zip(added, said)):
+            yield part.label, f'refused only at a goal that it adds, without an answer: {", ".join(goal for goals in added for goal in goals)}'
     changed = [known[name] for _, part, _ in group for name in {*part.named, *part.changed(known)}]
     for line in elsewhere(log, changed):
         yield ', '.join(part.label for _, part, _ in group), f'refused where none of them changes anything: {line[:200]}'

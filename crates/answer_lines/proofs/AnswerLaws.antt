@@ -141,9 +141,13 @@ wrote_whole bs t s h {kept} e {r} {S} {S'} w =
     subst (λ (l : List ℕ). Wrote l 0 r S S') (sym p) (subst (λ (k : List ℕ). WroteKept k t.counts r S S') e w)
 
 -- what the entry answers lies in the areas
-pub entry_inside : (S T : List ℕ) (i : Input) (o : Std.Result Sizes Refusal) {S' T' : List ℕ} → read S T i ≡ told o S' T' → {sizes : Sizes}
+pub entry_inside : (S T : List ℕ) (i : Input) (o : Std.Result Sizes Refusal) (S' T' : List ℕ) → read S T i ≡ told o S' T' → LengthsInside S T (told o S' T')
+entry_inside S T i o S' T' e = subst (LengthsInside S T) e (read-inside S T i)
+
+-- the same of sizes that are known
+pub sizes_inside : (S T : List ℕ) (i : Input) (o : Std.Result Sizes Refusal) {S' T' : List ℕ} → read S T i ≡ told o S' T' → {sizes : Sizes}
     → o ≡ Std.Ok sizes → LengthsInside S T (told (Std.Ok sizes) S' T')
-entry_inside S T i o {S'} {T'} e f = subst (LengthsInside S T) (e ∙ ap (λ (x : Std.Result Sizes Refusal). told x S' T') f) (read-inside S T i)
+sizes_inside S T i o {S'} {T'} e f = subst (λ (x : Std.Result Sizes Refusal). LengthsInside S T (told x S' T')) f (entry_inside S T i o S' T' e)
 
 -- what was taken from the bytes kept is what the counts announce
 pub numbers_kept : (w : ℕ) (bs : List ℕ) (at at' n m r : ℕ) (S S' : List ℕ) → at ≡ at' → length S ≡ m → r ≡ min n (length S)

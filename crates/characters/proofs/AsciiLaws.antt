@@ -38,6 +38,20 @@ ascii-last (d ∷ cs) c = ap (λ (t : Bool). ltb d 128 && t) (ascii-last cs c) �
 pub ascii_next : (cs : List ℕ) (all c : ℕ) → ltb all 128 ≡ is_ascii cs → ltb (bit_or all c) 128 ≡ is_ascii (cs ++ c ∷ [])
 ascii_next cs all c h = or_below all c ∙ ap (λ (t : Bool). t && ltb c 128) h ∙ sym (ascii-last cs c)
 
+-- The same by what is left: what was seen and what is left are the whole.
+pub ascii-left : {rest : List ℕ} {w : Bool} (all c : ℕ) (rest' : List ℕ) → rest ≡ c ∷ rest' → (ltb all 128 && is_ascii rest) ≡ w
+    → (ltb (bit_or all c) 128 && is_ascii rest') ≡ w
+unfolding is_ascii
+ascii-left all c rest' e f =
+    ap (λ (t : Bool). t && is_ascii rest') (or_below all c)
+    ∙ and_assoc (ltb all 128) (ltb c 128) (is_ascii rest')
+    ∙ ap (λ (l : List ℕ). ltb all 128 && is_ascii l) (sym e)
+    ∙ f
+
+pub ascii-end : {rest : List ℕ} {w : Bool} (all : ℕ) → rest ≡ [] → (ltb all 128 && is_ascii rest) ≡ w → ltb all 128 ≡ w
+unfolding is_ascii
+ascii-end all e f = sym (and-true (ltb all 128)) ∙ ap (λ (l : List ℕ). ltb all 128 && is_ascii l) (sym e) ∙ f
+
 -- A text in UTF-8 and UTF-16 is itself.
 split : (c : ℕ) (cs : List ℕ) → is_ascii (c ∷ cs) ≡ true → (c < 128) × (is_ascii cs ≡ true)
 unfolding is_ascii
@@ -84,6 +98,9 @@ module _ {f : ℕ → ℕ} {rest : List ℕ} {to : ℕ} {A₀ A whole : List ℕ
   module _ {c : ℕ} (rest' : List ℕ) (e : rest ≡ c ∷ rest') where
     pub copying-below : c < 128
     copying-below = (split c rest' (ap is_ascii (sym e) ∙ k.ascii)).0
+
+    pub copying-room : to < length A
+    copying-room = let l = ap length e in omega (arith, k.room)
 
     pub copying-next : (next : ℕ) {b : ℕ} → next ≡ suc to → b ≡ f c → Copying f rest' next A₀ (set A to b) whole
     copying-next next n g = record {

@@ -8,9 +8,9 @@ use Prim.Native.Nat.{ℕ, suc, ◌+◌, ◌-◌, ◌≤◌, ◌<◌}
 use native.Mathlib.Numerals.{add-one}
 use native.Mathlib.Omega.{arith}
 use lib.Dec.{T}
-use lib.ListN.{length, drop, get_or, length-drop, drop_of_length-le}
+use lib.ListN.{length, drop, get_or, length-take, length-drop, drop_of_length-le}
 use lib.Seq.{drop-cons, drop-drop}
-use Rattle.foundation.proofs.ChoiceLaws.{if_ind}
+use Rattle.foundation.proofs.ChoiceLaws.{if_ind, drop-take}
 use Rattle.characters.specs.Characters.{is_scalar, is_high, is_low, lone, pair, replacement, from_utf16}
 use Rattle.characters.specs.told.Places.{part_from}
 use Rattle.characters.specs.WellFormed.{Units}
@@ -115,3 +115,26 @@ module _ (s : List ℕ) (at : ℕ) where
         let t = told in
         let n : at + (next - at) ≡ next = omega (arith, t.forward) in
         t.text ∙ ap (λ (l : List ℕ). code ∷ from_utf16 l) (drop-drop (next - at) at s ∙ ap (λ (k : ℕ). drop k s) n)
+
+-- The same of a string in s that ends at `end`.
+module _ (s : List ℕ) (at end : ℕ) where
+  pub utf16-part-end : utf16_at at (part_from at end s) ≡ None → from_utf16 (part_from at end s) ≡ []
+  unfolding from_utf16
+  utf16-part-end e = ap from_utf16 (subst (Says at (part_from at end s)) e (says at (part_from at end s)))
+
+  module _ {code next : ℕ} (e : utf16_at at (part_from at end s) ≡ character_read code next) where
+    part-told : Character16 at (part_from at end s) code next
+    part-told = subst (Says at (part_from at end s)) e (says at (part_from at end s))
+
+    pub utf16-part-inside : (at < next) × (next ≤ end) × (next ≤ length s)
+    utf16-part-inside = let t = part-told in omega (arith, t.forward, t.inside, length-take (end - at) (drop at s), length-drop at s)
+
+    pub utf16-part-next : from_utf16 (part_from at end s) ≡ code ∷ from_utf16 (part_from next end s)
+    utf16-part-next =
+        let t = part-told in
+        let i = utf16-part-inside in
+        let j = next - at in
+        let p : end - at ≡ j + (end - next) = omega arith in
+        let q : at + j ≡ next = omega arith in
+        let r : drop j (part_from at end s) ≡ part_from next end s = rw (p, drop-take j (end - next) (drop at s), drop-drop j at s, q) in
+        t.text ∙ ap (λ (us : List ℕ). code ∷ from_utf16 us) r

@@ -22,16 +22,35 @@ use names::stream::put_name;
 use sheet::{Output, put_absent, put_all, put_bit, put_number, put_ref};
 
 // The role of a type: a return or property type, a receiver, a parameter, a vararg element, an argument, an alias's underlying and its expanded
-// type.
+// type. `Other` is a number that is none of these: it is written as it is.
 #[derive(Clone, Copy)]
 pub enum Role {
-    Return = 1,
-    Receiver = 2,
-    Parameter = 3,
-    VarargElement = 4,
-    Argument = 5,
-    Underlying = 6,
-    Expanded = 7,
+    Return,
+    Receiver,
+    Parameter,
+    VarargElement,
+    Argument,
+    Underlying,
+    Expanded,
+    Other(u8),
+}
+
+// A role by its number on the sheet.
+impl From<u8> for Role {
+    ghost from_gives = { λ number role. role_number role ≡ number };
+
+    fn from(number: u8) -> Role {
+        match number {
+            1 => Role::Return,
+            2 => Role::Receiver,
+            3 => Role::Parameter,
+            4 => Role::VarargElement,
+            5 => Role::Argument,
+            6 => Role::Underlying,
+            7 => Role::Expanded,
+            _ => Role::Other(number),
+        }
+    }
 }
 
 impl Role {
@@ -39,7 +58,16 @@ impl Role {
     pub fn number(self) -> u8
         ensures { result ≡ role_number self }
     {
-        self as u8
+        match self {
+            Role::Return => 1,
+            Role::Receiver => 2,
+            Role::Parameter => 3,
+            Role::VarargElement => 4,
+            Role::Argument => 5,
+            Role::Underlying => 6,
+            Role::Expanded => 7,
+            Role::Other(number) => number,
+        }
     }
 }
 

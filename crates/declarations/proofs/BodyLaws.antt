@@ -45,6 +45,9 @@ use Rattle.declarations.specs.told.BodyTold.{head_cost, list_cost, aliases_cost,
 use Rattle.declarations.specs.declared.body.Sections.{Sections}
 use Rattle.std.proofs.Common.{Ok, Err}
 
+pub no_name : (payload d2 : List ℕ) → name_text payload d2 None ≡ none
+no_name payload d2 = refl
+
 -- The head.
 module _ (kind : ℕ) (e : Lent) (msg : List ℕ) (base : ℕ) {s s' : State} {S S' T T' : List ℕ} (a : Affords e head_cost s) where
   head-spent : (n : rust.Option Name) (flags : ℕ) → PutHead 1 (head_cells kind (name_text e.payload e.d2 n) flags) s.types s s' S S' T T' → Within head_cost s s'

@@ -24,7 +24,7 @@ use Rattle.messages.specs.declared.reader.Parts.{Parts}
 use Rattle.messages.proofs.BodyLaws.{part-is}
 use Rattle.names.specs.Records.{Record}
 use Rattle.names.specs.Names.{Names, ends_fit}
-use Rattle.names.specs.told.Index.{IndexOf, IndexTold}
+use Rattle.names.specs.told.Index.{IndexOf, RecordIndex, IndexTold}
 use Rattle.names.specs.declared.records.IndexError.{IndexError}
 use Rattle.names.specs.declared.records.IndexError.TheVariants as index
 use Rattle.lookup.specs.told.Lookups.{NotesOf}
@@ -63,6 +63,19 @@ module _ (names : Names) (m : Message) (l : ℕ) where
 pub body-after : (kind : ℕ) (names : Names) (m : Message) (l : ℕ) {table : TypeTable} → type_table_in Class-type_table m l ≡ ok (table, l)
     → body_of kind names m l ≡ after_table (eqb kind 1) (scope names table) m l
 body-after kind names m l = table-then names m l (eqb kind 1)
+
+-- What neither gives its notes nor is refused had no room.
+pub table-left : (r : Result TypeIndex IndexError) → ((t : TypeIndex) → r ≡ Ok t → ⊥) → ((error : WireError) → r ≡ Err (index.Wire error) → ⊥)
+    → r ≡ Err index.NoRoom
+table-left (Ok t) k l = absurd (k t refl)
+table-left (Err index.NoRoom) k l = refl
+table-left (Err (index.Wire error)) k l = absurd (l error refl)
+
+pub records-left : (r : RecordIndex) → ((count : ℕ) → r ≡ Ok count → ⊥) → ((error : WireError) → r ≡ Err (index.Wire error) → ⊥)
+    → r ≡ Err index.NoRoom
+records-left (Ok count) k l = absurd (k count refl)
+records-left (Err index.NoRoom) k l = refl
+records-left (Err (index.Wire error)) k l = absurd (l error refl)
 
 -- The body, cut, and its type table noted.
 module _ (bytes : List ℕ) (at count : ℕ) (entries : List ℕ) where

@@ -161,6 +161,10 @@ module _ (e : Lent) (name : Name) {printed : Printed} {at : ℕ} {A A' : List �
     is = λ inner. (0x4c ∷ (name_bytes e.payload e.d2 (Some name) true ++ (0x3b ∷ [])), by_answer (ap Some q) (told_name e name) inner ∙ ap some (class-text e.payload e.d2 name), p);
   }
 
+pub printed-nothing : (e : Lent) (name : Name) {printed : std.Option Printed} (at : ℕ) (A A' : List ℕ) → printed ≡ None → (inner : Option Erased)
+    → TypePartIs (map_option print_returned (printed_told (slashed (told_name e name)) inner printed)) inner at None A A'
+printed-nothing e name at A A' q inner = by_answer q (told_name e name) inner
+
 -- The erasure of a type at its position, by its name.
 erased-named : (position : Position) (t : Ty) (n : Text) → t.name ≡ some n
     → erased_at position t ≡ part_at position t.nullable (first_erased true t.arguments) (meaning_of n)

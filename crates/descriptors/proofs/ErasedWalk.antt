@@ -130,7 +130,7 @@ module _ {e : Lent} {start end : ℕ} {nullable : Bool} {left : ℕ} {in_table :
     {deep : ℕ} {inside : Bool} {here : Position} {next : ℕ} {A : List ℕ}
     (w : Walking e start end nullable left in_table position at A₀ first last said deep inside here next A) where
   -- how many [ there can be
-  walking-few : left ≤ 64 → end ≤ length e.payload → length e.payload ≤ 32768 → next ≤ at + 2129984
+  pub walking-few : left ≤ 64 → end ≤ length e.payload → length e.payload ≤ 32768 → next ≤ at + 2129984
   walking-few h g k = omega (arith, w.far, mul-le-mul_right 32769 h)
 
   module _ {r : std.Option TypePart} {A₁ : List ℕ} (p : TypePartTold (read_in e.payload e.deepest inside deep) e first last said here next r A A₁) where

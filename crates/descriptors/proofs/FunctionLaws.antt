@@ -21,18 +21,18 @@ use Rattle.schema.specs.Members.{bit_of, flags_in, receiver_in}
 use Rattle.schema.specs.told.SchemaTold.{Lent, EntryAt, Stands}
 use Rattle.schema.proofs.StandsLaws.{stands-cut}
 use Rattle.erasure.specs.Erasure.{Returned, of_type, erased_return, print, print_returned}
-use Rattle.erasure.specs.told.ErasureTold.{fixed_told, PutSized, PutPart}
+use Rattle.erasure.specs.told.ErasureTold.{fixed_told, fixed_part, PutSized, PutPart}
 use Rattle.erasure.specs.declared.Position.TheVariants as position
 use Rattle.erasure.specs.declared.Class.TheVariants as classes
 use Rattle.erasure.specs.declared.Part.TheVariants as parts
 use Rattle.std.specs.Prelude as std
 use Rattle.std.specs.Prelude.{Some, None}
-use Rattle.erasure.proofs.PartLaws.{part-short}
+use Rattle.erasure.proofs.PartLaws.{object-at, continuation-at, part-short}
 use Rattle.descriptors.specs.Defaults.{suspends, continuation_class, object, function_parts, constructor_parts, descriptor}
 use Rattle.descriptors.specs.told.DefaultsTold.{part_cost, parameters_part, ParametersTold, ConstructorDefault, FunctionDefault}
 use Rattle.descriptors.specs.told.PartsTold.{PartOf, TypeGiven, type_part, FunctionGiven, receiver_part, before_part, after_part, preceded}
 use Rattle.descriptors.proofs.GivenLaws.{ConstructorGiven, constructor_given, function_given}
-use Rattle.descriptors.proofs.JoinLaws.{both, before-part, constructor_text, function_text, text_then, text-byte, told_same, preceded-sum, part-absent, part_then, part-fixed, part-more, part-answer}
+use Rattle.descriptors.proofs.JoinLaws.{both, before-part, constructor_text, function_text, text_then, text-byte, text_none, told_same, preceded-sum, part-absent, part_then, part-fixed, part-more, part-answer}
 
 -- A part after a (.
 opened : {D : Type 0} (p s : D → Option (List ℕ)) → ((d : D) → s d ≡ both (some (0x28 ∷ [])) (p d))
@@ -89,6 +89,12 @@ module _ (e : Lent) (msg : List ℕ) (base at : ℕ) (st : Stands e.payload msg 
         (u.is c s m k f.receiver g.receiver);
   }
 
+  pub receiver-none : b ≡ false → (A : List ℕ) → PartOf FunctionGiven receiver_part part_cost e base (base + length msg) at (Some 0) A A
+  receiver-none q A = record {
+    within = omega arith;
+    is = λ c s m k f g. told_same {x = some []} {y = receiver_part f} at (Some 0) A A (received c m k f g q) ([], refl, text_none at A);
+  }
+
 -- What stands before the ): the receiver, then the parameters.
 module _ {e : Lent} (msg : List ℕ) {base at : ℕ} {r : std.Option ℕ} {A A₁ : List ℕ} (u : PartOf FunctionGiven receiver_part part_cost e base (base + length msg) at r A A₁) where
   pub before-absent : r ≡ None → PartOf FunctionGiven before_part (part_cost * (1 + length msg)) e base (base + length msg) at None A A₁
@@ -112,6 +118,13 @@ object-part = refl
 
 pub continuation-part : fixed_told parts.Continuation ≡ of_type continuation_class
 continuation-part = refl
+
+-- and by their numbers
+pub object-numbered : fixed_part 24 ≡ of_type object
+object-numbered = object-at
+
+pub continuation-numbered : fixed_part 38 ≡ of_type continuation_class
+continuation-numbered = continuation-at
 
 -- What stands after them.
 abbrev suspended : Option (List ℕ)

@@ -17,12 +17,12 @@ use Rattle.characters.specs.Characters.{is_scalar, utf8, utf8_of}
 use Rattle.characters.specs.told.CharactersTold.{Characters}
 use Rattle.foundation.proofs.EveryLaws.{every, every_all}
 use Rattle.characters.proofs.Utf8Laws.{utf8_injective}
-use Rattle.erasure.specs.Erasure.{nothing, mapped, Entry, ◌means◌, listed, look_up}
+use Rattle.erasure.specs.Erasure.{Meaning, nothing, mapped, Entry, ◌means◌, listed, look_up}
 use Rattle.erasure.specs.told.ErasureTold.{row_at, listed_name, listed_meaning, meaning_told, CanBe, Means}
 use Rattle.erasure.specs.declared.Meaning as answer
 use Rattle.erasure.specs.declared.Meaning.TheVariants.{Other}
 use Rattle.erasure.proofs.TextLaws.{never}
-use Rattle.erasure.proofs.TableLaws.{tabulate, tabulated}
+use Rattle.erasure.proofs.TableLaws.{tabulate, tabulated, rows_from}
 
 -- Names are 8 to 36 bytes long.
 names-long : tabulate (λ k. ltb (length (listed_name k)) 8) 36 ≡ tabulate (λ k. false) 36
@@ -88,6 +88,9 @@ pub hashed-row : (s : List ℕ) {a b r : ℕ} → a ≡ get_or s 7 0 → b ≡ g
     → (k : ℕ) → k < 36 → s ≡ listed_name k → r ≡ k
 hashed-row s p q e k l f = e ∙ rw (p, q, f) (tabulated (λ i. get_or hashed (hash (listed_name i)) 0) (λ i. i) 36 hashed_right k l)
 
+pub listed-is : (s part : List ℕ) (k : ℕ) {r : Bool} → k < 36 → part ≡ after_kotlin k → r ≡ same s (kotlin ++ part) → r ≡ same s (listed_name k)
+listed-is s part k h p e = e ∙ rw (p, name-joined k h)
+
 -- A row below 36 can be the name's; any other number says that there is none.
 pub row_below : (s : List ℕ) (r : ℕ) (b : Bool) → ltb r 36 ≡ b → ((k : ℕ) → k < 36 → s ≡ listed_name k → r ≡ k) → CanBe s (then_some b r)
 row_below s r true e h = (omega (arith, ltb-true r 36 e), h)
@@ -122,5 +125,10 @@ pub means_none : (s : List ℕ) → CanBe s None → Means s Other
 unfolding listed_name row_at
 means_none s h n c u = look_up_none n listed λ k l. never (same n (row_at k).name) λ t. h k l (sym u ∙ ap utf8 (same_true n (row_at k).name t))
 
-pub means-itself : (s : List ℕ) (r : ℕ) → CanBe s (Some r) → (s ≡ listed_name r → ⊥) → Means s Other
-means-itself s r b f = means_none s λ k l e. f (e ∙ ap listed_name (sym (b.1 k l e)))
+pub means-itself : (s : List ℕ) (r : ℕ) → ((k : ℕ) → k < 36 → s ≡ listed_name k → r ≡ k) → (s ≡ listed_name r → ⊥) → Means s Other
+means-itself s r b f = means_none s λ k l e. f (e ∙ ap listed_name (sym (b k l e)))
+
+-- The meanings of rows from one on, by their number.
+pub row_means : (g : ℕ → Meaning) (a n k : ℕ) → tabulate (λ i. listed_meaning (a + i)) n ≡ tabulate (λ i. g (a + i)) n → a ≤ k → k < a + n
+    → listed_meaning k ≡ g k
+row_means = rows_from listed_meaning

@@ -2,10 +2,10 @@
 // specs/told/ErasureTold.antt.
 #![tactic(auto)]
 
-ghost use Rattle.std.specs.Prelude.{◌≡◌, [], ◌∷◌, ◌<◌};
+ghost use Rattle.std.specs.Prelude.{◌≡◌, true, [], ◌∷◌, ◌<◌};
 ghost use Rattle.erasure.specs.Erasure.{letter, print_returned};
 ghost use Rattle.erasure.specs.declared.Part.TheVariants as parts;
-ghost use Rattle.erasure.specs.told.ErasureTold.{Means, CanBe, IsRow, primitive_told, fixed_told, PutPart, boxed_at, PrintsAs};
+ghost use Rattle.erasure.specs.told.ErasureTold.{Means, CanBe, IsRow, primitive_told, primitive_at, class_told, class_at, fixed_told, fixed_part, of_table, PutPart, boxed_at, PrintsAs};
 
 // The eight primitives.
 #[derive(Clone, Copy)]
@@ -20,9 +20,30 @@ pub enum Primitive {
     Double,
 }
 
-// The classes of the JVM that the table maps to.
+impl Primitive {
+    // By its number: 0 to 7, past the end the last. Kept public, here and below, for callers that have a number; the crates here name the variants.
+    // No `From<usize>`: no plainer, since a caller sees at `of` that its number is looked up.
+    pub fn of(number: usize) -> Primitive
+        ensures { primitive_told result ≡ primitive_at number }
+    {
+        match number {
+            0 => Primitive::Boolean,
+            1 => Primitive::Byte,
+            2 => Primitive::Char,
+            3 => Primitive::Short,
+            4 => Primitive::Int,
+            5 => Primitive::Long,
+            6 => Primitive::Float,
+            _ => Primitive::Double,
+        }
+    }
+}
+
+// The classes that are printed whatever the input: of boxed primitives, those of the JVM that the table maps to, Unit, and what a suspending function
+// takes last.
 #[derive(Clone, Copy)]
 pub enum Class {
+    Boxed(Primitive),
     Object,
     String,
     CharSequence,
@@ -36,6 +57,34 @@ pub enum Class {
     List,
     Set,
     Map,
+    Unit,
+    Continuation,
+}
+
+impl Class {
+    // By its number: 0 to 7 the boxes, 8 to 20 those of the table, 21 Unit, 22 and past it the continuation. Kept public for callers that have a number.
+    pub fn of(number: usize) -> Class
+        ensures { class_told result ≡ class_at number }
+    {
+        match number {
+            0..=7 => Class::Boxed(Primitive::of(number)),
+            8 => Class::Object,
+            9 => Class::String,
+            10 => Class::CharSequence,
+            11 => Class::Throwable,
+            12 => Class::Number,
+            13 => Class::Comparable,
+            14 => Class::Enum,
+            15 => Class::Annotation,
+            16 => Class::Iterable,
+            17 => Class::Collection,
+            18 => Class::List,
+            19 => Class::Set,
+            20 => Class::Map,
+            21 => Class::Unit,
+            _ => Class::Continuation,
+        }
+    }
 }
 
 // What a class name means.
@@ -72,6 +121,24 @@ pub enum Part {
     // What a suspending function takes last.
     Continuation,
     Void,
+}
+
+impl Part {
+    // By its number: 0 to 7 the letters, 8 to 15 arrays of them, 16 to 23 the boxes, 24 to 36 the classes of the table, 37 Unit, 38 the continuation, 39
+    // and past it V. Kept public for callers that have a number.
+    pub fn of(number: usize) -> Part
+        ensures { fixed_told result ≡ fixed_part number }
+    {
+        match number {
+            0..=7 => Part::Letter(Primitive::of(number)),
+            8..=15 => Part::LetterArray(Primitive::of(number - 8)),
+            16..=23 => Part::Boxed(Primitive::of(number - 16)),
+            24..=36 => Part::Class(Class::of(number - 16)),
+            37 => Part::Unit,
+            38 => Part::Continuation,
+            _ => Part::Void,
+        }
+    }
 }
 
 // What is printed of a type that has a descriptor.
@@ -192,7 +259,8 @@ fn row_at(row: usize) -> (&'static [u8], Meaning)
 
 // What a class name, dots turned into slashes, means.
 pub fn meaning_of(name: &[u8]) -> Meaning
-    ensures { Means name.now result }
+    ensures means { Means name.now result }
+    ensures table { of_table result ≡ true }
 {
     match row_of(name) {
         Some(row) => {
@@ -251,6 +319,7 @@ fn class_of(class: Class) -> &'static [u8]
     ensures { result.now ≡ print_returned (fixed_told (parts.Class class)) }
 {
     match class {
+        Class::Boxed(primitive) => box_of(primitive),
         Class::Object => b"Ljava/lang/Object;",
         Class::String => b"Ljava/lang/String;",
         Class::CharSequence => b"Ljava/lang/CharSequence;",
@@ -264,6 +333,8 @@ fn class_of(class: Class) -> &'static [u8]
         Class::List => b"Ljava/util/List;",
         Class::Set => b"Ljava/util/Set;",
         Class::Map => b"Ljava/util/Map;",
+        Class::Unit => b"Lkotlin/Unit;",
+        Class::Continuation => b"Lkotlin/coroutines/Continuation;",
     }
 }
 
@@ -276,8 +347,8 @@ fn text_of(part: Part) -> &'static [u8]
         Part::LetterArray(primitive) => array_of(primitive),
         Part::Boxed(primitive) => box_of(primitive),
         Part::Class(class) => class_of(class),
-        Part::Unit => b"Lkotlin/Unit;",
-        Part::Continuation => b"Lkotlin/coroutines/Continuation;",
+        Part::Unit => class_of(Class::Unit),
+        Part::Continuation => class_of(Class::Continuation),
         Part::Void => b"V",
     }
 }

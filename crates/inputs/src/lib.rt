@@ -35,34 +35,59 @@ pub enum Fault {
     NewerVersion,
 }
 
-// A metadata kind.
+// A metadata kind. `Other` is a number that is none of the five: it is written as it is, and its body is read as a package's.
 #[derive(Clone, Copy, Debug, PartialEq, Eq)]
 pub enum Kind {
-    Class = 1,
-    FileFacade = 2,
-    SyntheticClass = 3,
-    MultiFileClassFacade = 4,
-    MultiFileClassPart = 5,
+    Class,
+    FileFacade,
+    SyntheticClass,
+    MultiFileClassFacade,
+    MultiFileClassPart,
+    Other(u8),
+}
+
+// A kind by its number on a sheet. `kind_of` reads an annotation's k, where another number counts as a class.
+impl From<u8> for Kind {
+    ghost from_gives = { λ number kind. kind_number kind ≡ number };
+
+    fn from(number: u8) -> Kind {
+        match number {
+            1 => Kind::Class,
+            2 => Kind::FileFacade,
+            3 => Kind::SyntheticClass,
+            4 => Kind::MultiFileClassFacade,
+            5 => Kind::MultiFileClassPart,
+            _ => Kind::Other(number),
+        }
+    }
 }
 
 impl Kind {
-    // Its number, 1 to 5, as a sheet has it.
+    // Its number, as a sheet has it.
     pub fn number(self) -> u8
         ensures { result ≡ kind_number self }
     {
-        self as u8
+        match self {
+            Kind::Class => 1,
+            Kind::FileFacade => 2,
+            Kind::SyntheticClass => 3,
+            Kind::MultiFileClassFacade => 4,
+            Kind::MultiFileClassPart => 5,
+            Kind::Other(number) => number,
+        }
     }
 
+    // By its number, here and below: `Other(1)` is a class too.
     pub fn is_class(self) -> bool
         ensures { result ≡ eqb (kind_number self) 1 }
     {
-        matches!(self, Kind::Class)
+        self.number() == 1
     }
 
     pub fn carries_declarations(self) -> bool
         ensures { result ≡ carries_declarations (kind_number self) }
     {
-        !matches!(self, Kind::SyntheticClass | Kind::MultiFileClassFacade)
+        matches!(self.number(), 1 | 2 | 5)
     }
 }
 

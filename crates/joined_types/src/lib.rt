@@ -293,7 +293,7 @@ pub fn join_entries(context: &Context<'_>, deepest: &mut [u8])
             continue;
         };
         if entry.start < last {
-            deepest.copy_from_slice(context.payload);
+            sheet::put_all(deepest, 0, context.payload);
             return;
         }
         join_type(&mut deepest[entry.start..entry.end], 0, LEVELS);

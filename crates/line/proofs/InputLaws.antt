@@ -153,14 +153,33 @@ unfolding d1_count d2_count ends_count
 counts_none = refl
 
 -- numbers are stored one after the other
-pub numbers-step : (w : ℕ) (bs first area : List ℕ) (at i m x : ℕ) → i < m → x ≡ number_at w bs (at + w * i)
-    → sets first 0 (numbers_at w bs at m) ≡ sets area i (numbers_at w bs (at + w * i) (m - i))
-    → sets first 0 (numbers_at w bs at m) ≡ sets (set area i x) (i + 1) (numbers_at w bs (at + w * (i + 1)) (m - (i + 1)))
-numbers-step w bs first area at i m x h e f =
-    let k : m - i ≡ suc (m - (i + 1)) = omega arith in
-    let p : at + w * i + w ≡ at + w * (i + 1) = rw mul-add (omega arith) in
-    f ∙ ap (λ (n : ℕ). sets area i (numbers_at w bs (at + w * i) n)) k
-    ∙ rw (← e, p) (ap (λ (n : ℕ). sets (set area i x) n (numbers_at w bs (at + w * (i + 1)) (m - (i + 1)))) (sym (add-one i)))
+module _ (w : ℕ) (bs : List ℕ) where
+  pub numbers-start : (first : List ℕ) (at m : ℕ) → sets first 0 (numbers_at w bs at m) ≡ sets first 0 (numbers_at w bs at (m - 0))
+  numbers-start first at m = rw sub-zero
+
+  pub numbers-step : (first area : List ℕ) (at place i m x : ℕ) → i < m → x ≡ number_at w bs place
+      → sets first 0 (numbers_at w bs at m) ≡ sets area i (numbers_at w bs place (m - i))
+      → sets first 0 (numbers_at w bs at m) ≡ sets (set area i x) (i + 1) (numbers_at w bs (place + w) (m - (i + 1)))
+  numbers-step first area at place i m x h e f =
+      let k : m - i ≡ suc (m - (i + 1)) = omega arith in
+      f ∙ ap (λ (n : ℕ). sets area i (numbers_at w bs place n)) k ∙ rw (e, add-one)
+
+  -- the place counted from where they begin
+  pub numbers-placed : (first area : List ℕ) (at i m x : ℕ) → i < m → x ≡ number_at w bs (at + w * i)
+      → sets first 0 (numbers_at w bs at m) ≡ sets area i (numbers_at w bs (at + w * i) (m - i))
+      → sets first 0 (numbers_at w bs at m) ≡ sets (set area i x) (i + 1) (numbers_at w bs (at + w * (i + 1)) (m - (i + 1)))
+  numbers-placed first area at i m x h e f =
+      let p : at + w * i + w ≡ at + w * (i + 1) = rw mul-add (omega arith) in
+      numbers-step first area at (at + w * i) i m x h e f
+      ∙ ap (λ (n : ℕ). sets (set area i x) (i + 1) (numbers_at w bs n (m - (i + 1)))) p
+
+  pub numbers-end : (first area : List ℕ) (at place i m : ℕ) → i ≤ m → m ≤ i
+      → sets first 0 (numbers_at w bs at m) ≡ sets area i (numbers_at w bs place (m - i))
+      → (i ≡ m) × (area ≡ sets first 0 (numbers_at w bs at i))
+  numbers-end first area at place i m h k e =
+      let s : i ≡ m = omega arith in
+      let z : m - i ≡ 0 = omega arith in
+      (s, sym (ap (λ (n : ℕ). sets first 0 (numbers_at w bs at n)) s ∙ e ∙ ap (λ (n : ℕ). sets area i (numbers_at w bs place n)) z))
 
 -- bytes make numbers below a power
 pub number-below : (w : ℕ) (bs : List ℕ) (at : ℕ) → ((i : ℕ) → get_or bs i 0 < 256) → number_at w bs at < 256 ^ w

@@ -73,13 +73,20 @@ hex-step bs whole area place i h e =
     e ∙ rw (drop-cons bs i 0 h, add-one, add-one, two)
 
 -- a byte's two digits, put one after the other
-pub hex-put : (bs whole area : List ℕ) (at i : ℕ) {g h : ℕ} {S S' : List ℕ} → i < length bs
+pub hex-put : (bs whole area : List ℕ) (place i : ℕ) {g h : ℕ} {S S' : List ℕ} → i < length bs
+    → g ≡ digit_glyph false (get_or bs i 0 / 16) → S ≡ set area place g → h ≡ digit_glyph false (get_or bs i 0 % 16) → S' ≡ set S (place + 1) h
+    → whole ≡ sets area place (hex_of (drop i bs)) → whole ≡ sets S' (place + 2) (hex_of (drop (i + 1) bs))
+hex-put bs whole area place i l p q r t e =
+    hex-step bs whole area place i l e ∙ sym (rw (t, q, p, r))
+
+-- the place counted from where they begin
+pub hex-placed : (bs whole area : List ℕ) (at i : ℕ) {g h : ℕ} {S S' : List ℕ} → i < length bs
     → g ≡ digit_glyph false (get_or bs i 0 / 16) → S ≡ set area (at + 2 * i) g → h ≡ digit_glyph false (get_or bs i 0 % 16)
     → S' ≡ set S (at + 2 * i + 1) h → whole ≡ sets area (at + 2 * i) (hex_of (drop i bs))
     → whole ≡ sets S' (at + 2 * (i + 1)) (hex_of (drop (i + 1) bs))
-hex-put bs whole area at i {S' = S'} l p q r t e =
+hex-placed bs whole area at i {S' = S'} l p q r t e =
     let n : at + 2 * i + 2 ≡ at + 2 * (i + 1) = omega arith in
-    hex-step bs whole area (at + 2 * i) i l e ∙ sym (rw (t, q, p, r)) ∙ ap (λ (k : ℕ). sets S' k (hex_of (drop (i + 1) bs))) n
+    hex-put bs whole area (at + 2 * i) i l p q r t e ∙ ap (λ (k : ℕ). sets S' k (hex_of (drop (i + 1) bs))) n
 
 hex_done : (bs area : List ℕ) (place i : ℕ) → length bs ≤ i → sets area place (hex_of (drop i bs)) ≡ area
 unfolding hex_of

@@ -1,14 +1,15 @@
 -- A number of 4 bytes with its sign: what the machine's 32 bits say.
 -- Assumes nothing.
-use mathlib.Core.Path.{◌≡◌, sym, ap, subst, ◌∙◌}
+use mathlib.Core.Path.{◌≡◌, refl, sym, ap, subst, ◌∙◌}
 use mathlib.Core.Bool.{true, false}
-use Prim.Native.Nat.{ℕ, suc, ◌-◌, ◌<◌, ◌≤◌}
+use Prim.Native.Nat.{ℕ, zero, suc, ◌-◌, ◌<◌, ◌≤◌}
+use native.Mathlib.Nat.{zero-add}
 use native.Mathlib.Omega.{arith}
-use borrow.Author.Tests.{ltb-true, ltb-false}
+use borrow.Author.Tests.{lt-ltb, le-ltb, ltb-true, ltb-false}
 use lib.Dec.{ltb}
 use Rattle.foundation.proofs.ChoiceLaws.{if_ind}
 use borrow.Author.Rules.{sfits_of}
-use lib.IntN.{ℤ, pos, negsuc}
+use lib.IntN.{ℤ, pos, negsuc, ◌-ℤ◌}
 use mir.Syntax.{w32}
 use mir.Val.{SFits, to_z, of_z}
 use mir.Facts.{to_z-of_z}
@@ -22,6 +23,30 @@ signed_is n = if_ind (λ z. to_z w32 n ≡ z) (ltb n 2147483648) low high
 
     high : ltb n 2147483648 ≡ false → to_z w32 n ≡ negsuc (4294967295 - n)
     high t = let e : 4294967296 - suc n ≡ 4294967295 - n = omega arith in rw t (ap negsuc e)
+
+-- the same in two halves: the lower as it is, the upper taken from -1
+pub signed_low : (n : ℕ) → n < 2147483648 → to_z w32 n ≡ signed_of n
+signed_low n h = signed_is n
+
+pub low_half : (n : ℕ) → n < 2147483648 → to_z w32 n ≡ pos n
+low_half n h = rw (lt-ltb n 2147483648 h)
+
+minus_one_less : (m : ℕ) → negsuc 0 -ℤ pos m ≡ negsuc m
+minus_one_less zero = refl
+minus_one_less (suc m) = ap (λ (k : ℕ). negsuc (suc k)) (zero-add m)
+
+high_half : (n : ℕ) → 2147483648 ≤ n → negsuc 0 -ℤ to_z w32 (4294967295 - n) ≡ negsuc (4294967295 - n)
+high_half n h =
+    let f : 4294967295 - n < 2147483648 = omega arith in
+    ap (λ (z : ℤ). negsuc 0 -ℤ z) (low_half (4294967295 - n) f) ∙ minus_one_less (4294967295 - n)
+
+pub high_fits : (n : ℕ) → 2147483648 ≤ n → SFits w32 (negsuc 0 -ℤ to_z w32 (4294967295 - n))
+high_fits n h =
+    let f : 4294967295 - n < 2147483648 = omega arith in
+    subst (SFits w32) (sym (high_half n h)) (sfits_of f)
+
+pub signed_high : (n : ℕ) → 2147483648 ≤ n → to_z w32 (of_z w32 (negsuc 0 -ℤ to_z w32 (4294967295 - n))) ≡ signed_of n
+signed_high n h = to_z-of_z (high_fits n h) ∙ high_half n h ∙ rw (le-ltb n 2147483648 h)
 
 pub signed-fits : (n : ℕ) → n < 4294967296 → SFits w32 (signed_of n)
 signed-fits n h =

@@ -79,7 +79,18 @@ unfolding served_from
 first-least notes n = omega arith
 
 module _ (notes : List ℕ) (count index : ℕ) (records : List Record) (sums : Sums notes count records) where
-  past_all : served_from notes count ≤ index → record_at index records ≡ none
+  pub no-sums : length notes / 3 < count → record_at index records ≡ none
+  no-sums h = absurd (omega (arith, sums.long))
+
+  pub no-records : count ≡ 0 → record_at index records ≡ none
+  unfolding record_at
+  no-records h = go records (sums.many ∙ h)
+    where
+      go : (rs : List Record) → length rs ≡ 0 → record_at index rs ≡ none
+      go [] e = refl
+      go (r ∷ rs) e = absurd (omega arith)
+
+  pub past_all : served_from notes count ≤ index → record_at index records ≡ none
   past_all h =
       served_none 0 index records
       (subst (λ (k : ℕ). get_or (sums_from 0 (ranges_of records)) k 0 ≤ 0 + index) (sym sums.many) (rw (← sums.are count (le_refl count), zero-add) h))

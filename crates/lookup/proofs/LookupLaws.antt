@@ -21,7 +21,7 @@ use Rattle.names.specs.Records.{decides, text_of}
 use Rattle.names.specs.Names.{Names, record_at, strings_from, d2_string, string, qualified_name}
 use Rattle.names.specs.told.Name.{source_text, sized, turned, named_text, name_text}
 use Rattle.names.specs.told.Index.{start_of, end_of, IndexOf}
-use Rattle.lookup.specs.told.Lookups.{found_in, FoundBelow, FindTold, NotesOf, NotedWords, DecidedIs, DecidedTold, decided_in}
+use Rattle.lookup.specs.told.Lookups.{found_in, FoundBelow, FindTold, looked_up, NotesOf, NotedWords, DecidedIs, DecidedTold, decided_in}
 use Rattle.record_names.specs.told.Named.{NamedIs, ClassIs}
 use Rattle.record_names.specs.told.Note.{noted, noted_class}
 use Rattle.record_names.specs.told.Steps.{extent_of}
@@ -70,6 +70,12 @@ module _ (notes : List ℕ) (count index : ℕ) {f : rust.Option ℕ} (t : FindT
       let one = elem_some records k (omega (arith, i.sums.many)) in
       (one.0, t.is records i.sums ∙ ap (found_in records) g ∙ one.1, i.each k one.0 one.1)
 
+  -- where none serves, it is looked up in d2
+  pub string-none : f ≡ None → (bytes : List ℕ) (records : List definition.Record) → NotesOf bytes notes count records
+      → (d2 : ℕ → Res (Option Text)) {x : Res (Option Text)} → d2 index ≡ x → string (record { records = records; d2 = d2 }) index ≡ x
+  unfolding string
+  string-none g bytes records i d2 e = rw (words-none g bytes records i) e
+
 -- What they say of its name, and of its class name.
 module _ (notes : List ℕ) (count index : ℕ) where
   pub by-none : (class : Bool) → NotedWords notes count index None → DecidedTold notes count index class None
@@ -99,11 +105,27 @@ module _ (notes : List ℕ) (count index : ℕ) where
         let r = t bytes records i in
         rw g (class-named bytes units (record { records = records; d2 = d2 }) r.0 (noted_class w.place w.steps) r.1 (r.2.class units))
 
+-- By the words of record k, if they are there.
+module _ (notes : List ℕ) (count index : ℕ) {f : rust.Option ℕ} (t : FindTold notes count index f) {k : ℕ} (g : f ≡ Some k) where
+  abbrev noted_as : Bool → rust.Option (rust.Option Name)
+  noted_as true = noted_class (get_or notes (3 * k) 0) (get_or notes (3 * k + 1) 0)
+  noted_as false = noted (get_or notes (3 * k) 0) (get_or notes (3 * k + 1) 0)
+
+  pub by-noted : (class : Bool) {d : rust.Option (rust.Option Name)} → (3 * k + 2 < length notes → d ≡ noted_as class) → DecidedTold notes count index class d
+  by-noted class {d} w bytes units records d2 i = go class (w (omega (arith, words-inside notes count index t g, i.sums.long)))
+    where
+      go : (c : Bool) → d ≡ noted_as c → DecidedIs bytes units c (record { records = records; d2 = d2 }) index d
+      go true e = by-class notes count index (words-some notes count index t g) e bytes units records d2 i
+      go false e = by-name notes count index (words-some notes count index t g) e bytes units records d2 i
+
 -- By whether a record decides.
 module _ (bytes notes : List ℕ) (count index : ℕ) (class : Bool) (r : rust.Option (rust.Option Name)) (t : DecidedTold notes count index class r)
     (units : List ℕ) (records : List definition.Record) (d2 : ℕ → Res (Option Text)) (i : NotesOf bytes notes count records) where
   pub decided-no : r ≡ None → string (record { records = records; d2 = d2 }) index ≡ d2 index
   decided-no g = subst (DecidedIs bytes units class (record { records = records; d2 = d2 }) index) g (t bytes units records d2 i)
+
+  pub decided-yes : {name : rust.Option Name} → r ≡ Some name → looked_up class (record { records = records; d2 = d2 }) index ≡ ok (name_text bytes units name)
+  decided-yes g = subst (DecidedIs bytes units class (record { records = records; d2 = d2 }) index) g (t bytes units records d2 i)
 
 -- What a look-up comes to, for whatever is looked up among d2's strings, tells whether a record decides: where d2 refuses, only a record can give a text.
 no_text : {A : Type 0} (a : A) (c : Cause) (p : ℕ) → ok a ≡ refused c p → ⊥

@@ -8,14 +8,45 @@ use native.Mathlib.Omega.{arith}
 use native.Mathlib.Nat.{le_refl}
 use borrow.Author.Tests.{eqb-true, eqb-false, ltb-true, ltb-false}
 use lib.Dec.{eqb, ltb}
-use lib.ListN.{length, take, get_or}
-use lib.Seq.{get_or-take}
+use lib.ListN.{length, take, get_or, set, length-set}
+use lib.Seq.{get_or-take, get_or-set_same, get_or-set_other}
 use Rattle.foundation.proofs.PresenceLaws.{elem_below}
 use Rattle.names.specs.Records.{Record}
 use Rattle.names.specs.told.Index.{start_of, end_of, RecordAt, served_from, IndexOf}
-use Rattle.lookup.specs.told.Lookups.{NotesOf}
-use Rattle.record_names.specs.told.Named.{NoteTold}
+use Rattle.lookup.specs.told.Lookups.{PlaceTold, NotesOf}
+use Rattle.record_names.specs.told.Named.{NoteTold, RecordWords}
 use Rattle.lookup.specs.told.Resolved.{OneTold}
+use Rattle.record_names.specs.declared.note.Words.{Words}
+use Rattle.foundation.specs.declared.Span.{Span}
+use Rattle.std.specs.Prelude.{Some, None}
+
+-- One record.
+module _ (bytes before : List ℕ) (k : ℕ) where
+  pub one-lost : PlaceTold bytes before k None → OneTold bytes before before k
+  one-lost p = record { others = λ j f g. refl; told = λ l r a. absurd (p l a.ordered a.inside) }
+
+  module _ {part : Span} (p : PlaceTold bytes before k (Some part)) (w : Words) (f : RecordWords bytes part.start part.end w) where
+    abbrev after : List ℕ
+    after = set (set before (3 * k) w.place) (3 * k + 1) w.steps
+
+    place-new : get_or after (3 * k) 0 ≡ w.place
+    place-new =
+        let l = p.5 in
+        get_or-set_other (set before (3 * k) w.place) (3 * k + 1) (3 * k) w.steps 0 (λ z. omega arith)
+        ∙ get_or-set_same before (3 * k) w.place 0 (omega arith)
+
+    steps-new : get_or after (3 * k + 1) 0 ≡ w.steps
+    steps-new = let l = p.5 in get_or-set_same (set before (3 * k) w.place) (3 * k + 1) w.steps 0 (rw length-set (omega arith))
+
+    pub one_told : OneTold bytes before after k
+    one_told = record {
+      others = λ j g h.
+          get_or-set_other (set before (3 * k) w.place) (3 * k + 1) j w.steps 0 h
+          ∙ get_or-set_other before (3 * k) j w.place 0 g;
+      told = λ l r a.
+          let b : RecordAt bytes part.start part.end r = rw (p.0, p.1) a in
+          rw (place-new, steps-new) (f r b);
+    }
 
 pub still_lower : (k i : ℕ) → (k ≡ i → ⊥) → k < i + 1 → k < i
 still_lower k i n h = go (ltb k i) refl
@@ -31,6 +62,9 @@ pub record Resolving (bytes before notes : List ℕ) (i : ℕ) : Type 0 where
   pub told : (k : ℕ) → k < i → 3 * k + 2 < length before → (r : Record)
       → RecordAt bytes (start_of (get_or before (3 * k) 0)) (end_of (get_or before (3 * k) 0)) r
       → NoteTold bytes r (get_or notes (3 * k) 0) (get_or notes (3 * k + 1) 0)
+
+pub resolving_start : (bytes notes : List ℕ) → Resolving bytes notes notes 0
+resolving_start bytes notes = record { sums = λ k. refl; later = λ k h. refl; told = λ k h. absurd (omega arith) }
 
 pub resolving_next : (bytes before notes after : List ℕ) (i : ℕ) → length notes ≡ length before → Resolving bytes before notes i → OneTold bytes notes after i → Resolving bytes before after (i + 1)
 unfolding served_from

@@ -6,7 +6,7 @@ use mathlib.Core.List.{List, []}
 use mathlib.Core.Option.{Option, some}
 use Prim.Native.Nat.{ℕ, ◌+◌, ◌-◌, ◌*◌, ◌/◌, ◌%◌, ◌≤◌, ◌<◌}
 use native.Mathlib.Omega.{arith}
-use borrow.Author.Tests.{ltb-true, eqb-true, eqb-false}
+use borrow.Author.Tests.{ltb-true, lt-ltb, le-ltb, eqb-true, eqb-false}
 use lib.Dec.{eqb, ltb}
 use lib.ListN.{length, take, drop, get_or, get_elem?, set, length-set, length-take, length-drop}
 use lib.Seq.{get_or-set_same, get_or-set_other, get_or-drop, get_or-take, take-set-le, take-take}
@@ -22,6 +22,7 @@ use Rattle.foundation.specs.declared.Span.{Span}
 use Rattle.std.specs.Prelude.{Some, None, MatchOption}
 use Rattle.std.specs.List.{HoldsAt, AllWithin}
 use Rattle.std.specs.declared.option.Option as rust
+use Rattle.lookup.proofs.ResolveLaws.{still_lower}
 
 -- What stands before a place stays.
 pub keeps_same : (n : ℕ) (a : List ℕ) → Keeps n a a
@@ -46,6 +47,21 @@ keeps-sizes {a} {b} {c} k l = keeps_then k (subst (λ (n : ℕ). Keeps (sizes_fr
 codes_few : (words : ℕ) → codes_in words ≤ words
 codes_few words = if_ind (λ (n : ℕ). n ≤ words) (ltb 2048 (words / 4)) (λ e. omega (arith, ltb-true 2048 (words / 4) e)) λ e. omega arith
 
+pub codes_all : (words : ℕ) → 2048 < words / 4 → 2048 ≡ codes_in words
+codes_all words h = rw (lt-ltb 2048 (words / 4) h)
+
+pub codes_quarter : (words : ℕ) → words / 4 ≤ 2048 → words / 4 ≡ codes_in words
+codes_quarter words h = rw (le-ltb 2048 (words / 4) h)
+
+pub codes_fit : (words : ℕ) {codes : ℕ} → codes ≡ codes_in words → codes ≤ words
+codes_fit words e = rw e (codes_few words)
+
+pub codes_none : (words : ℕ) {codes : ℕ} → codes ≡ codes_in words → words - codes < 32 → 0 ≡ codes_from words
+codes_none words {codes} e h = subst (λ (n : ℕ). 0 ≡ words - n - 32) e (omega arith)
+
+pub codes_begin : (words : ℕ) {codes : ℕ} → codes ≡ codes_in words → words - codes - 32 ≡ codes_from words
+codes_begin words e = ap (λ (n : ℕ). words - n - 32) e
+
 pub codes_inside : (words : ℕ) {from : ℕ} → from ≡ codes_from words → from ≤ words
 codes_inside words e = rw e (less words (codes_in words))
   where
@@ -57,6 +73,33 @@ codes_before words = less words (codes_in words)
   where
     less : (a b : ℕ) → a - b - 32 ≤ a - 32
     less a b = omega arith
+
+-- One size among them.
+pub size_none : (units ends : List ℕ) (index : ℕ) → SizeOf units ends index 0
+size_none units ends index h = absurd (h refl)
+
+pub size-here : (notes : List ℕ) (j index : ℕ) → length notes ≤ j + 32 → j < length notes → {word : ℕ} → word ≡ get_or notes j 0 → word % 65536 ≡ index
+    → (units ends : List ℕ) → SizesOf units ends notes → SizeOf units ends index (word / 65536)
+size-here notes j index h l {word} e f units ends s = rw (← f, e) (s.each j h l)
+
+-- All of them cleared up to a place.
+pub record Cleared (notes : List ℕ) (i : ℕ) : Type 0 where
+  pub zero : (j : ℕ) → length notes ≤ j + 32 → j < i → get_or notes j 0 ≡ 0
+
+pub cleared_start : (notes : List ℕ) (i : ℕ) → i ≡ sizes_from (length notes) → Cleared notes i
+cleared_start notes i e = record { zero = λ j h l. absurd (omega arith) }
+
+pub cleared_next : (notes : List ℕ) (i : ℕ) → i < length notes → Cleared notes i → Cleared (set notes i 0) (i + 1)
+cleared_next notes i l c = record { zero = λ j h m. go j (eqb j i) refl (subst (λ (n : ℕ). n ≤ j + 32) (length-set notes i 0) h) m }
+  where
+    go : (j : ℕ) (b : Bool) → eqb j i ≡ b → length notes ≤ j + 32 → j < i + 1 → get_or (set notes i 0) j 0 ≡ 0
+    go j true e h m = ap (λ (n : ℕ). get_or (set notes i 0) n 0) (eqb-true j i e) ∙ get_or-set_same notes i 0 0 l
+    go j false e h m =
+        let n = eqb-false j i e in
+        get_or-set_other notes i j 0 0 n ∙ c.zero j h (still_lower j i n m)
+
+pub cleared_all : (notes : List ℕ) (i : ℕ) → length notes ≤ i → Cleared notes i → (units ends : List ℕ) → SizesOf units ends notes
+cleared_all notes i l c units ends = record { each = λ j h m. subst (λ (w : ℕ). SizeOf units ends (w % 65536) (w / 65536)) (sym (c.zero j h (omega arith))) (size_none units ends 0) }
 
 -- The size of a string is in the word that is found among the sizes, by its index.
 module _ (units ends notes : List ℕ) (index word : ℕ) {from : ℕ} (e : from ≡ sizes_from (length notes)) where
@@ -74,6 +117,10 @@ module _ (units ends notes : List ℕ) (index word : ℕ) {from : ℕ} (e : from
       let h : i < length notes - from = omega (arith, l, length-take (length notes - from) (drop from notes)) in
       let at : get_or notes (from + i) 0 ≡ w = sym (get_or-drop from notes i 0) ∙ sym (get_or-take (length notes - from) (drop from notes) i 0 h) ∙ g 0 in
       rw (← same, ← p, ← at) (s.each (from + i) (omega arith) (omega arith))
+
+-- No string noted.
+pub string-none : (units ends notes : List ℕ) (at : ℕ) → length notes ≤ at + 32 → StringNoted units ends notes notes at
+string-none units ends notes at p = record { keeps = keeps_same (sizes_from (length notes)) notes; place = p; sizes = λ f s. s }
 
 -- A string's size at a place among them.
 module _ (units ends notes : List ℕ) (at : ℕ) (p : length notes ≤ at + 32)
@@ -119,3 +166,11 @@ pub record StringsSized (units ends before notes : List ℕ) (at : ℕ) : Type 0
   pub keeps : Keeps (sizes_from (length before)) before notes
   pub place : length notes ≤ at + 32
   pub sizes : ends_fit 0 ends (length units) ≡ true → SizesOf units ends notes
+
+pub strings_next : {units ends before notes after : List ℕ} {at next : ℕ} → StringsSized units ends before notes at → StringNoted units ends notes after next
+    → StringsSized units ends before after next
+strings_next s n = record {
+  keeps = keeps-sizes s.keeps n.keeps;
+  place = omega (arith, n.keeps.long, n.place);
+  sizes = λ f. n.sizes f (s.sizes f);
+}

@@ -1,5 +1,5 @@
 // A code for each of the first indices: the record that serves it. It is a hint that a look-up tests before it believes it, so that no
-// promise rests on it; without one the record is searched for. The places of codes and sizes in the notes: specs/told/Strings.antt.
+// promise rests on it; without one record 0 is tried. The places of codes and sizes in the notes: specs/told/Strings.antt.
 // The notes are words of a fixed number that the caller lends, since there is no heap: so a code is a number in a word, found by its place.
 ghost use Rattle.std.specs.Prelude.{◌≡◌, ◌*◌, ◌≤◌, ◌<◌, length};
 ghost use Rattle.lookup.specs.told.Strings.{codes_in, sizes_from, codes_from, Keeps};

@@ -48,7 +48,7 @@ fn serves(context: &Context<'_>, at: usize, index: u64) -> bool
         && index < served_from(notes, at + 1)
 }
 
-// The record that serves an index: by its code where that is right, else the first that ends past it.
+// The record that serves an index, if any does: by its code where that is right, of an index without one record 0, else the first that ends past it.
 fn find_record(context: &Context<'_>, index: u32) -> Option<usize>
     ensures record { FindTold context.now.notes.now context.now.tables.records index result }
     ensures inside { IfSome result (λ at. 3 * at + 2 < length context.now.notes.now) }
@@ -59,9 +59,11 @@ fn find_record(context: &Context<'_>, index: u32) -> Option<usize>
         return None;
     }
     let wanted = u64::from(index);
-    if let Some(code) = code_at(notes, wide(index))
-        && serves(context, code, wanted)
-    {
+    if served_from(notes, count) <= wanted {
+        return None;
+    }
+    let code = code_at(notes, wide(index)).unwrap_or(0);
+    if serves(context, code, wanted) {
         return Some(code);
     }
     let (records, _) = notes.as_chunks::<RECORD_WORDS>();

@@ -32,7 +32,7 @@ use Rattle.members.specs.told.ClosedTold.{Declared, callable_in, callable_rows, 
 use Rattle.members.specs.declared.closed.Callable.{Callable}
 use Rattle.members.specs.declared.closed.Callable.TheVariants as callable
 use Rattle.descriptors.proofs.JoinLaws.{part-answer, written-within}
-use Rattle.std.specs.declared.result.Result.TheVariants.{Ok}
+use Rattle.std.specs.declared.result.Result.TheVariants.{Ok, Err}
 use Rattle.schema.specs.told.SchemaTold.{Picked}
 
 pub of_constructor_lem : {e : Lent} {start end at : ℕ} {r : std.Option ℕ} {A A₁ : List ℕ} → ConstructorDefault e start end at r A A₁
@@ -136,7 +136,15 @@ module _ {D : Type 0} (read : Scope → Message → Read (Option D)) (parts : D 
           subst (λ (x : Option (List ℕ)). PutRows (row 7 (ref x ∷ []) ∷ []) s.types s s' S S' T T') (sym t.1) (p t.0 T (sym t.2.size) f);
     }
 
--- One that is skipped, and so is not closed.
+-- One that is skipped or refused, and so is not closed.
+pub closed_unkept : {D : Type 0} (read : Scope → Message → Read (Option D)) (rows closed : D → List Row) {n n' : ℕ} {e : Lent} {msg : List ℕ} {base : ℕ}
+    {s : State} (r : Picked) {S S₁ T T₁ : List ℕ} → ((state : State) → r ≡ Ok (Some state) → ⊥) → MemberTold read rows n e msg base s r S S₁ T T₁
+    → MemberTold read closed n' e msg base s r S S₁ T T₁
+closed_unkept read rows closed (Ok (Some s₁)) h t = absurd (h s₁ refl)
+closed_unkept read rows closed (Ok None) h t = record { spends = tt; is = t.is }
+closed_unkept read rows closed (Err stop) h t = record { spends = tt; is = t.is }
+
+-- One that is skipped.
 module _ {D : Type 0} (read : Scope → Message → Read (Option D)) (rows closed : D → List Row) {n n' : ℕ} {e : Lent} {msg : List ℕ} {base : ℕ}
     {s : State} {r : Picked} {S S₁ T T₁ : List ℕ} (t : MemberTold read rows n e msg base s r S S₁ T T₁) where
   pub closed_dropped : r ≡ Ok None → MemberTold read closed n' e msg base s (Ok None) S S₁ T T₁

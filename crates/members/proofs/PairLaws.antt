@@ -1,12 +1,16 @@
 -- Two types of one declaration in code, and a declaration of a name and two types.
 -- Assumes nothing.
 use mathlib.Core.Path.{◌≡◌, refl, ap, sym, subst, ◌∙◌}
+use mathlib.Core.Bool.{Bool, false}
 use mathlib.Core.List.{List, [], ◌∷◌, ◌++◌}
 use mathlib.Core.Option.{Option, none, some}
 use Prim.Native.Nat.{ℕ}
 use native.Mathlib.Omega.{arith}
+use Rattle.foundation.specs.Choices.{is_some}
 use Rattle.foundation.specs.Results as Results
 use Rattle.foundation.specs.Results.{Res, ok, refused, ◌from◌}
+use Rattle.foundation.specs.Texts.{Text}
+use Rattle.foundation.proofs.PresenceLaws.{none_is}
 use Rattle.wire.specs.Wire.{Message, cut}
 use Rattle.names.specs.told.Name.{name_text}
 use Rattle.names.specs.declared.name.Name.{Name}
@@ -88,6 +92,14 @@ module _ (p : TypePair) {e : Lent} {msg : List ℕ} {base : ℕ} {s : State} {ow
       subst (λ (w : Walked). WalkedTold (declared_type c p.first.inline p.first.indexed m s.types) (type_rows (role_number p.first.role)) s w S S₁ T T₁)
       q (t.is c o m k)
 
+  pub pair-refused : {stop : Stop} → own ≡ Err stop → PairTold p e msg base s own S S₁ T T₁
+  pair-refused {stop} q = record {
+    spends = subst (WalkedSpends s) (sym q) tt;
+    is = λ c o m k.
+        both-refused (declared_type c p.first.inline p.first.indexed m) (declared_type c p.second.inline p.second.indexed m)
+        (type_rows (role_number p.first.role)) (type_rows (role_number p.second.role)) s own S S₁ T T₁ q (t.is c o m k);
+  }
+
   pub pair_then : {s₁ : State} → own ≡ Ok s₁ → {w : Walked} {S₂ T₂ : List ℕ}
       → OptionalTold e msg base p.second.inline p.second.indexed (role_number p.second.role) s₁ w S₁ S₂ T₁ T₂
       → PairTold p e msg base s w S S₂ T T₂
@@ -112,6 +124,19 @@ pub nameless : {A : Type 0} (read : Scope → Message → Read (Option A)) (rows
     → ((c : Scope) → Scoped e c → (m : Message) → cut (◌from◌ base msg) ≡ ok m → (l : ℕ) → name_in c number m l ≡ ok (none, l)) → {S T : List ℕ}
     → MemberTold read rows cost e msg base s (Ok None) S S T T
 nameless read rows cost number {s = s} skips i = record { spends = tt; is = λ c o m k. (skips c m s.types (i c o m k s.types), refl, refl) }
+
+-- The same by a test of the name that was found.
+pub pair-nameless : {A : Type 0} (read : Scope → Message → Read (Option A)) (rows : A → List Row) (cost number : ℕ) (e : Lent) (msg : List ℕ) (base : ℕ) (s : State)
+    (name : rust.Option Name)
+    → ((units : List ℕ) (c : Scope) → NamesOf e.payload units e.ends e.notes e.tables.records c.names
+    → (m : Message) → cut (◌from◌ base msg) ≡ ok m → (l : ℕ) → name_in c number m l ≡ ok (name_text e.payload units name, l))
+    → {there : Bool} → ((payload d2 : List ℕ) → is_some (name_text payload d2 name) ≡ there)
+    → ((c : Scope) (m : Message) (l : ℕ) → name_in c number m l ≡ ok (none, l) → read c m l ≡ ok (none, l)) → there ≡ false → {S T : List ℕ}
+    → MemberTold read rows cost e msg base s (Ok None) S S T T
+pair-nameless read rows cost number e msg base s name i h skips q =
+    nameless read rows cost number skips λ c o m k l.
+    let absent = none_is (name_text e.payload e.d2 name) (h e.payload e.d2 ∙ q) in
+    i e.d2 c o.names m k l ∙ ap (λ (t : Option Text). ok (t, l)) absent
 
 -- A declaration of two types: what is made of its message and the types that follow its record.
 module _ {A : Type 0} (read : Scope → Message → Read (Option A)) (rows : A → List Row) (cost : ℕ) (e : Lent) (msg : List ℕ) (base : ℕ) (s : State)

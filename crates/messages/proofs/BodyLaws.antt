@@ -38,7 +38,7 @@ use Rattle.wire.specs.Wire.{
 }
 use Rattle.wire.specs.Messages.{values, cut_option, message, bodies_of, cut_all, messages}
 use Rattle.wire.specs.told.WireTold.{rest_of, part_between, value_of, FieldTold, piece_of}
-use Rattle.messages.specs.told.Asked.{CheckedTold, piece_told, PieceInside, PieceAfter, BytesTold, EmbeddedTold, bodies, piece_if, NextIs, NextBodyTold}
+use Rattle.messages.specs.told.Asked.{CheckedTold, piece_told, PieceInside, PieceAfter, PieceBegins, BytesTold, EmbeddedTold, bodies, piece_if, NextIs, NextBodyTold}
 use Rattle.std.specs.Prelude.{Option, Some, None, Result, Ok, Err}
 use Rattle.foundation.specs.declared.Span.{Span}
 use Rattle.wire.specs.declared.WireError.{WireError}
@@ -189,6 +189,28 @@ module _ (k base : ℕ) (s : List ℕ) (at : ℕ) where
             later = omega arith;
             begins = omega (arith, body-later base s i x e f.1);
           }
+
+-- of a piece by the places asked from
+next_is : (k base : ℕ) (s : List ℕ) (m rest : Message) → bodies k m ≡ bodies k rest → (r : Option Span) → NextIs base s k rest r → NextIs base s k m r
+next_is k base s m rest e (Some p) n = (n.0, n.1, e ∙ n.2)
+next_is k base s m rest e None n = e ∙ n
+
+after_earlier : (at i : ℕ) → at ≤ i → (r : Option Span) → PieceAfter i r → PieceAfter at r
+after_earlier at i h (Some p) q = omega arith
+after_earlier at i h None q = tt
+
+begins_earlier : (at i : ℕ) → at ≤ i → (r : Option Span) → PieceBegins i r → PieceBegins at r
+begins_earlier at i h (Some p) q = omega arith
+begins_earlier at i h None q = tt
+
+pub next-on : (k base : ℕ) (s : List ℕ) (at i : ℕ) → at ≤ i → BodiesLeft k base s at i → {r : Option Span} → NextBodyTold base s k i r
+    → NextBodyTold base s k at r
+next-on k base s at i h o {r} t = record {
+  is = λ m w. next_is k base s m (o m w).0 (o m w).2 r (t.is (o m w).0 (o m w).1);
+  inside = t.inside;
+  later = after_earlier at i h r t.later;
+  begins = begins_earlier at i h r t.begins;
+}
 
 -- a part of a slice from its start to an end, from a place on
 pub part-is : (base : ℕ) (s : List ℕ) (a e : ℕ) → a ≤ e → rest_of base (take e s) a ≡ part_between base s a e

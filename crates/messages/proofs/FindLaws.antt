@@ -15,7 +15,7 @@ use Rattle.foundation.specs.Results.{ok, ◌from◌}
 use Rattle.wire.specs.Wire.{Value, read_field, Message, cut}
 use Rattle.wire.specs.Messages.{values, first_of, value, as_varint, as_body, varint_of, as32, index, flag, bytes_of}
 use Rattle.wire.specs.told.WireTold.{rest_of, value_of, Inside, FieldTold, value_number, piece_of}
-use Rattle.messages.specs.told.Asked.{found_told, FoundInside, FoundTold, number_told, number_in, piece_in, piece_told, PieceInside, BytesTold, index_in}
+use Rattle.messages.specs.told.Asked.{found_told, FoundInside, FoundTold, FoundFrom, FoundAt, number_told, number_in, piece_in, piece_told, PieceInside, BytesTold, index_in}
 use Rattle.std.specs.Prelude.{Some, None}
 use Rattle.foundation.specs.declared.Span.{Span}
 use Rattle.wire.specs.declared.WireError.{WireError}
@@ -24,43 +24,67 @@ use Rattle.wire.specs.declared.WireValue.TheVariants as wire
 use Rattle.wire.specs.declared.Field as code
 use Rattle.foundation.specs.declared.Read.{Read}
 use Rattle.std.specs.Prelude.{Ok, Err}
-use Rattle.wire.proofs.WalkLaws.{Leads, leads-start, leads-next, leads-never, leads-end, values-found, values-passed}
+use Rattle.wire.proofs.WalkLaws.{whole, Leads, leads-next, leads-never, leads-end, values-found, values-passed}
 
--- of a slice's message the occurrences of field k are those from a place on
-abbrev pub Occur : ℕ → ℕ → List ℕ → ℕ → Type 0
-Occur k base s at = Leads (λ m rest. values k m ≡ values k rest) (◌from◌ base s) (rest_of base s at)
+-- from a place on the occurrences of field k are those from the place `start` on
+abbrev pub Occur : ℕ → ℕ → List ℕ → ℕ → ℕ → Type 0
+Occur k base s start at = Leads (λ m rest. values k m ≡ values k rest) (rest_of base s start) (rest_of base s at)
 
-module _ (k base : ℕ) (s : List ℕ) where
+module _ (k base : ℕ) (s : List ℕ) (start : ℕ) where
   Same : Message → Message → Type 0
   Same m rest = values k m ≡ values k rest
 
-  pub find-start : Occur k base s 0
-  unfolding Same
-  find-start = leads-start Same base s λ m. refl
+  pub find-start : Occur k base s start start
+  find-start m w = (m, w, refl)
 
-  module _ (at : ℕ) (o : Occur k base s at) where
-    pub find-end : length s ≤ at → FoundTold base s k None
+  module _ (at : ℕ) (o : Occur k base s start at) where
+    pub find-end : length s ≤ at → FoundFrom base s k start None
     unfolding Same values
-    find-end h = record { is = λ m w. ap first_of (leads-end Same (◌from◌ base s) base s at o h m w); inside = tt }
+    find-end h = record { is = λ m w. ap first_of (leads-end Same (rest_of base s start) base s at o h m w); inside = tt }
+
+    pub find-on : {r : rust.Option WireValue} → FoundFrom base s k at r → FoundFrom base s k start r
+    find-on t = record { is = λ m w. ap first_of (o m w).2 ∙ t.is (o m w).0 (o m w).1; inside = t.inside }
 
     module _ (error : WireError) (e : FieldTold base s (read_field (rest_of base s at)) (Err error)) (h : at < length s) where
-      pub find-never : FoundTold base s k None
+      pub find-never : FoundFrom base s k start None
       unfolding Same
-      find-never = record { is = λ m w. leads-never (◌from◌ base s) base s at error e h Same o m w; inside = tt }
+      find-never = record { is = λ m w. leads-never (rest_of base s start) base s at error e h Same o m w; inside = tt }
 
     module _ (x : Read code.Field) (e : FieldTold base s (read_field (rest_of base s at)) (Ok x)) (h : at < length s) where
-      pub find-found : x.value.number ≡ k → FoundTold base s k (Some x.value.value)
+      pub find-found : x.value.number ≡ k → FoundFrom base s k start (Some x.value.value)
       unfolding Same
       find-found q =
           let v = value_of base s x.value.value in
           let Here : Message → Message → Type 0 = λ m rest. values k m ≡ v ∷ values k rest in
-          let l = leads-next (◌from◌ base s) base s at x e h Same Here o λ m rest c. c ∙ values-found k v rest q in
+          let l = leads-next (rest_of base s start) base s at x e h Same Here o λ m rest c. c ∙ values-found k v rest q in
           record { is = λ m w. ap first_of (l m w).2; inside = e.1 }
 
-      pub find-passed : (x.value.number ≡ k → ⊥) → Occur k base s x.next
+      pub find-passed : (x.value.number ≡ k → ⊥) → Occur k base s start x.next
       unfolding Same
       find-passed q =
-          leads-next (◌from◌ base s) base s at x e h Same Same o λ m rest c. c ∙ values-passed k (value_of base s x.value.value) rest q
+          leads-next (rest_of base s start) base s at x e h Same Same o λ m rest c. c ∙ values-passed k (value_of base s x.value.value) rest q
+
+  pub find_none : length s ≤ start → FoundFrom base s k start None
+  find_none = find-end start find-start
+
+  pub find-here : {r : rust.Option WireValue} → FoundAt s k start r → {v : WireValue} → r ≡ Some v → FoundFrom base s k start r
+  find-here {r} t {v} g =
+      let f : FoundAt s k start (Some v) = subst (FoundAt s k start) g t in
+      let there = find-found start find-start (record { value = record { number = k; value = v }; next = f.1 }) (f.2 base) f.0 refl in
+      subst (FoundFrom base s k start) (sym g) there
+
+  -- from the slice's start on it is the first of the whole, and the other way round
+  pub find-whole : {r : rust.Option WireValue} → start ≡ 0 → FoundFrom base s k start r → FoundTold base s k r
+  find-whole z t = record {
+    is = λ m w. t.is m (ap (λ (a : ℕ). cut (rest_of base s a)) z ∙ ap cut (whole base s) ∙ w);
+    inside = t.inside;
+  }
+
+  pub from-whole : {r : rust.Option WireValue} → start ≡ 0 → FoundTold base s k r → FoundFrom base s k start r
+  from-whole z t = record {
+    is = λ m w. t.is m (sym (ap (λ (a : ℕ). cut (rest_of base s a)) z ∙ ap cut (whole base s)) ∙ w);
+    inside = t.inside;
+  }
 
 -- what is made of the first occurrence, as `varint_of` and `bytes_of` are
 module _ {A : Type 0} (f : Value → Option A) (k base : ℕ) (s : List ℕ) {r : rust.Option WireValue} (t : FoundTold base s k r) where

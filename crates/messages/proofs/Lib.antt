@@ -5,3 +5,4 @@ pub mod BodyLaws
 pub mod BodiesLaws
 pub mod SkippedLaws
 pub mod RepeatedLaws
+pub mod ReaderLaws

@@ -3,7 +3,7 @@
 // answers tell them: specs/told/Asked.antt.
 #![tactic(auto)]
 
-ghost use Rattle.std.specs.Prelude.{◌≡◌, ℕ, ◌-◌, ◌<◌, length, get_or, None, ⊤};
+ghost use Rattle.std.specs.Prelude.{◌≡◌, ℕ, ◌-◌, ◌<◌, ◌≢◌, true, length, get_or, None, ⊤};
 ghost use Rattle.std.specs.Iterator.{at_most};
 ghost use Rattle.foundation.specs.Results.{ok};
 ghost use Rattle.foundation.specs.told.Located.{told_part};
@@ -19,7 +19,8 @@ use foundation::{Located, Span};
 use wire::{Field, WireError, WireValue, fields_from};
 
 // Reads every field of a message from a place on, and answers the first refusal.
-fn check_from(s: Located<'_>, at: usize) -> Result<(), WireError>
+// Kept public, though no other crate calls it: it answers for any place, past the end too, and `s.part(..)` asks that the part lies in `s`.
+pub fn check_from(s: Located<'_>, at: usize) -> Result<(), WireError>
     ensures { CheckedTold (cut (rest_of s.entry.base s.entry.bytes.now at)) result }
 {
     for field in fields_from(s, [], at) {
@@ -51,19 +52,39 @@ pub fn find(s: Located<'_>, number: u32) -> Option<WireValue>
     None
 }
 
-// A field that was read: where its number is asked for and no earlier field had that number, its value is the one that was found.
+// A field that was read: where its number is asked for and no earlier field had that number, its value is the one that was found. The answer
+// is true if there is such a number.
 // `iter_mut().zip(numbers)` was tried, and isn't proved: std says nothing of an area's elements once a borrow by an adapter of `iter_mut` is over.
-fn keep_first<const N: usize>(found: &mut [Option<WireValue>; N], numbers: [u32; N], field: Field)
-    ensures { (i : ℕ) → i < N → get_or found.new i None ≡ found_or (get_or found.old i None) (get_or numbers.entry i 0) field.number field.value }
+fn keep_first<const N: usize>(
+    found: &mut [Option<WireValue>; N],
+    numbers: [u32; N],
+    field: Field,
+) -> bool
+    ensures { ((i : ℕ) → i < N → get_or found.new i None ≡ found_or (get_or found.old i None) (get_or numbers.entry i 0) field.number field.value) × ((i : ℕ) → i < N → get_or found.old i None ≡ None → get_or numbers.entry i 0 ≡ field.number → result ≡ true) }
 {
+    let mut more = false;
     for (i, kept) in found.iter_mut().enumerate() {
         if kept.is_none() && numbers[i] == field.number {
             *kept = Some(field.value);
+            more = true;
         }
     }
+    more
 }
 
-// The first occurrences of several fields, by one walk.
+// Is each of the fields found?
+fn all_found<const N: usize>(found: &[Option<WireValue>; N]) -> bool
+    ensures { result ≡ true → (i : ℕ) → i < N → get_or found.now i None ≢ None }
+{
+    for i in 0..N {
+        if found[i].is_none() {
+            return false;
+        }
+    }
+    true
+}
+
+// The first occurrences of several fields, by one walk. It ends where each is found, which is looked at after each that is.
 pub fn find_each<const N: usize>(s: Located<'_>, numbers: [u32; N]) -> [Option<WireValue>; N]
     ensures { (i : ℕ) → i < N → FoundTold s.entry.base s.entry.bytes.now (get_or numbers.entry i 0) (get_or result i None) }
 {
@@ -72,7 +93,10 @@ pub fn find_each<const N: usize>(s: Located<'_>, numbers: [u32; N]) -> [Option<W
         let Ok(field) = read else {
             break;
         };
-        keep_first(&mut found, numbers, field);
+        let more = keep_first(&mut found, numbers, field);
+        if more && all_found(&found) {
+            break;
+        }
     }
     found
 }

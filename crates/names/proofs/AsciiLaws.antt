@@ -13,11 +13,11 @@ use Rattle.foundation.specs.Choices.{All}
 use Rattle.foundation.specs.Texts.{Text}
 use Rattle.foundation.proofs.ChoiceLaws.{if_ind}
 use Rattle.foundation.proofs.OverlayLaws.{sets_out}
-use Rattle.characters.specs.Characters.{utf8_of, utf8}
+use Rattle.characters.specs.Characters.{utf8_of, utf8, from_utf8, from_utf16}
 use Rattle.characters.specs.told.Plain.{instead, with_dots, slashed_character, is_ascii, shown}
 use Rattle.characters.proofs.AsciiLaws.{all_below}
 use Rattle.characters.specs.told.CharactersTold.{Character}
-use Rattle.names.specs.told.Encoded.{Decoding}
+use Rattle.names.specs.told.Encoded.{Decoding, bytes_decode, units_decode}
 use Rattle.names.specs.told.Stream.{changed, changed_bytes, NoneReplaced, PutText}
 use Rattle.names.specs.declared.name.Change.{Change}
 
@@ -52,6 +52,14 @@ module _ (h : Change) (e : NoneReplaced h) where
   pub plain-bytes : {decoded : List ℕ → Text} {character : ℕ → List ℕ → Character} → Decoding decoded character → (cs : List ℕ) → is_ascii cs ≡ true
       → changed_bytes h (decoded cs) ≡ map (shown h.dots h.slashes) cs
   plain-bytes d cs a = ap (changed_bytes h) (d.plain cs a) ∙ changed-all cs (all_below cs a)
+
+  -- of units, and of bytes
+  module _ (cs : List ℕ) (a : is_ascii cs ≡ true) where
+    pub units-bytes : changed_bytes h (from_utf16 cs) ≡ map (shown h.dots h.slashes) cs
+    units-bytes = plain-bytes units_decode cs a
+
+    pub bytes-bytes : changed_bytes h (from_utf8 cs) ≡ map (shown h.dots h.slashes) cs
+    bytes-bytes = plain-bytes bytes_decode cs a
 
 -- Written at once, or not at all where there is no room.
 module _ {bytes : List ℕ} (f : ℕ → ℕ) (cs : List ℕ) (at : ℕ) {n : ℕ} (e : bytes ≡ map f cs) (l : length cs ≡ n) where

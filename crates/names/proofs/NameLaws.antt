@@ -3,20 +3,23 @@
 use mathlib.Core.Path.{◌≡◌, refl, ap, sym, ◌∙◌}
 use mathlib.Core.Bool.{Bool, true, false, ◌||◌}
 use mathlib.Core.List.{List, [], ◌∷◌, map}
-use Prim.Native.Nat.{ℕ, ◌-◌, ◌≤◌}
+use Prim.Native.Nat.{ℕ, ◌-◌, ◌≤◌, ◌<◌}
 use native.Mathlib.Omega.{arith}
+use borrow.Author.Tests.{ne_eqb}
 use lib.Dec.{eqb}
 use lib.ListN.{length, take, drop, length-drop}
 use lib.Seq.{take_all}
 use Rattle.std.specs.Prelude.{if◌then◌else◌, Some, None}
 use Rattle.std.specs.declared.option.Option as rust
+use Rattle.std.specs.Option.{option_map}
 use Rattle.foundation.specs.Texts.{Text}
 use Rattle.foundation.proofs.ChoiceLaws.{if_ind}
 use Rattle.foundation.specs.declared.Span.{Span}
 use Rattle.characters.specs.Characters.{width, utf8, from_utf8, from_utf16}
 use Rattle.characters.specs.told.Places.{part_from}
 use Rattle.characters.specs.told.Plain.{instead, with_dots, slashed_character}
-use Rattle.names.specs.told.Name.{predefined_list, OfBytes, source_text, fitted, is_measured, sized, turned, stepped_by, named_text}
+use Rattle.characters.proofs.TestLaws.{below}
+use Rattle.names.specs.told.Name.{predefined_list, OfBytes, source_numbered, source_text, fitted, is_measured, sized, turned, stepped_by, named_text}
 use Rattle.names.specs.Records.{substituted, dotted, dollars_dotted}
 use Rattle.names.specs.told.Stream.{with_dollars, turns_dollars, turns_both, changed, change_of, slashed_text, base_of, changed_bytes, sized_bytes, name_bytes}
 use Rattle.names.specs.declared.name.Name.{Name}
@@ -127,6 +130,27 @@ source-bytes payload d2 Payload part o = refl
 source-bytes payload d2 Predefined part o = refl
 source-bytes payload d2 D2 part o = absurd o
 
+-- What is made of the source that a number has, if it has one.
+module _ (payload d2 : List ℕ) (part : Span) (n : ℕ) where
+  abbrev pub numbered_text : rust.Option Text
+  numbered_text = option_map (λ s. source_text payload d2 s part) (source_numbered n)
+
+  pub source-none : (n ≡ 1 → ⊥) → (n ≡ 2 → ⊥) → (n ≡ 3 → ⊥) → numbered_text ≡ None
+  source-none f g h = rw (ne_eqb n 1 f, ne_eqb n 2 g, ne_eqb n 3 h)
+
+  pub source-absent : n ≡ 0 → numbered_text ≡ None
+  source-absent e = source-none (λ f. omega arith) (λ f. omega arith) λ f. omega arith
+
+  pub source-past : 3 < n → numbered_text ≡ None
+  source-past h = source-none (λ f. omega arith) (λ f. omega arith) λ f. omega arith
+
+  pub source-there : 0 < n → n ≤ 3 → (t : Text) × (numbered_text ≡ Some t)
+  source-there g h =
+      below 2 n (λ l. let e : n ≡ 1 = omega arith in (source_text payload d2 Payload part, rw e)) λ l.
+      below 3 n (λ m. let e : n ≡ 2 = omega arith in (source_text payload d2 Predefined part, rw e)) λ m.
+      let e : n ≡ 3 = omega arith in
+      (source_text payload d2 D2 part, rw e)
+
 -- A name's bytes, by the change that the code made.
 pub name-parts : (payload d2 : List ℕ) (n : Name) (slashes : Bool) {h : Change} → h ≡ change_of (Some n) slashes
     → name_bytes payload d2 (Some n) slashes ≡ sized_bytes n.size h (source_text payload d2 n.source n.part)
@@ -134,6 +158,10 @@ unfolding name_bytes named_text
 name-parts payload d2 n slashes e =
     ap utf8 (stepped-is n (source_text payload d2 n.source n.part) slashes)
     ∙ ap (λ (k : Change). sized_bytes n.size k (source_text payload d2 n.source n.part)) (sym e)
+
+pub name-bytes : (payload d2 : List ℕ) (n : Name) (slashes : Bool)
+    → name_bytes payload d2 (Some n) slashes ≡ sized_bytes n.size (change_of (Some n) slashes) (source_text payload d2 n.source n.part)
+name-bytes payload d2 n slashes = name-parts payload d2 n slashes refl
 
 -- a name that may be absent
 pub some-parts : (payload d2 : List ℕ) {o : rust.Option Name} {n : Name} → o ≡ Some n → (slashes : Bool) {h : Change} → h ≡ change_of (Some n) slashes

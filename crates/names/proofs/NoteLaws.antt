@@ -13,10 +13,11 @@ use lib.Seq.{get_or_at, get_or-set_same, get_or-set_other, take_all}
 use Rattle.foundation.specs.Results.{Res, ok, refused, ◌>>=◌, Part, ◌from◌}
 use Rattle.fields.specs.Fields.{StringTableTypes-record, StringTableTypes-local_name, Record-range}
 use Rattle.wire.specs.Wire.{Message, cut}
-use Rattle.wire.specs.Messages.{index, cut_all, messages, varints}
+use Rattle.wire.specs.Messages.{values, index, bodies_of, cut_all, messages, varints}
 use Rattle.wire.specs.told.WireTold.{wire_refused, rest_of, part_between}
 use Rattle.messages.specs.told.Asked.{CheckedTold, bodies, index_told, NextBodyTold}
 use Rattle.wire.specs.declared.WireError.{WireError}
+use Rattle.wire.proofs.WalkLaws.{cut-end, ok_same}
 use Rattle.messages.proofs.BodyLaws.{checked_at}
 use Rattle.characters.specs.told.Places.{part_from}
 use Rattle.names.specs.Records.{Record, record_of, served}
@@ -218,13 +219,24 @@ noting_start bytes at notes m w = record {
 }
 
 module _ (bytes : List ℕ) (start : ℕ) (notes : List ℕ) (total count at : ℕ) (i : Noting bytes start notes total count at) where
+  -- none is left
+  noting-done : (m : Message) (w : cut (rest_of 0 bytes start) ≡ ok m) → bodies StringTableTypes-record (i m w).rest ≡ []
+      → NotedTold bytes start m notes (Ok count)
+  unfolding cut_all
+  noting-done m w e =
+      let n = i m w in
+      (n.before, n.whole ∙ rw e (ap ok (append-nil n.before)), n.noted)
+
+  pub noting-end : length bytes ≤ at → (m : Message) → cut (rest_of 0 bytes start) ≡ ok m → NotedTold bytes start m notes (Ok count)
+  unfolding values bodies_of
+  noting-end h m w =
+      let n = i m w in
+      let e : n.rest ≡ [] = ok_same (sym n.cuts ∙ cut-end 0 bytes at h) in
+      noting-done m w (ap (λ (r : Message). bodies StringTableTypes-record r) e)
+
   module _ {r : Option Span} (t : NextBodyTold 0 bytes StringTableTypes-record at r) where
     pub noting-none : r ≡ None → (m : Message) → cut (rest_of 0 bytes start) ≡ ok m → NotedTold bytes start m notes (Ok count)
-    unfolding cut_all
-    noting-none g m w =
-        let n = i m w in
-        let e : bodies StringTableTypes-record n.rest ≡ [] = (subst (NextBodyTold 0 bytes StringTableTypes-record at) g t).is n.rest n.cuts in
-        (n.before, n.whole ∙ rw e (ap ok (append-nil n.before)), n.noted)
+    noting-none g m w = let n = i m w in noting-done m w ((subst (NextBodyTold 0 bytes StringTableTypes-record at) g t).is n.rest n.cuts)
 
     module _ {part : Span} (g : r ≡ Some part) where
       next : NextBodyTold 0 bytes StringTableTypes-record at (Some part)

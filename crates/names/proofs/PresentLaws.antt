@@ -3,22 +3,24 @@
 use mathlib.Core.Path.{◌≡◌, refl, ap, sym, ◌∙◌}
 use mathlib.Core.Bool.{Bool, true, false, ◌&&◌}
 use mathlib.Core.List.{List}
-use Prim.Native.Nat.{ℕ, ◌-◌, ◌*◌, ◌≤◌}
+use Prim.Native.Nat.{ℕ, ◌-◌, ◌*◌, ◌≤◌, ◌<◌}
 use native.Mathlib.Omega.{arith}
-use borrow.Author.Tests.{leb-true}
+use borrow.Author.Tests.{leb-true, leb-false, ne_eqb}
 use lib.Dec.{eqb, leb}
 use lib.ListN.{length, drop, length-map, length-take, length-drop}
 use Rattle.std.specs.Prelude.{if◌then◌else◌, Some, None}
 use Rattle.std.specs.declared.option.Option as rust
 use Rattle.std.specs.Option as options
+use Rattle.std.specs.Option.{option_map}
 use Rattle.foundation.specs.Choices.{is_some}
 use Rattle.foundation.specs.Texts.{Text}
 use Rattle.foundation.proofs.ChoiceLaws.{if_ind}
 use Rattle.characters.specs.Characters.{width, from_utf8}
 use Rattle.characters.specs.told.Places.{part_from}
+use Rattle.characters.proofs.TestLaws.{below}
 use Rattle.characters.proofs.LengthLaws.{AtMost, InBytes, bytes_most, from_utf8-length, from_utf16-length}
 use Rattle.names.specs.Records.{substituted}
-use Rattle.names.specs.told.Name.{predefined_list, source_text, is_measured, sized, turned, stepped_by, named_text, name_text}
+use Rattle.names.specs.told.Name.{predefined_list, source_numbered, source_text, is_measured, sized, turned, stepped_by, named_text, name_text}
 use Rattle.names.specs.told.Stream.{slashed_text, name_bytes}
 use Rattle.names.specs.declared.name.Name.{Name}
 use Rattle.names.specs.declared.name.Source.{Source}
@@ -31,6 +33,31 @@ use Rattle.names.proofs.AsciiLaws.{not_plain_lem as never}
 pub name-there : (payload d2 : List ℕ) (o : rust.Option Name) → is_some (name_text payload d2 o) ≡ options.is_some o
 name-there payload d2 None = refl
 name-there payload d2 (Some n) = refl
+
+-- A name by its source's number is there if a source has that.
+module _ (payload d2 : List ℕ) (named : Source → Name) (n : ℕ) where
+  abbrev pub numbered : rust.Option Name
+  numbered = option_map named (source_numbered n)
+
+  pub absent-name : n ≡ 0 → is_some (name_text payload d2 numbered) ≡ false
+  absent-name e = rw e
+
+  past-name : 3 < n → is_some (name_text payload d2 numbered) ≡ false
+  past-name h = rw (ne_eqb n 1 (λ f. omega arith), ne_eqb n 2 (λ f. omega arith), ne_eqb n 3 (λ f. omega arith))
+
+  some-name : 0 < n → n ≤ 3 → is_some (name_text payload d2 numbered) ≡ true
+  some-name g h =
+      below 2 n (λ l. let e : n ≡ 1 = omega arith in rw e) λ l.
+      below 3 n (λ m. let e : n ≡ 2 = omega arith in rw e) λ m.
+      let e : n ≡ 3 = omega arith in
+      rw e
+
+  pub present-name : (n ≡ 0 → ⊥) → is_some (name_text payload d2 numbered) ≡ leb n 3
+  present-name f = go (leb n 3) refl
+    where
+      go : (b : Bool) → leb n 3 ≡ b → is_some (name_text payload d2 numbered) ≡ b
+      go true e = some-name (omega arith) (leb-true n 3 e)
+      go false e = past-name (leb-false n 3 e)
 
 -- A part has no more characters than what it is a part of.
 part_most : (start end k : ℕ) (s : List ℕ) → length s ≤ k → length (part_from start end s) ≤ k

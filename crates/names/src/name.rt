@@ -2,7 +2,7 @@
 ghost use Rattle.std.specs.Prelude.{◌≡◌, ◌-◌, take, drop};
 ghost use Rattle.characters.specs.told.Places.{part_from};
 ghost use Rattle.characters.specs.told.Plain.{instead, with_dots, slashed_character};
-ghost use Rattle.names.specs.told.Name.{operation_of, operation_number};
+ghost use Rattle.names.specs.told.Name.{source_numbered, operation_of, operation_number};
 ghost use Rattle.names.specs.Records.{predefined_text};
 ghost use Rattle.names.specs.told.Stream.{listed_text, base_of, change_of, with_dollars, changed};
 
@@ -14,6 +14,22 @@ pub enum Source {
     Payload,
     Predefined,
     D2,
+}
+
+impl Source {
+    // By its number: 1, 2 and 3 in this order. A name whose number is another has no source, so that it is absent.
+    // Kept public for callers that have a number; the crates here name the variants.
+    // No `From<u8>`: not every number is a source.
+    pub fn of(number: u8) -> Option<Source>
+        ensures { result ≡ source_numbered number }
+    {
+        match number {
+            1 => Some(Source::Payload),
+            2 => Some(Source::Predefined),
+            3 => Some(Source::D2),
+            _ => None,
+        }
+    }
 }
 
 // What a record's operation does to the characters of a name: nothing; / and $ become dots; $ alone does.

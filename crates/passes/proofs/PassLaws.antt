@@ -19,7 +19,9 @@ use Rattle.encoding.proofs.OutcomeLaws.{limited-within, limited-arm, told-inside
 use Rattle.encoding.proofs.EncodingLaws.{decoded-length}
 use Rattle.declarations.specs.Payload.{payload}
 use Rattle.declarations.specs.told.PayloadTold.{LentRoom, LentTold}
+use Rattle.declarations.specs.declared.payload.Opened.{Opened}
 use Rattle.std.proofs.Common.{Result, Ok, Err}
+use Rattle.wire.specs.declared.WireError.{WireError}
 use Rattle.schema.specs.declared.Stop.TheVariants as stop
 use Rattle.names.specs.declared.records.IndexError.{IndexError}
 use Rattle.names.specs.declared.records.IndexError.TheVariants as index
@@ -35,6 +37,19 @@ use Rattle.passes.specs.declared.Reply.{Reply}
 use Rattle.passes.specs.declared.PassError.{PassError}
 use Rattle.passes.specs.declared.PassError.TheVariants as first
 use Rattle.passes.proofs.TaskLaws.{reply_refused}
+
+-- What neither gives what was asked for nor is refused had no room.
+pub opened-left : (r : Result Opened IndexError) → ((o : Opened) → r ≡ Ok o → ⊥) → ((error : WireError) → r ≡ Err (index.Wire error) → ⊥)
+    → r ≡ Err index.NoRoom
+opened-left (Ok o) k l = absurd (k o refl)
+opened-left (Err index.NoRoom) k l = refl
+opened-left (Err (index.Wire error)) k l = absurd (l error refl)
+
+pub first-left : (r : Result Reply PassError) → ((reply : Reply) → r ≡ Ok reply → ⊥) → ((refusal : Refusal) → r ≡ Err (first.Refused refusal) → ⊥)
+    → r ≡ Err first.NoRoom
+first-left (Ok reply) k l = absurd (k reply refl)
+first-left (Err (first.Refused refusal)) k l = absurd (l refusal refl)
+first-left (Err first.NoRoom) k l = refl
 
 -- What d1 is decoded to.
 module _ (asked : Asked) (d1 d2 ends before after : List ℕ) (answer : Decoded) (k : InLimits d1 d2 ends) (t : DecodeTold (encoding.limited d1) before after answer) where

@@ -218,6 +218,7 @@ fn read_in(
     areas: &mut AreaPair<'_>,
 ) -> Result<Reply, Refusal>
     requires { Limited (lent context.now) × LentAt (lent context.now) at }
+    ensures scratch_kept { AreasKept scratch.old scratch.new }
     ensures areas_kept { AreasKept areas.old areas.new }
     ensures written { OnAreas (TaskTold asked (lent_reading (kind_number asked.kind) (lent context.now)) result) areas.old areas.new }
 {
@@ -243,6 +244,7 @@ fn open_in(
     areas: &mut AreaPair<'_>,
 ) -> Result<Reply, PassError>
     requires { InLimits bytes.old units.now.d2.now units.now.ends.now }
+    ensures scratch_kept { AreasKept scratch.old scratch.new }
     ensures areas_kept { AreasKept areas.old areas.new }
     ensures written { OnAreas (PassedTold asked (payload (kind_number asked.kind) (strings units.now.d2.now units.now.ends.now) bytes.old) (LentRoom bytes.old notes.new) result) areas.old areas.new }
 {
@@ -273,6 +275,7 @@ pub fn decode_in(
     areas: &mut AreaPair<'_>,
 ) -> Result<Reply, PassError>
     requires { InLimits units.now.d1.now units.now.d2.now units.now.ends.now }
+    ensures scratch_kept { AreasKept scratch.old scratch.new }
     ensures areas_kept { AreasKept areas.old areas.new }
     ensures written { OnAreas (PassedTold asked (reading_of (kind_number asked.kind) units.now.d1.now units.now.d2.now units.now.ends.now) (FrameRoom units.now.d1.now bytes.new notes.new) result) areas.old areas.new }
 {

@@ -52,7 +52,7 @@ pub fn deepest_of<'a>(
         return bytes;
     }
     let deepest = &mut spare[..size];
-    deepest.copy_from_slice(bytes);
+    sheet::put_all(deepest, 0, bytes);
     let context = Context {
         payload: bytes,
         deepest: bytes,

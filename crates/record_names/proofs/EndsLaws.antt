@@ -9,7 +9,7 @@ use native.Mathlib.Omega.{arith}
 use lib.Dec.{eqb}
 use lib.ListN.{length, take, drop, length-drop, drop_of_length-le}
 use Rattle.std.specs.Prelude.{if◌then◌else◌, Some, None}
-use Rattle.foundation.specs.Choices.{map_option}
+use Rattle.foundation.specs.Choices.{if_some, map_option}
 use Rattle.foundation.specs.Texts.{Text}
 use Rattle.characters.specs.Characters.{is_scalar, from_utf8_after, from_utf8}
 use Rattle.characters.specs.told.Places.{part_from}
@@ -59,10 +59,10 @@ module _ (f : ℕ → ℕ) where
   dropped-map DescToClassId t = ends-map t
 
 -- So what an operation drops can be dropped before the replacement.
-pub steps_dropped : (replaced : Option (ℕ × ℕ)) (op : ℕ) (t : Text) → with_steps replaced op t ≡ turned_steps replaced (operation_of op) (dropped (operation_of op) t)
+pub text-dropped : (replaced : Option (ℕ × ℕ)) (op : ℕ) (t : Text) → with_steps replaced op t ≡ turned_steps replaced (operation_of op) (dropped (operation_of op) t)
 unfolding replace_of
-steps_dropped none op t = ap some (operated-is op t)
-steps_dropped (some n) op t = go (is_scalar n.0) (is_scalar n.1)
+text-dropped none op t = ap some (operated-is op t)
+text-dropped (some n) op t = go (is_scalar n.0) (is_scalar n.1)
   where
     go : (a b : Bool)
         → map_option (operated op) (if a && b then some (substituted n.0 n.1 t) else none)
@@ -72,6 +72,12 @@ steps_dropped (some n) op t = go (is_scalar n.0) (is_scalar n.1)
         (operated-is op (substituted n.0 n.1 t) ∙ ap (turned (operation_of op)) (dropped-map (λ c. if eqb c n.0 then n.1 else c) (operation_of op) t))
     go true false = refl
     go false b = refl
+
+-- and so of a text that may be absent
+pub steps_dropped : (replaced : Option (ℕ × ℕ)) (op : ℕ) (text : Option Text)
+    → if_some text none (with_steps replaced op) ≡ if_some (map_option (dropped (operation_of op)) text) none (turned_steps replaced (operation_of op))
+steps_dropped replaced op none = refl
+steps_dropped replaced op (some t) = text-dropped replaced op t
 
 -- The last character of some bytes.
 module _ (s : List ℕ) where
@@ -88,6 +94,16 @@ module _ (s : List ℕ) where
     begins-end e =
         let z : length (drop at s) ≡ 0 = ap length (utf8-none s at e) in
         go s (λ l. omega (arith, i.inside l, length-drop at s))
+      where
+        go : (l : List ℕ) → (0 < length l → ⊥) → l ≡ []
+        go [] f = refl
+        go (b ∷ l) f = absurd (f (omega arith))
+
+    pub begins-never : at < length s → utf8_at at (drop at s) ≡ None → s ≡ []
+    begins-never h e = begins-end e
+
+    pub begins-past : length s ≤ at → s ≡ []
+    begins-past h = go s (λ l. omega (arith, i.inside l))
       where
         go : (l : List ℕ) → (0 < length l → ⊥) → l ≡ []
         go [] f = refl

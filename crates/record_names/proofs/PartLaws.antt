@@ -2,25 +2,25 @@
 -- Assumes nothing.
 use mathlib.Core.Path.{◌≡◌, refl, ap, sym, ◌∙◌, subst}
 use mathlib.Core.Logic.{inl, inr}
-use mathlib.Core.Bool.{Bool, true, false, ◌&&◌}
+use mathlib.Core.Bool.{Bool, true, false, ◌&&◌, ◌||◌}
 use mathlib.Core.List.{List, [], ◌∷◌}
 use mathlib.Core.Option.{Option, none, some}
-use Prim.Native.Nat.{ℕ, ◌+◌, ◌-◌, ◌≤◌, ◌<◌}
+use Prim.Native.Nat.{ℕ, ◌+◌, ◌-◌, ◌^◌, ◌≤◌, ◌<◌}
 use native.Mathlib.Omega.{arith}
 use borrow.Author.Tests.{lt-ltb, le-ltb, eqb-true, ltb-true, leb-true}
 use lib.Dec.{eqb, leb, ltb}
 use lib.ListN.{length, drop, length-drop}
 use Rattle.std.specs.Prelude.{if◌then◌else◌, MatchOption, Some, None}
-use Rattle.foundation.specs.Choices.{if_some, map_option, IfSome}
+use Rattle.foundation.specs.Choices.{if_some, is_some, map_option, IfSome}
 use Rattle.foundation.specs.Texts.{Text}
 use Rattle.foundation.proofs.ChoiceLaws.{and_right}
-use Rattle.messages.specs.told.Asked.{PieceInside}
+use Rattle.messages.specs.told.Asked.{piece_told, PieceInside, index_told}
 use Rattle.messages.specs.declared.repeated.Two.{Two}
 use Rattle.messages.specs.declared.repeated.Two.TheVariants.{Neither, One, Both}
 use Rattle.characters.specs.Characters.{is_scalar, from_utf8}
 use Rattle.characters.specs.told.Places.{part_from, place_of}
 use Rattle.characters.specs.told.CharactersTold.{place_told}
-use Rattle.characters.proofs.PartLaws.{part-part, rest-is}
+use Rattle.characters.proofs.PartLaws.{part-part, part-short, rest-is}
 use Rattle.characters.specs.Splits.{substring_of}
 use Rattle.characters.proofs.TestLaws.{under, above}
 use Rattle.characters.proofs.TestLaws.{within as between-is}
@@ -30,14 +30,15 @@ use Rattle.names.specs.Records.{base_text, text_of, predefined_text, substituted
 use Rattle.names.specs.told.Name.{predefined_list, operation_of, turned, dropped, OfBytes, source_text, named_text, name_text}
 use Rattle.names.specs.told.RecordTold.{both_numbers, record_told}
 use Rattle.names.specs.told.Stream.{listed_text, base_of}
-use Rattle.record_names.specs.told.Steps.{SubstringTold, base_in, text_in, BaseTold, StepTold, LeftTold, with_steps, turned_steps}
+use Rattle.record_names.specs.told.Steps.{SubstringTold, PieceFits, base_in, text_in, BaseTold, StepTold, LeftTold, with_steps, turned_steps}
 use Rattle.names.specs.declared.name.Name.{Name}
 use Rattle.names.specs.declared.name.Source.{Source}
 use Rattle.names.specs.declared.name.Source.TheVariants.{Payload, Predefined, D2}
 use Rattle.names.specs.declared.name.Operation.{Operation}
+use Rattle.names.specs.declared.name.Operation.TheVariants.{Nothing, InternalToClassId, DescToClassId}
 use Rattle.names.specs.declared.records.Record.{Record}
 use Rattle.record_names.specs.told.Ends.{EndsTold}
-use Rattle.record_names.proofs.EndsLaws.{steps_dropped}
+use Rattle.record_names.proofs.EndsLaws.{text-dropped}
 use Rattle.foundation.specs.declared.Span.{Span}
 use Rattle.std.specs.declared.option.Option as rust
 use Rattle.std.specs.Option as options
@@ -128,7 +129,13 @@ module _ (from : ℕ) (index : rust.Option ℕ) {string : rust.Option Span} wher
       rw g (ap (λ (l : List ℕ). some (from_utf8 l)) (part-part payload from end p.start p.end i.0 i.1))
 
   module _ (g : string ≡ None) where
+    pub base-nothing : index ≡ None → BaseTold from string index None
+    base-nothing i payload d2 end h = rw (g, i)
+
     module _ {n : ℕ} (i : index ≡ Some n) (r : rust.Option Span) (e : listed_text r ≡ predefined_text n) where
+      pub base-past : r ≡ None → BaseTold from string index None
+      base-past q payload d2 end h = rw (g, i, ← e, q)
+
       pub base-listed : {p : Span} → r ≡ Some p → BaseTold from string index (Some record { source = Predefined; part = p; no_units = λ e. subst OfBytes e tt })
       unfolding source_text
       base-listed q payload d2 end h = rw (g, i, ← e, q)
@@ -166,6 +173,27 @@ module _ (payload s : List ℕ) (base : Base) (e : s ≡ part_from base.part.sta
 
   pub inner_cut : {p : Span} → EndsTold s (Some p) → LeftTold payload base without_ends (inner p)
   inner_cut {p} t d2 = rw (all-of d2) (t.0 ∙ sym (inner-is p t.1 t.2 d2))
+
+  pub inner-ends : {p : Span} → EndsTold s (Some p) → (p.start ≤ p.end) × (p.end ≤ base.part.end - base.part.start)
+  inner-ends t = (t.1, omega (arith, t.2, ap length e, part-short whole base.part.start base.part.end))
+
+-- The part that an operation leaves.
+module _ (payload : List ℕ) (base : Base) where
+  pub left-whole : (op : Operation) → (op ≡ DescToClassId → ⊥) → LeftTold payload base (dropped op) base
+  left-whole Nothing f d2 = refl
+  left-whole InternalToClassId f d2 = refl
+  left-whole DescToClassId f d2 = absurd (f refl)
+
+  pub left-inner : (op : Operation) → op ≡ DescToClassId → (r : Base) → LeftTold payload base without_ends r → LeftTold payload base (dropped op) r
+  left-inner op e r t = subst (λ (o : Operation). LeftTold payload base (dropped o) r) (sym e) t
+
+-- The substring of a record, if it has one.
+pub sub_both : (payload : List ℕ) (base : Base) {two : Two} {a b : ℕ} (r : rust.Option Base) → two ≡ Both a b
+    → StepTold payload (substring_of a b) base r → StepTold payload (stepped substring_of (both_numbers two)) base r
+sub_both payload base r e t = rw e t
+
+pub sub_none : (payload : List ℕ) (base : Base) (two : Two) → both_numbers two ≡ none → StepTold payload (stepped substring_of (both_numbers two)) base (Some base)
+sub_none payload base two e d2 = rw e
 
 -- Replacement, and what an operation turns into dots.
 pub same-substituted : (t : Text) → substituted 0 0 t ≡ t
@@ -240,5 +268,18 @@ module _ (payload : List ℕ) (from : ℕ) (read : Record) (x : rust.Option Base
         e
         ∙ ap (turned_steps told.replaced k) (sym (l d2))
         ∙ ap (λ (i : Operation). turned_steps told.replaced i (dropped i (base_in payload d2 part))) o
-        ∙ sym (steps_dropped told.replaced told.operation (base_in payload d2 part))
+        ∙ sym (text-dropped told.replaced told.operation (base_in payload d2 part))
         ∙ sym (text-is told ∙ ap (λ (o : Option Text). if_some o none (with_steps told.replaced told.operation)) (part-is ∙ ap (text_in payload d2) q))
+
+-- Whether a record decides.
+module _ (string : rust.Option Span) (index : rust.Option ℕ) (from : ℕ) (s : List ℕ) where
+  pub decides-string : {p : Span} → string ≡ Some p → true ≡ is_some (piece_told from s string) || is_some (index_told index)
+  decides-string e = rw e
+
+  pub decides-index : {b : Bool} → string ≡ None → b ≡ is_some (index_told index) → b ≡ is_some (piece_told from s string) || is_some (index_told index)
+  decides-index e g = rw e g
+
+-- A piece of a part of some bytes has places among them.
+pub piece-fits : (bytes : List ℕ) (start end : ℕ) → start ≤ end → end < 2 ^ 64 → (p : rust.Option Span) → PieceInside (part_from start end bytes) p → PieceFits start p
+piece-fits bytes start end h l (Some p) i = (i.0, omega (arith, i.1, part-short bytes start end))
+piece-fits bytes start end h l None i = tt

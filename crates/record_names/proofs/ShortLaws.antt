@@ -18,16 +18,35 @@ use Rattle.wire.specs.Messages.{values, first_of, as_body, varint_of, index, byt
 use Rattle.wire.proofs.FieldLaws.{value-varint, number_fine, field-value}
 use Rattle.wire.proofs.WalkLaws.{ok_same}
 use Rattle.characters.specs.told.Places.{part_from}
+use Rattle.messages.specs.told.Asked.{piece_told, index_told}
 use Rattle.characters.proofs.UnitLaws.{units-ended, units-cons}
 use Rattle.names.specs.Records.{record_of, decides, predefined_text, base_text, operated, text_of}
+use Rattle.names.specs.told.RecordTold.{RecordTold}
 use Rattle.names.specs.told.Name.{turned, source_text, named_text, plain}
 use Rattle.names.specs.told.Stream.{listed_text}
 use Rattle.record_names.specs.told.Named.{PredefinedTold, NamedTold}
+use Rattle.record_names.specs.told.Steps.{BuiltTold}
 use Rattle.names.specs.declared.name.Name.{Name}
 use Rattle.names.specs.declared.name.Source.TheVariants.{Predefined}
+use Rattle.names.specs.declared.records.Record.{Record}
 use Rattle.foundation.specs.declared.Span.{Span}
 use Rattle.std.specs.declared.option.Option as rust
 use Rattle.record_names.proofs.PartLaws.{same-substituted}
+
+-- Any record, as it was read.
+module _ (bytes : List ℕ) (start end : ℕ) (read : Record) (r : RecordTold start (part_from start end bytes) read)
+    {b : Bool} (d : (base : ℕ) (s : List ℕ) → b ≡ is_some (piece_told base s read.string) || is_some (index_told read.predefined)) where
+  by-it : (m : Message) → cut (◌from◌ start (part_from start end bytes)) ≡ ok m → decides (record_of m) ≡ b
+  by-it m w = ap decides (r.is m w) ∙ sym (d start (part_from start end bytes))
+
+  pub named-decided : b ≡ true → {name : rust.Option Name} → BuiltTold bytes start read name → NamedTold bytes start end (Some name)
+  named-decided c n = record {
+    made = n.bytes;
+    is = λ m w units. (by-it m w ∙ c, ap text_of (r.is m w) ∙ sym (n.is units end r.inside));
+  }
+
+  pub named-undecided : b ≡ false → NamedTold bytes start end None
+  named-undecided c = record { made = tt; is = λ m w units. by-it m w ∙ c }
 
 -- A predefined string as a name.
 module _ {index : ℕ} {l : rust.Option Span} (e : listed_text l ≡ predefined_text index) where

@@ -2,13 +2,13 @@
 -- Assumes nothing.
 use mathlib.Core.Path.{◌≡◌, refl, ap, sym, ◌∙◌}
 use mathlib.Core.Bool.{Bool, true, false}
-use Prim.Native.Nat.{ℕ, ◌+◌, ◌*◌, ◌/◌, ◌%◌, ◌≤◌, ◌<◌}
+use Prim.Native.Nat.{ℕ, ◌+◌, ◌-◌, ◌*◌, ◌/◌, ◌%◌, ◌≤◌, ◌<◌}
 use native.Mathlib.Omega.{arith}
 use native.Mathlib.Nat.{mod-eq_of_lt}
-use borrow.Author.Tests.{ne_eqb}
+use borrow.Author.Tests.{eq-eqb, ne_eqb}
 use lib.Dec.{eqb}
 use Rattle.std.specs.Prelude.{if◌then◌else◌, Option, Some, None}
-use Rattle.record_names.specs.told.Note.{source_kind, source_of, noted_part, noted_name, noted, class_of, noted_class, NameFits}
+use Rattle.record_names.specs.told.Note.{source_kind, source_of, noted_part, noted_name, noted, class_size, class_of, noted_class, NameFits}
 use Rattle.names.specs.told.Name.{operation_of, operation_number, OfBytes}
 use Rattle.names.specs.declared.name.Name.{Name}
 use Rattle.names.specs.declared.name.Source.{Source}
@@ -129,6 +129,24 @@ module _ (n : Name) (q : Span) (place steps : ℕ) (h : NameFits n) (ha : q.star
         rw (z, o) (ap (λ (m : Name). Some (Some m)) name-is),
         rw (z, o) (ap (λ (p : Span). Some (Some (class_of (noted_name place steps) p))) c ∙ ap (λ (m : Name). Some (Some (class_of m q))) name-is),
       )
+
+-- Words taken apart.
+module _ (place steps : ℕ) where
+  pub noted-none : steps % 4 ≡ 0 → None ≡ noted place steps
+  unfolding noted
+  noted-none h = rw (eq-eqb (steps % 4) 0 h)
+
+  pub noted-some : (steps % 4 ≡ 0 → ⊥) → (steps % 4 ≡ 1 → ⊥) → Some (Some (noted_name place steps)) ≡ noted place steps
+  unfolding noted
+  noted-some h k = rw (ne_eqb (steps % 4) 0 h, ne_eqb (steps % 4) 1 k)
+
+-- The size of a class name.
+module _ (size start first : ℕ) where
+  pub class_same : first ≡ start → size ≡ class_size size start first
+  class_same e = rw (eq-eqb first start e)
+
+  pub class-less : (first ≡ start → ⊥) → {r : ℕ} → r ≡ size - 2 → r ≡ class_size size start first
+  class-less h e = rw (ne_eqb first start h) e
 
 -- The class name, by the name.
 module _ (place steps : ℕ) where

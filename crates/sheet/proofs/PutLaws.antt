@@ -10,8 +10,9 @@ use Rattle.foundation.specs.Digits.{little}
 use Rattle.foundation.proofs.DigitLaws.{length_digits}
 use Rattle.foundation.proofs.OverlayLaws.{sets_append, sets_patch, sets_front}
 use Rattle.sheet.specs.declared.State.{State}
+use Rattle.sheet.specs.declared.Output.{Output}
 use Rattle.sheet.specs.Rows.{Cell, num, Row, row, cell_bytes, cell_text, body_bytes, body_text, sheet_from, texts}
-use Rattle.sheet.specs.told.Put.{Put, PutCells, PutHead, PutRows, past}
+use Rattle.sheet.specs.told.Put.{Put, PutCells, PutHead, PutRows, SameAreas, past}
 use Rattle.sheet.proofs.RowLaws.{body_text-append, texts-append, body_bytes-append, sheet-append, row-split, texts-split, cell_length, cell-length}
 
 -- where a step's bytes and text end
@@ -36,6 +37,10 @@ module _ {sh tx : List ℕ} {b : ℕ} {s s' : State} {S S' T T' : List ℕ} (p :
 
 pub put_none : (s : State) (S T : List ℕ) → Put [] [] s.types s s S S T T
 put_none s S T = record { state = simp add-zero; sheet = refl; text = refl }
+
+-- two steps that each keep the two areas and their lengths
+pub areas_then : (o o₁ o₂ : Output) → SameAreas o o₁ → SameAreas o₁ o₂ → SameAreas o o₂
+areas_then o o₁ o₂ h k = (k.0 ∙ h.0, k.1 ∙ h.1, k.2 ∙ h.2, k.3 ∙ h.3)
 
 -- a step after another
 pub put_then : {sh sh' tx tx' : List ℕ} {b b' : ℕ} {s s₁ s₂ : State} {S S₁ S₂ T T₁ T₂ : List ℕ}

@@ -3,7 +3,7 @@
 // In the contracts `sets l i vs` is the list l with vs written over it from place i on.
 #![tactic(auto)]
 
-ghost use Rattle.std.specs.Prelude.{◌≡◌, ◌+◌};
+ghost use Rattle.std.specs.Prelude.{◌≡◌, ◌+◌, ◌≤◌, length};
 ghost use Rattle.std.proofs.lemmas.List.Edits.{sets};
 ghost use Rattle.foundation.specs.Digits.{little};
 ghost use Rattle.sheet.specs.Rows.{one_if, present_bytes, absent_bytes};
@@ -41,6 +41,17 @@ pub fn put_number(area: &mut [u8], at: usize, width: usize, n: u64)
     }
 }
 
+// All of `src`, where there is room for it.
+// A loop, and no `copy_from_slice`: that is `memmove`, which the archive for C would ask whoever links it for.
+fn copy_in(area: &mut [u8], at: usize, src: &[u8])
+    requires { at + length src.now ≤ length area.old }
+    ensures { area.new ≡ sets area.old at src.now }
+{
+    for (i, byte) in src.iter().enumerate() {
+        area[at + i] = *byte;
+    }
+}
+
 // All of `src`, or what there is room for.
 pub fn put_all(area: &mut [u8], at: usize, src: &[u8])
     ensures { area.new ≡ sets area.old at src.now }
@@ -49,7 +60,7 @@ pub fn put_all(area: &mut [u8], at: usize, src: &[u8])
         return;
     }
     let size = src.len().min(area.len() - at);
-    area[at..at + size].copy_from_slice(&src[..size]);
+    copy_in(area, at, &src[..size]);
 }
 
 // A cell that is 0 or 1.

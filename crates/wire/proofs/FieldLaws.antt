@@ -1,6 +1,6 @@
 -- Fixed numbers, bodies, values and fields at a place of a slice: what each reading is by the tests that decide it.
 -- Assumes nothing.
-use mathlib.Core.Path.{◌≡◌, refl, ap, ◌∙◌}
+use mathlib.Core.Path.{◌≡◌, refl, ap, sym, ◌∙◌}
 use mathlib.Core.Bool.{true, false}
 use mathlib.Core.List.{List, [], ◌∷◌}
 use mathlib.Core.Logic.{⊎_elim}
@@ -11,11 +11,11 @@ use borrow.Author.Tests.{lt-ltb, le-ltb, ne_eqb}
 use lib.Dec.{ltb}
 use lib.ListN.{length, take, drop, get_or, length-take, length-drop}
 use lib.Seq.{drop-drop, get_or-drop}
-use Rattle.foundation.specs.Results.{Res, refused, Cause, past_its_message, field_too_large, forbidden_field, wire_type, Part, got, map_got}
+use Rattle.foundation.specs.Results.{Res, refused, Cause, past_its_message, field_too_large, forbidden_field, wire_type, Part, Got, got, map_got}
 use Rattle.foundation.specs.Digits.{number}
 use Rattle.foundation.proofs.ResultLaws.{gives-ok}
 use Rattle.wire.specs.Wire.{read_varint, read_delimited, read_fixed, read_value, read_field, varint, fixed, body, field, is_field_number}
-use Rattle.wire.specs.told.WireTold.{wire_refused, rest_of, part_between, ReadAt, ValueTold, FieldTold}
+use Rattle.wire.specs.told.WireTold.{wire_refused, rest_of, part_between, ReadAt, varint_told, ValueTold, FieldTold}
 use Rattle.wire.specs.declared.WireError.{WireError}
 use Rattle.wire.specs.declared.WireError.TheVariants.{VarintCutShort}
 use Rattle.wire.specs.declared.WireValue.{WireValue}
@@ -68,6 +68,14 @@ module _ (base : ℕ) (s : List ℕ) (at : ℕ) where
       ∙ rw (e, drop-drop, add_assoc)
 
   -- the code's answer to a varint there
+  module _ {r : Result (Read ℕ) WireError} (e : read_varint (rest_of base s at) ≡ varint_told base s r) where
+    pub varint-is : {x : Read ℕ} → r ≡ Ok x → read_varint (rest_of base s at) ≡ got x.value (rest_of base s x.next)
+    varint-is g = e ∙ ap (varint_told base s) g
+
+    -- err is the error that the answer holds
+    pub varint-refused : {error err : WireError} → r ≡ Err error → err ≡ error → read_varint (rest_of base s at) ≡ wire_refused err
+    varint-refused g h = e ∙ ap (varint_told base s) g ∙ ap (wire_refused {A = Got ℕ}) (sym h)
+
   module _ (x : Read ℕ) (e : read_varint (rest_of base s at) ≡ got x.value (rest_of base s x.next)) where
     pub varint-inside : at ≤ length s → (at + 1 ≤ x.next) × (x.next ≤ length s)
     varint-inside h = after-inside base s at x.next h (gives-ok (λ a. After 1 (rest_of base s at) a.1) e (varint-after (rest_of base s at)))

@@ -1,22 +1,22 @@
 -- Fields whose tag and the varint after it have one or two bytes each: read at once, and skipped in a row.
 -- Assumes nothing.
-use mathlib.Core.Path.{◌≡◌, refl, ap, sym, ◌∙◌}
+use mathlib.Core.Path.{◌≡◌, refl, ap, sym, ◌∙◌, subst}
 use mathlib.Core.Bool.{true}
 use mathlib.Core.List.{List, [], ◌∷◌, ◌++◌, append_assoc}
 use Prim.Native.Nat.{ℕ, ◌+◌, ◌-◌, ◌*◌, ◌/◌, ◌%◌, ◌≤◌, ◌<◌}
 use native.Mathlib.Omega.{arith}
 use lib.ListN.{length, get_or}
-use Rattle.std.specs.Prelude.{Some, Ok}
+use Rattle.std.specs.Prelude.{Option, Some, Ok}
 use Rattle.foundation.specs.Results.{Res, ok, refused, ◌>>=◌, Part, map_got}
-use Rattle.wire.specs.Wire.{varint, body, field, is_field_number, Message, cut}
+use Rattle.wire.specs.Wire.{varint, body, field, is_field_number, read_field, Message, cut}
 use Rattle.wire.specs.Messages.{values}
-use Rattle.wire.specs.told.WireTold.{rest_of, value_of, told_field, ShortRead, ShortField, Skips, SkipTold, FieldsNext}
+use Rattle.wire.specs.told.WireTold.{rest_of, value_of, told_field, FieldTold, ShortRead, ShortPair, ShortTold, ShortField, Skips, SkipTold, FieldsNext}
 use Rattle.wire.specs.declared.WireValue.TheVariants as wire
 use Rattle.wire.specs.declared.Field as code
 use Rattle.foundation.specs.declared.Read.{Read}
 use Rattle.wire.proofs.VarintLaws.{one_byte, two_bytes}
 use Rattle.wire.proofs.FieldLaws.{value-varint, value-body, number_fine, field-value, delimited-there}
-use Rattle.wire.proofs.WalkLaws.{cut_field, bind_ok, Leads, values-passed}
+use Rattle.wire.proofs.WalkLaws.{cut_field, field-inside, bind_ok, Leads, values-passed}
 use Rattle.wire.proofs.MessageLaws.{values-append}
 
 -- a varint of one or two bytes
@@ -27,6 +27,14 @@ module _ (s : List ℕ) (at : ℕ) {b : ℕ} (e : b ≡ get_or s at 0) where
   pub short-two : {c : ℕ} → at + 1 < length s → 128 ≤ b → c ≡ get_or s (at + 1) 0 → c < 128
       → ShortRead s at (record { value = c * 128 + b % 128; next = at + 1 + 1 })
   short-two h l f k = record { later = omega arith; inside = omega arith; small = omega arith; is = λ base. two_bytes base s at h e l f k }
+
+-- the tag and the varint after it, by the code's answers
+pub short-field : (s : List ℕ) (at : ℕ) {t v : Option (Read ℕ)} {tag first : Read ℕ} → ShortTold s at t → t ≡ Some tag → ShortTold s tag.next v → v ≡ Some first
+    → ShortPair s at tag first
+short-field s at {tag = tag} {first = first} p g q k =
+    let a : ShortRead s at tag = subst (ShortTold s at) g p in
+    let b : ShortRead s tag.next first = subst (ShortTold s tag.next) k q in
+    record { later = a.later; ends = b.later; inside = b.inside; small = a.small; first_small = b.small; is-tag = a.is; is-first = b.is }
 
 -- A field whose tag and the varint after it are read so.
 module _ (s : List ℕ) (at : ℕ) {tag first : Read ℕ} (t : ShortRead s at tag) (v : ShortRead s tag.next first) (z : 8 ≤ tag.value) where
@@ -96,18 +104,25 @@ module _ (s ks : List ℕ) {at mid next : ℕ} where
   }
 
 -- one field that the code has read
-pub skip-field : (s ks : List ℕ) (at : ℕ) {x : Read code.Field} → ShortField s at x → ((i : ℕ) → i < length ks → x.value.number ≡ get_or ks i 0 → ⊥)
-    → SkipTold s ks at x.next
+pub skip-field : (s ks : List ℕ) (at : ℕ) (x : Read code.Field) → ((base : ℕ) → FieldTold base s (read_field (rest_of base s at)) (Ok x)) → at < length s
+    → ((i : ℕ) → i < length ks → x.value.number ≡ get_or ks i 0 → ⊥) → SkipTold s ks at x.next
 unfolding values
-skip-field s ks at {x} f d = record {
-  later = omega (arith, f.later);
-  inside = omega (arith, f.inside, f.later);
-  is = λ base. record {
-    fields = told_field base s x.value ∷ [];
-    others = λ i h. values-passed (get_or ks i 0) (value_of base s x.value.value) [] (d i h);
-    cuts = cut_field base s at x (f.is base) (omega (arith, f.later, f.inside));
-  };
-}
+skip-field s ks at x e h d =
+    let i = field-inside 0 s at x (e 0) (omega arith) in
+    record {
+      later = omega (arith, i);
+      inside = omega (arith, i);
+      is = λ base. record {
+        fields = told_field base s x.value ∷ [];
+        others = λ i h. values-passed (get_or ks i 0) (value_of base s x.value.value) [] (d i h);
+        cuts = cut_field base s at x (e base) h;
+      };
+    }
+
+-- one that it has read the short way
+pub skip-short : (s ks : List ℕ) (at : ℕ) {x : Read code.Field} → ShortField s at x → ((i : ℕ) → i < length ks → x.value.number ≡ get_or ks i 0 → ⊥)
+    → SkipTold s ks at x.next
+skip-short s ks at {x} f d = skip-field s ks at x f.is (omega (arith, f.later, f.inside)) d
 
 -- what holds from the place after them holds from the first
 module _ (base : ℕ) {s ks : List ℕ} {at next : ℕ} (t : SkipTold s ks at next) (i : ℕ) (h : i < length ks) where

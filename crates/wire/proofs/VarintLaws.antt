@@ -4,7 +4,7 @@ use mathlib.Core.Path.{◌≡◌, refl, ap, sym, ◌∙◌}
 use mathlib.Core.List.{List, [], ◌∷◌, ◌++◌, append_assoc}
 use Prim.Native.Nat.{ℕ, zero, suc, ◌+◌, ◌-◌, ◌*◌, ◌%◌, ◌^◌, ◌≤◌, ◌<◌}
 use native.Mathlib.Nat.{add_assoc, mul_comm, mul-le-mul_right}
-use native.Mathlib.Numerals.{add-one}
+use native.Mathlib.Numerals.{add-one, sub-one}
 use native.Mathlib.Omega.{arith}
 use borrow.Author.Tests.{lt-ltb, le-ltb}
 use lib.Dec.{ltb}
@@ -114,6 +114,15 @@ group_tenth k b e = rw e
 
 pub group-early : (k b : ℕ) → k < 10 → (k ≡ 9 → ⊥) → b % 128 ≡ group (9 - k) b
 group-early k b h d = let e : 9 - k ≡ suc (8 - k) = omega arith in rw e
+
+-- digits joined, the highest first
+pub number_down : (b : ℕ) (xs : List ℕ) (left : ℕ) {d : ℕ} → 0 < left → left ≤ length xs → d ≡ get_or xs (left - 1) 0
+    → number b (drop left xs) * b + d ≡ number b (drop (left - 1) xs)
+number_down b xs zero h l e = absurd (omega arith)
+number_down b xs (suc k) {d} h l e =
+    let same : get_or xs k 0 ≡ d = sym (rw sub-one at e) in
+    let n = number b (drop (suc k) xs) in
+    rw (sub-one, drop-cons xs k 0 l, same) (omega (arith, mul_comm n b))
 
 -- the higher digits are a smaller number than all
 pub number-part : (b : ℕ) (rest done : List ℕ) → 0 < b → number b done ≤ number b (rest ++ done)

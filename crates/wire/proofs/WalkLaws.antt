@@ -7,15 +7,15 @@ use native.Mathlib.Nat.{add-zero}
 use native.Mathlib.Omega.{arith}
 use borrow.Author.Tests.{eq-eqb, ne_eqb}
 use lib.ListN.{length, drop, length-drop}
-use Rattle.foundation.specs.Results.{Res, ok, refused, ◌>>=◌, Part, ◌from◌}
+use Rattle.foundation.specs.Results.{Res, ok, refused, ◌>>=◌, Part, ◌from◌, got}
 use Rattle.foundation.proofs.ResultLaws.{gives-ok}
 use Rattle.wire.specs.Wire.{Value, field, read_field, Message, cut}
 use Rattle.wire.specs.Messages.{values}
-use Rattle.wire.specs.told.WireTold.{wire_refused, rest_of, told_field, FieldTold}
+use Rattle.wire.specs.told.WireTold.{wire_refused, rest_of, Inside, told_field, FieldTold}
 use Rattle.wire.specs.declared.WireError.{WireError}
 use Rattle.wire.specs.declared.Field as code
 use Rattle.foundation.specs.declared.Read.{Read}
-use Rattle.std.specs.Prelude.{Ok, Err}
+use Rattle.std.specs.Prelude.{Result, Ok, Err}
 use Rattle.wire.proofs.Readers.{After, ReadIn, field-after}
 use Rattle.wire.proofs.Progress.{none_empty, cut_none, cut_next}
 use Rattle.wire.proofs.FieldLaws.{after-inside}
@@ -38,6 +38,11 @@ module _ (base : ℕ) (s : List ℕ) where
   module _ (at : ℕ) where
     pub cut-end : length s ≤ at → cut (rest_of base s at) ≡ ok []
     cut-end h = cut_none (rest_of base s at) (none_empty (drop at s) (rw length-drop (omega arith)))
+
+    -- the code's answer there
+    pub field_is : {r : Result (Read code.Field) WireError} → FieldTold base s (read_field (rest_of base s at)) r → {x : Read code.Field} → r ≡ Ok x
+        → (read_field (rest_of base s at) ≡ got (told_field base s x.value) (rest_of base s x.next)) × Inside s x.value.value
+    field_is e g = subst (FieldTold base s (read_field (rest_of base s at))) g e
 
     -- a field that the code has read there
     module _ (x : Read code.Field) (e : FieldTold base s (read_field (rest_of base s at)) (Ok x)) where

@@ -2,24 +2,24 @@ use mathlib.Core.Path.{sym}
 use Prim.Native.Nat.{ℕ, ◌<◌}
 use lib.ListN.{get_or}
 use lib.Seq.{length-take-le}
-use Rattle.answer_lines.proofs.AnswerLaws.{entry_inside, part-short, wrote_read, wrote_refused, zeros-are, signed-handed, version-handed}
+use Rattle.answer_lines.proofs.AnswerLaws.{sizes_inside, part-short, wrote_read, wrote_refused, zeros-are, signed-handed, version-handed}
 use Rattle.answer_lines.proofs.put_read.Goals as goal
 
 pub slice_bounds-sheet-end : goal.slice_bounds-sheet-end
-slice_bounds-sheet-end c = (entry_inside _ _ _ _ c.read.ensures.0 c.in-Ok.is).sheet_in
+slice_bounds-sheet-end c = (sizes_inside _ _ _ _ c.read.ensures.0 c.in-Ok.is).sheet_in
 
 pub slice_bounds-text-end : goal.slice_bounds-text-end
-slice_bounds-text-end c = (entry_inside _ _ _ _ c.read.ensures.0 c.in-Ok.is).text_in
+slice_bounds-text-end c = (sizes_inside _ _ _ _ c.read.ensures.0 c.in-Ok.is).text_in
 
 pub slice_bounds-put_line-end : goal.slice_bounds-put_line-end
-slice_bounds-put_line-end c = sym (length-take-le _ _ (entry_inside _ _ _ _ c.read.ensures.0 c.in-Ok.is).sheet_in)
+slice_bounds-put_line-end c = sym (length-take-le _ _ (sizes_inside _ _ _ _ c.read.ensures.0 c.in-Ok.is).sheet_in)
 
 pub slice_bounds-put_line-end-in-Ok : goal.slice_bounds-put_line-end-in-Ok
-slice_bounds-put_line-end-in-Ok c = sym (length-take-le _ _ (entry_inside _ _ _ _ c.read.ensures.0 c.in-Ok.is).text_in)
+slice_bounds-put_line-end-in-Ok c = sym (length-take-le _ _ (sizes_inside _ _ _ _ c.read.ensures.0 c.in-Ok.is).text_in)
 
 pub put_line-requires : goal.put_line-requires
 put_line-requires c =
-    let h = entry_inside _ _ _ _ c.read.ensures.0 c.in-Ok.is in
+    let h = sizes_inside _ _ _ _ c.read.ensures.0 c.in-Ok.is in
     (part-short c.in-Ok.sizes.sheet c.read.new.sheet h.sheet_in c.read.auto.sheet, part-short c.in-Ok.sizes.text c.read.new.text h.text_in c.read.auto.text)
 
 pub returns-in-Ok : goal.returns-in-Ok

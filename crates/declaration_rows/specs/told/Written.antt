@@ -24,6 +24,7 @@ role_number role.VarargElement = vararg_role
 role_number role.Argument = argument_role
 role_number role.Underlying = underlying_role
 role_number role.Expanded = expanded_role
+role_number (role.Other n) = n
 
 abbrev pub record_number : RecordKind → ℕ
 record_number record_kind.Head = 1

@@ -1,4 +1,5 @@
 use mathlib.Core.Path.{refl}
+use mathlib.Core.Bool.{Bool, true}
 use mathlib.Core.List.{List}
 use Prim.Native.Nat.{ℕ}
 use Rattle.foundation.specs.Texts.{Text}
@@ -13,7 +14,9 @@ unfolding row_at listed_name listed_meaning utf8 utf8_of
 returns c =
     let names : ℕ → List ℕ = _ in
     let meanings : Text → ℕ → Meaning = _ in
+    let tables : ℕ → Bool = _ in
     at_variable c.args.row λ j e. rw e (record {
       name = tabulated names listed_name 36 refl j (rw (← e) c.requires);
       meaning = λ n. tabulated listed_meaning (meanings n) 36 refl j (rw (← e) c.requires);
+      table = tabulated tables (λ k. true) 36 refl j (rw (← e) c.requires);
     })

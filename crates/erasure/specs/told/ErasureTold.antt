@@ -1,10 +1,11 @@
--- What the code's answers tell, in the definitions' words.
+-- What the code's answers tell, in the definitions' words; primitives, classes and fixed parts by their numbers.
 -- Assumes nothing.
 use Rattle.std.specs.Prelude.{◌≡◌, Bool, true, false, ◌||◌, List, [], ◌∷◌, ◌++◌, map, ℕ, ◌+◌, ◌<◌, length, get_or}
 use Rattle.std.specs.Prelude as std
 use Rattle.std.specs.Prelude.{Some, None}
 use Rattle.std.specs.Borrow.{Bor}
 use Rattle.std.proofs.Math.Option.{Option, none, some}
+use Prim.Native.String.{String}
 use Rattle.std.proofs.lemmas.List.Edits.{sets}
 use Rattle.foundation.specs.Choices.{map_option}
 use Rattle.foundation.specs.Texts.{Text, ascii}
@@ -60,7 +61,7 @@ use Rattle.erasure.specs.declared.Printed.TheVariants as prints
 abbrev pub primitives : List Primitive
 primitives = boolean ∷ byte ∷ char ∷ short ∷ int ∷ long ∷ float ∷ double ∷ []
 
--- A primitive, and a class of the table by its name on the JVM.
+-- A primitive, and a class by its name on the JVM.
 abbrev pub primitive_told : code.Primitive → Primitive
 primitive_told of_code.Boolean = boolean
 primitive_told of_code.Byte = byte
@@ -72,6 +73,7 @@ primitive_told of_code.Float = float
 primitive_told of_code.Double = double
 
 abbrev pub class_told : Class → Text
+class_told (classes.Boxed p) = ascii (box (primitive_told p))
 class_told classes.Object = ascii "java/lang/Object"
 class_told classes.String = ascii "java/lang/String"
 class_told classes.CharSequence = ascii "java/lang/CharSequence"
@@ -85,6 +87,43 @@ class_told classes.Collection = ascii "java/util/Collection"
 class_told classes.List = ascii "java/util/List"
 class_told classes.Set = ascii "java/util/Set"
 class_told classes.Map = ascii "java/util/Map"
+class_told classes.Unit = kotlin_unit
+class_told classes.Continuation = ascii "kotlin/coroutines/Continuation"
+
+-- the classes that are printed whatever the input: the boxes, the classes of the table, Unit, and a suspending function's
+abbrev pub fixed_classes : List String
+fixed_classes =
+    "java/lang/Boolean"
+    ∷ "java/lang/Byte"
+    ∷ "java/lang/Character"
+    ∷ "java/lang/Short"
+    ∷ "java/lang/Integer"
+    ∷ "java/lang/Long"
+    ∷ "java/lang/Float"
+    ∷ "java/lang/Double"
+    ∷ "java/lang/Object"
+    ∷ "java/lang/String"
+    ∷ "java/lang/CharSequence"
+    ∷ "java/lang/Throwable"
+    ∷ "java/lang/Number"
+    ∷ "java/lang/Comparable"
+    ∷ "java/lang/Enum"
+    ∷ "java/lang/annotation/Annotation"
+    ∷ "java/lang/Iterable"
+    ∷ "java/util/Collection"
+    ∷ "java/util/List"
+    ∷ "java/util/Set"
+    ∷ "java/util/Map"
+    ∷ "kotlin/Unit"
+    ∷ "kotlin/coroutines/Continuation"
+    ∷ []
+
+-- A primitive and a class by their numbers, past the end the last.
+unfoldable pub primitive_at : ℕ → Primitive
+primitive_at k = get_or primitives k double
+
+unfoldable pub class_at : ℕ → Text
+class_at k = ascii (get_or fixed_classes k "kotlin/coroutines/Continuation")
 
 -- What the code says that a class name n means.
 abbrev pub meaning_told : Text → answer.Meaning → erasure.Meaning
@@ -95,6 +134,31 @@ meaning_told n means.Unit = unit
 meaning_told n means.Nothing = nothing
 meaning_told n (means.Class k) = mapped (class_told k)
 meaning_told n means.Other = mapped n
+
+-- Is a class one of the table's? Any meaning but a class is.
+abbrev pub of_table : answer.Meaning → Bool
+of_table (means.Class (classes.Boxed p)) = false
+of_table (means.Class classes.Object) = true
+of_table (means.Class classes.String) = true
+of_table (means.Class classes.CharSequence) = true
+of_table (means.Class classes.Throwable) = true
+of_table (means.Class classes.Number) = true
+of_table (means.Class classes.Comparable) = true
+of_table (means.Class classes.Enum) = true
+of_table (means.Class classes.Annotation) = true
+of_table (means.Class classes.Iterable) = true
+of_table (means.Class classes.Collection) = true
+of_table (means.Class classes.List) = true
+of_table (means.Class classes.Set) = true
+of_table (means.Class classes.Map) = true
+of_table (means.Class classes.Unit) = false
+of_table (means.Class classes.Continuation) = false
+of_table (means.Primitive p) = true
+of_table (means.PrimitiveArray p) = true
+of_table means.Array = true
+of_table means.Unit = true
+of_table means.Nothing = true
+of_table means.Other = true
 
 -- The answer is right of every name that these bytes write.
 abbrev pub Means : List ℕ → answer.Meaning → Type 0
@@ -119,6 +183,7 @@ CanBe bytes None = (k : ℕ) → k < 36 → bytes ≡ listed_name k → ⊥
 pub record IsRow (k : ℕ) (r : Bor (List ℕ) × answer.Meaning) : Type 0 where
   pub name : r.0.now ≡ listed_name k
   pub meaning : (n : Text) → listed_meaning k ≡ meaning_told n r.1
+  pub table : of_table r.1 ≡ true
 
 -- The erased parts that are printed whatever the input.
 abbrev pub fixed_told : Part → Returned
@@ -129,6 +194,14 @@ fixed_told (parts.Class k) = of_type (class (class_told k))
 fixed_told parts.Unit = of_type (class kotlin_unit)
 fixed_told parts.Continuation = of_type (class (ascii "kotlin/coroutines/Continuation"))
 fixed_told parts.Void = void
+
+-- The same by number: the letters, arrays of them, the fixed classes, and V.
+unfoldable pub fixed_part : ℕ → Returned
+fixed_part k =
+    let letters = map (λ p. of_type (base p)) primitives in
+    let arrays = map (λ p. of_type (array_of (base p))) primitives in
+    let classes = map (λ c. of_type (class (ascii c))) fixed_classes in
+    get_or (letters ++ (arrays ++ classes)) k void
 
 -- A text of r bytes was written into an area S from a place on, what stands past the end left out.
 pub record PutSized (text : List ℕ) (at r : ℕ) (S S' : List ℕ) : Type 0 where

@@ -10,3 +10,4 @@ kind_number kind.FileFacade = 2
 kind_number kind.SyntheticClass = 3
 kind_number kind.MultiFileClassFacade = 4
 kind_number kind.MultiFileClassPart = 5
+kind_number (kind.Other n) = n

@@ -1,5 +1,6 @@
 use native.Mathlib.Omega.{arith}
 use Rattle.schema.specs.told.SchemaTold.{entries_in}
+use Rattle.sheet.proofs.WriteLaws.{put-over}
 use Rattle.schema.proofs.AlikeLaws.{deepest_itself}
 use Rattle.joined_types.specs.told.Fates.{joined_levels}
 use Rattle.joined_types.proofs.EntriesLaws.{entries_start, entries_done, entry_none, entry_joined}
@@ -15,7 +16,8 @@ pub loop-i-preserved-in_default-entry_at : goal.loop-i-preserved-in_default-entr
 loop-i-preserved-in_default-entry_at c = entry_none c.loop-i.invariant c.entry_at.ensures c.in_default-entry_at.is (omega (arith, c.in-Ok.ensures.1, c.loop-i-test.true))
 
 pub returns-then-entry-last : goal.returns-then-entry-last
-returns-then-entry-last c = rw c.copy_from_slice.ensures.after (deepest_itself c.args.context.now.payload.now _ _)
+returns-then-entry-last c =
+    rw (c.put_all.ensures, put-over c.args.context.now.payload.now c.loop-i.deepest c.loop-i.invariant.many) (deepest_itself c.args.context.now.payload.now _ _)
 
 pub loop-i-preserved : goal.loop-i-preserved
 loop-i-preserved c = entry_joined c.loop-i.invariant c.entry_at.ensures c.in-Some.is c.if-entry-last.false joined_levels c.join_type.new.s c.join_type.ensures

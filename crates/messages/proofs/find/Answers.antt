@@ -8,7 +8,7 @@ use Rattle.messages.proofs.find.Goals as goal
 pub loop-read-init : goal.loop-read-init
 loop-read-init c =
     let a = c.args in
-    walks-start c.into_iter-read-iterator.ensures.into_iter_gives c.fields_from-read-items.ensures (Occur a.number a.s.base a.s.bytes.now) (find-start a.number a.s.base a.s.bytes.now)
+    walks-start c.into_iter-read-iterator.ensures.into_iter_gives c.fields_from-read-items.ensures (Occur a.number a.s.base a.s.bytes.now 0) (find-start a.number a.s.base a.s.bytes.now 0)
 
 pub returns-in_default : goal.returns-in_default
 returns-in_default c =

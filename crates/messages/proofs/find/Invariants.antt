@@ -4,4 +4,4 @@ use Rattle.messages.proofs.FindLaws.{Occur}
 use Rattle.messages.proofs.find.Given as goal
 
 abbrev pub invariant-loop-read : goal.invariant-loop-read
-invariant-loop-read l = Walks l.read-iterator l.s.base l.s.bytes.now (l.number ∷ []) × Occur l.number l.s.base l.s.bytes.now l.read-iterator.at
+invariant-loop-read l = Walks l.read-iterator l.s.base l.s.bytes.now (l.number ∷ []) × Occur l.number l.s.base l.s.bytes.now 0 l.read-iterator.at

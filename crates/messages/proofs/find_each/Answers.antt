@@ -5,7 +5,7 @@ use Rattle.std.specs.Prelude.{Option, None}
 use Rattle.std.proofs.lemmas.List.{get_or-replicate}
 use Rattle.wire.specs.declared.WireValue.{WireValue}
 use Rattle.wire.proofs.FieldsLaws.{walks-start, walks-next}
-use Rattle.messages.proofs.SeenLaws.{SeenBefore, seen_start}
+use Rattle.messages.proofs.SeenLaws.{SeenBefore, seen_start, seen-found}
 use Rattle.messages.proofs.SkippedLaws.{seen-over, seen-never, seen-next}
 use Rattle.messages.proofs.find_each.Goals as goal
 
@@ -28,7 +28,7 @@ loop-read-preserved g c =
     let a = c.args in
     let l = c.loop-read in
     let n = walks-next l.invariant.0 c.in-Some.ensures.steps in
-    (n.1, λ i h. seen-next a.s.base a.s.bytes.now a.numbers i (omega arith) n.0 c.in-Ok.is (get_or l.found i None) (l.invariant.1 i h) (c.keep_first.ensures i h))
+    (n.1, λ i h. seen-next a.s.base a.s.bytes.now a.numbers i (omega arith) n.0 c.in-Ok.is (get_or l.found i None) (l.invariant.1 i h) (c.keep_first-more.ensures.0 i h))
 
 pub returns-in-None : goal.returns-in-None
 returns-in-None g c =
@@ -36,3 +36,12 @@ returns-in-None g c =
     let l = c.loop-read in
     let n = walks-next l.invariant.0 c.in-None.ensures.steps in
     λ i h. seen-over a.s.base a.s.bytes.now a.numbers i (omega arith) n.0 (get_or l.found i None) (l.invariant.1 i h)
+
+pub returns-then-all_found : goal.returns-then-all_found
+returns-then-all_found g c =
+    let a = c.args in
+    let l = c.loop-read in
+    let n = walks-next l.invariant.0 c.in-Some.ensures.steps in
+    λ i h.
+    let t = seen-next a.s.base a.s.bytes.now a.numbers i (omega arith) n.0 c.in-Ok.is (get_or l.found i None) (l.invariant.1 i h) (c.keep_first-more.ensures.0 i h) in
+    seen-found (get_or a.numbers i 0) a.s.base a.s.bytes.now _ _ (c.all_found.ensures c.if-all_found.true i h) t

@@ -6,9 +6,9 @@ use Rattle.std.specs.declared.option.Option as rust
 use Rattle.foundation.specs.Choices.{if_some}
 use Rattle.foundation.specs.declared.Span.{Span}
 use Rattle.foundation.specs.Results.{Res, ok, Part, ◌from◌}
-use Rattle.wire.specs.Wire.{Value, Message, cut}
+use Rattle.wire.specs.Wire.{Value, read_field, Message, cut}
 use Rattle.wire.specs.Messages.{values, value, as32, bytes_of, message, bodies_of}
-use Rattle.wire.specs.told.WireTold.{wire_refused, rest_of, value_of, part_between, Inside, value_number, piece_of}
+use Rattle.wire.specs.told.WireTold.{wire_refused, rest_of, value_of, part_between, Inside, FieldTold, value_number, piece_of}
 use Rattle.wire.specs.declared.WireError.{WireError}
 use Rattle.wire.specs.declared.WireValue.{WireValue}
 
@@ -33,6 +33,17 @@ FoundInside s None = Unit {0}
 pub record FoundTold (base : ℕ) (s : List ℕ) (n : ℕ) (r : rust.Option WireValue) : Type 0 where
   pub is : (m : Message) → cut (◌from◌ base s) ≡ ok m → value n m ≡ found_told base s r
   pub inside : FoundInside s r
+
+-- the same from a place on
+pub record FoundFrom (base : ℕ) (s : List ℕ) (n at : ℕ) (r : rust.Option WireValue) : Type 0 where
+  pub is : (m : Message) → cut (rest_of base s at) ≡ ok m → value n m ≡ found_told base s r
+  pub inside : FoundInside s r
+
+-- a value that was found is that of the field at a place
+abbrev pub FoundAt : List ℕ → ℕ → ℕ → rust.Option WireValue → Type 0
+FoundAt s n at (Some v) =
+    (at < length s) × (next : ℕ) × ((base : ℕ) → FieldTold base s (read_field (rest_of base s at)) (Ok (record { value = record { number = n; value = v }; next = next })))
+FoundAt s n at None = Unit {0}
 
 -- what was found of field k before a field with the number n and the value v, or, of field k itself, that value
 abbrev pub found_or : rust.Option WireValue → ℕ → ℕ → WireValue → rust.Option WireValue

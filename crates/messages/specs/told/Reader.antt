@@ -16,6 +16,11 @@ after_delimited at (Err error) = at
 abbrev pub DelimitedRead : List ℕ → ℕ → Result Span WireError → ℕ → Type 0
 DelimitedRead s at r at' = (at' ≡ after_delimited at r) × DelimitedAt 0 s at r
 
+-- a payload's parts, by the answer to its name table and the place after it
+abbrev pub parts_of : Result Span WireError → ℕ → Result Parts WireError
+parts_of (Ok x) rest = Ok (record { table = x; rest = rest })
+parts_of (Err error) rest = Err error
+
 abbrev pub SplitTold : List ℕ → Res (Got Part) → Result Parts WireError → Type 0
 SplitTold s r (Ok p) =
     (r ≡ got (part_between 0 s p.table.start p.table.end) (rest_of 0 s p.rest)) × (0 < p.table.start) × (p.table.start ≤ p.table.end)

@@ -25,6 +25,10 @@ source_text payload d2 Payload p = from_utf8 (part_from p.start p.end payload)
 source_text payload d2 Predefined p = from_utf8 (part_from p.start p.end predefined_list)
 source_text payload d2 D2 p = from_utf16 (part_from p.start p.end d2)
 
+-- A source by its number. Of a name whose number is neither 1, 2 nor 3 there is none: it is absent.
+abbrev pub source_numbered : ℕ → rust.Option Source
+source_numbered n = if eqb n 1 then Some Payload else if eqb n 2 then Some Predefined else if eqb n 3 then Some D2 else None
+
 -- is it made of bytes, not of units?
 abbrev pub OfBytes : Source → Type 0
 OfBytes Payload = Unit {0}

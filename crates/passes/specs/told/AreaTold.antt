@@ -59,9 +59,11 @@ WrittenOut kind r S S' T T' =
     → (S' ≡ sheet_from 0 (declaration_rows kind d) ++ drop (length (sheet_from 0 (declaration_rows kind d))) S)
     × (T' ≡ texts (declaration_rows kind d) ++ drop (length (texts (declaration_rows kind d))) T)
 
--- Both areas before and after: they are the same two, and what stands in them changes.
+-- Both areas before and after: they are the same two, each as long as before, and what stands in them changes.
 abbrev pub AreasKept : AreaPair → AreaPair → Type 0
-AreasKept a a' = (a'.sheet.ghost_name ≡ a.sheet.ghost_name) × (a'.text.ghost_name ≡ a.text.ghost_name)
+AreasKept a a' =
+    (a'.sheet.ghost_name ≡ a.sheet.ghost_name) × (a'.text.ghost_name ≡ a.text.ghost_name)
+    × (length a'.sheet.now ≡ length a.sheet.now) × (length a'.text.now ≡ length a.text.now)
 
 -- What is told of what stands in both before and after.
 abbrev pub OnAreas : ((S S' T T' : List ℕ) → Type 0) → AreaPair → AreaPair → Type 0

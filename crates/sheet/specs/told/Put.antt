@@ -23,9 +23,11 @@ PutHead k cs b s s' S S' T T' = Put (k ∷ body_bytes s.text cs) (body_text cs) 
 abbrev pub PutRows : List Row → ℕ → State → State → List ℕ → List ℕ → List ℕ → List ℕ → Type 0
 PutRows rs b s s' S S' T T' = Put (sheet_from s.text rs) (texts rs) b s s' S S' T T'
 
--- The same of an Output before and after. It keeps the caller's two areas, and what stands in them changes.
+-- The same of an Output before and after. It keeps the caller's two areas and their lengths, and what stands in them changes.
 abbrev pub SameAreas : Output → Output → Type 0
-SameAreas o o' = (o'.sheet.ghost_name ≡ o.sheet.ghost_name) × (o'.text.ghost_name ≡ o.text.ghost_name)
+SameAreas o o' =
+    (o'.sheet.ghost_name ≡ o.sheet.ghost_name) × (o'.text.ghost_name ≡ o.text.ghost_name)
+    × (length o'.sheet.now ≡ length o.sheet.now) × (length o'.text.now ≡ length o.text.now)
 
 abbrev pub WroteCells : List Cell → ℕ → Output → Output → Type 0
 WroteCells cs b o o' = PutCells cs b o.state o'.state o.sheet.now o'.sheet.now o.text.now o'.text.now

@@ -113,6 +113,16 @@ pub record ShortRead (s : List ℕ) (at : ℕ) (x : Read ℕ) : Type 0 where
   pub small : x.value < 2 ^ 14
   pub is : (base : ℕ) → read_varint (rest_of base s at) ≡ got x.value (rest_of base s x.next)
 
+-- At a place stand a tag and after it a varint, so read.
+pub record ShortPair (s : List ℕ) (at : ℕ) (tag first : Read ℕ) : Type 0 where
+  pub later : at < tag.next
+  pub ends : tag.next < first.next
+  pub inside : first.next ≤ length s
+  pub small : tag.value < 2 ^ 14
+  pub first_small : first.value < 2 ^ 14
+  pub is-tag : (base : ℕ) → read_varint (rest_of base s at) ≡ got tag.value (rest_of base s tag.next)
+  pub is-first : (base : ℕ) → read_varint (rest_of base s tag.next) ≡ got first.value (rest_of base s first.next)
+
 -- no such varint says nothing
 abbrev pub ShortTold : List ℕ → ℕ → Option (Read ℕ) → Type 0
 ShortTold s at (Some x) = ShortRead s at x

@@ -13,4 +13,4 @@ pub returns-then-size-gt36-clause-means : goal.returns-then-size-gt36-clause-mea
 returns-then-size-gt36-clause-means c = means-long (name_bytes c.args.context.now.payload.now c.args.context.now.d2.now (Some c.args.name) true) c.put_name-size.ensures c.if-size-gt36.true
 
 pub returns-clause-means : goal.returns-clause-means
-returns-clause-means c = means-short (name_bytes c.args.context.now.payload.now c.args.context.now.d2.now (Some c.args.name) true) c.put_name-size.ensures refl c.if-size-gt36.false c.meaning_of.result c.meaning_of.ensures
+returns-clause-means c = means-short (name_bytes c.args.context.now.payload.now c.args.context.now.d2.now (Some c.args.name) true) c.put_name-size.ensures refl c.if-size-gt36.false c.meaning_of.result c.meaning_of.ensures.means

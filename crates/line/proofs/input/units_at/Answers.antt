@@ -1,5 +1,5 @@
 use Rattle.std.proofs.Common.{rules, ◌∙◌}
-use Rattle.line.proofs.InputLaws.{numbers-step, number-whole}
+use Rattle.line.proofs.InputLaws.{numbers-placed, number-whole}
 use Rattle.line.proofs.input.units_at.Goals as goal
 
 pub loop-i-preserved : goal.loop-i-preserved
@@ -7,4 +7,4 @@ loop-i-preserved c =
     let a = c.args in
     let s = c.loop-i in
     let x = c.two_in.ensures.0 ∙ number-whole 2 a.bytes.now _ in
-    (search rules, numbers-step 2 a.bytes.now _ s.units a.at s.i _ _ c.loop-i-test.true x s.invariant.1)
+    (search rules, numbers-placed 2 a.bytes.now _ s.units a.at s.i _ _ c.loop-i-test.true x s.invariant.1)

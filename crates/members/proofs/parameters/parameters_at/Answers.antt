@@ -1,5 +1,6 @@
-use mathlib.Core.Path.{refl, ap, ◌∙◌}
+use mathlib.Core.Path.{refl, ap}
 use Prim.Native.Nat.{ℕ, ◌-◌}
+use Rattle.sheet.proofs.PutLaws.{areas_then}
 use Rattle.declaration_rows.specs.Rows.{parameter_rows}
 use Rattle.messages.proofs.BodiesLaws.{goes-start, goes-next, goes-to}
 use Rattle.schema.specs.told.SchemaTold.{lent}
@@ -15,10 +16,10 @@ pub loop-parameter-init : goal.loop-parameter-init
 loop-parameter-init c =
     let a = c.args in
     let g = goes-start c.into_iter-parameter-iterator.ensures.into_iter_gives c.bodies_from-parameter-items.ensures (λ (at : ℕ). Looping read_always parameter_rows parameter_cost (lent a.context.now) a.msg.bytes.now a.msg.base a.number a.out.now.state a.out.now.sheet.now a.out.now.text.now at 0 a.out.now.state a.out.now.sheet.now a.out.now.text.now) loop-start in
-    (g.0, g.1, (refl, refl))
+    (g.0, g.1, (refl, refl, refl, refl))
 
 pub loop-parameter-preserved : goal.loop-parameter-preserved
-loop-parameter-preserved c = ((goes-next c.loop-parameter.invariant.0 c.in-Some.ensures.steps).1, rw (goes-to c.loop-parameter.invariant.0 c.in-Some.ensures.steps refl) (loop-kept c.loop-parameter.invariant.1 (goes-next c.loop-parameter.invariant.0 c.in-Some.ensures.steps).0 refl (unit_cheap parameter_cost (c.in-Some.parameter.end - c.in-Some.parameter.start)) (never_skipped (rw (c.part.ensures.0, c.part.ensures.1) at c.parameter_in.ensures.written)) (ap picked_of (walked_ok c.parameter_in.new.out c.in_ok-parameter_in.was))), (c.parameter_in.ensures.same_areas.0 ∙ c.loop-parameter.invariant.2.0, c.parameter_in.ensures.same_areas.1 ∙ c.loop-parameter.invariant.2.1))
+loop-parameter-preserved c = ((goes-next c.loop-parameter.invariant.0 c.in-Some.ensures.steps).1, rw (goes-to c.loop-parameter.invariant.0 c.in-Some.ensures.steps refl) (loop-kept c.loop-parameter.invariant.1 (goes-next c.loop-parameter.invariant.0 c.in-Some.ensures.steps).0 refl (unit_cheap parameter_cost (c.in-Some.parameter.end - c.in-Some.parameter.start)) (never_skipped (rw (c.part.ensures.0, c.part.ensures.1) at c.parameter_in.ensures.written)) (ap picked_of (walked_ok c.parameter_in.new.out c.in_ok-parameter_in.was))), areas_then c.args.out.now c.loop-parameter.out c.parameter_in.new.out c.loop-parameter.invariant.2 c.parameter_in.ensures.same_areas)
 
 pub returns-in_err-parameter_in-clause-written : goal.returns-in_err-parameter_in-clause-written
 returns-in_err-parameter_in-clause-written c = rw (handed_on _ c.from_residual.ensures.1) (all_read (loop-refused c.loop-parameter.invariant.1 (goes-next c.loop-parameter.invariant.0 c.in-Some.ensures.steps).0 refl (unit_cheap parameter_cost (c.in-Some.parameter.end - c.in-Some.parameter.start)) (never_skipped (rw (c.part.ensures.0, c.part.ensures.1) at c.parameter_in.ensures.written)) (ap picked_of (walked_err c.parameter_in.new.out c.in_err-parameter_in.was))))

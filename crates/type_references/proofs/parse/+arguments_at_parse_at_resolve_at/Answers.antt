@@ -4,6 +4,7 @@ use mathlib.Core.Path.{refl, ap, sym, subst, ◌∙◌}
 use Rattle.std.specs.declared.result.Result.TheVariants.{Ok}
 use Rattle.schema.specs.told.TypesTold.{picked_of}
 use Rattle.schema.specs.told.WroteTold.{walked}
+use Rattle.sheet.proofs.PutLaws.{areas_then}
 use Rattle.foundation.proofs.ErrorLaws.{handed_on}
 use Rattle.schema.proofs.WroteLaws.{walked_ok, walked_err}
 use Rattle.type_references.proofs.OptionalLaws.{looked, walked_optional}
@@ -20,7 +21,7 @@ use Rattle.type_references.proofs.CycleLaws.{falls-arguments, falls-look_up, fal
 use Rattle.type_references.proofs.parse.+arguments_at_parse_at_resolve_at.Goals as goal
 
 pub arguments_at-loop-part-init : goal.arguments_at-loop-part-init
-arguments_at-loop-part-init t c = (loop-start c.requires.2, refl, (refl, refl))
+arguments_at-loop-part-init t c = (loop-start c.requires.2, refl, (refl, refl, refl, refl))
 
 pub arguments_at-returns-then-height-eq0-clause-written : goal.arguments_at-returns-then-height-eq0-clause-written
 arguments_at-returns-then-height-eq0-clause-written t c = loop-end c.loop-part.invariant.0 (next-before c.args.msg.bytes.now c.loop-part.end c.part-before.ensures c.next_body.ensures) c.in_default.is c.if-height-eq0.true
@@ -38,7 +39,7 @@ pub arguments_at-returns-in_err-enter_star-in-Star-clause-written : goal.argumen
 arguments_at-returns-in_err-enter_star-in-Star-clause-written t c = rw (handed_on _ c.from_residual-in_err-enter_star-in-Star.ensures.1) (loop-unstarred c.loop-part.invariant.0 (next-before c.args.msg.bytes.now c.loop-part.end c.part-before.ensures c.next_body.ensures) c.in-Some.is c.argument_at.ensures (c.in_ok-argument_at.was ∙ ap Ok c.in-Star.is) c.enter_star.ensures.written (walked_err c.enter_star.new.out c.in_err-enter_star-in-Star.was))
 
 pub arguments_at-loop-part-preserved-in-Continue-branch-3 : goal.arguments_at-loop-part-preserved-in-Continue-branch-3
-arguments_at-loop-part-preserved-in-Continue-branch-3 t c = (loop-starred c.loop-part.invariant.0 (next-before c.args.msg.bytes.now c.loop-part.end c.part-before.ensures c.next_body.ensures) c.in-Some.is c.argument_at.ensures (c.in_ok-argument_at.was ∙ ap Ok c.in-Star.is) c.enter_star.ensures.written (walked_ok c.enter_star.new.out c.in_ok-enter_star-in-Star.was), c.loop-part.invariant.1, (c.enter_star.ensures.same_areas.0 ∙ c.loop-part.invariant.2.0, c.enter_star.ensures.same_areas.1 ∙ c.loop-part.invariant.2.1))
+arguments_at-loop-part-preserved-in-Continue-branch-3 t c = (loop-starred c.loop-part.invariant.0 (next-before c.args.msg.bytes.now c.loop-part.end c.part-before.ensures c.next_body.ensures) c.in-Some.is c.argument_at.ensures (c.in_ok-argument_at.was ∙ ap Ok c.in-Star.is) c.enter_star.ensures.written (walked_ok c.enter_star.new.out c.in_ok-enter_star-in-Star.was), c.loop-part.invariant.1, areas_then c.args.out.now c.loop-part.out c.enter_star.new.out c.loop-part.invariant.2 c.enter_star.ensures.same_areas)
 
 pub arguments_at-slice_bounds-parse_at-count : goal.arguments_at-slice_bounds-parse_at-count
 arguments_at-slice_bounds-parse_at-count t c = loop-height c.loop-part.invariant.0 (subst (λ (n : ℕ). WaitingRoom c.args.context.now.tables c.args.out.now.state.types (length c.args.msg.bytes.now) n) (sym c.loop-part.invariant.1) c.requires.0.room)
@@ -53,7 +54,7 @@ pub arguments_at-loop-part-smaller-then-deep-eq1 : goal.arguments_at-loop-part-s
 arguments_at-loop-part-smaller-then-deep-eq1 t c = passed-falls c.loop-part.invariant.0 (next-before c.args.msg.bytes.now c.loop-part.end c.part-before.ensures c.next_body.ensures) c.in-Some.is _ (waits_kept c.loop-part.invariant.0 (subst (λ (n : ℕ). WaitingRoom c.args.context.now.tables c.args.out.now.state.types (length c.args.msg.bytes.now) n) (sym c.loop-part.invariant.1) c.requires.0.room) c.parse_at.new.nest)
 
 pub arguments_at-loop-part-preserved-then-deep-eq1 : goal.arguments_at-loop-part-preserved-then-deep-eq1
-arguments_at-loop-part-preserved-then-deep-eq1 t c = (loop-last c.loop-part.invariant.0 (next-before c.args.msg.bytes.now c.loop-part.end c.part-before.ensures c.next_body.ensures) c.in-Some.is c.argument_at.ensures (c.in_ok-argument_at.was ∙ ap Ok c.in-Inline.is) c.if-deep-eq1.true (rw (c.part-inner.ensures.0, c.part-inner.ensures.1, c.requires.1, c.inline-place.ensures) at c.parse_at.ensures.written) _ (waits_kept c.loop-part.invariant.0 (subst (λ (n : ℕ). WaitingRoom c.args.context.now.tables c.args.out.now.state.types (length c.args.msg.bytes.now) n) (sym c.loop-part.invariant.1) c.requires.0.room) c.parse_at.new.nest) (walked_ok c.parse_at.new.out c.in_ok-parse_at-in-Inline.was), lent_length c.loop-part.invariant.0 c.parse_at.new.nest c.parse_at.auto.nest ∙ c.loop-part.invariant.1, (c.parse_at.ensures.same_areas.0 ∙ c.loop-part.invariant.2.0, c.parse_at.ensures.same_areas.1 ∙ c.loop-part.invariant.2.1))
+arguments_at-loop-part-preserved-then-deep-eq1 t c = (loop-last c.loop-part.invariant.0 (next-before c.args.msg.bytes.now c.loop-part.end c.part-before.ensures c.next_body.ensures) c.in-Some.is c.argument_at.ensures (c.in_ok-argument_at.was ∙ ap Ok c.in-Inline.is) c.if-deep-eq1.true (rw (c.part-inner.ensures.0, c.part-inner.ensures.1, c.requires.1, c.inline-place.ensures) at c.parse_at.ensures.written) _ (waits_kept c.loop-part.invariant.0 (subst (λ (n : ℕ). WaitingRoom c.args.context.now.tables c.args.out.now.state.types (length c.args.msg.bytes.now) n) (sym c.loop-part.invariant.1) c.requires.0.room) c.parse_at.new.nest) (walked_ok c.parse_at.new.out c.in_ok-parse_at-in-Inline.was), lent_length c.loop-part.invariant.0 c.parse_at.new.nest c.parse_at.auto.nest ∙ c.loop-part.invariant.1, areas_then c.args.out.now c.loop-part.out c.parse_at.new.out c.loop-part.invariant.2 c.parse_at.ensures.same_areas)
 
 pub arguments_at-returns-in_err-parse_at-in-Inline-clause-written : goal.arguments_at-returns-in_err-parse_at-in-Inline-clause-written
 arguments_at-returns-in_err-parse_at-in-Inline-clause-written t c = rw (handed_on _ c.from_residual-in_err-parse_at-in-Inline.ensures.1) (loop-last c.loop-part.invariant.0 (next-before c.args.msg.bytes.now c.loop-part.end c.part-before.ensures c.next_body.ensures) c.in-Some.is c.argument_at.ensures (c.in_ok-argument_at.was ∙ ap Ok c.in-Inline.is) c.if-deep-eq1.true (rw (c.part-inner.ensures.0, c.part-inner.ensures.1, c.requires.1, c.inline-place.ensures) at c.parse_at.ensures.written) c.loop-part.nest refl (walked_err c.parse_at.new.out c.in_err-parse_at-in-Inline.was))
@@ -68,7 +69,7 @@ pub arguments_at-loop-part-smaller-in-Inline : goal.arguments_at-loop-part-small
 arguments_at-loop-part-smaller-in-Inline t c = entered-falls c.loop-part.invariant.0 (next-before c.args.msg.bytes.now c.loop-part.end c.part-before.ensures c.next_body.ensures) c.in-Some.is c.argument_at.ensures (c.in_ok-argument_at.was ∙ ap Ok c.in-Inline.is) (rw (c.part.ensures.0, c.part.ensures.1, c.inline-place.ensures) at c.enter_type.ensures.written) (walked_ok c.enter_type.new.out c.in_ok-enter_type-in-Inline.was) (push-room c.loop-part.invariant.0 (next-before c.args.msg.bytes.now c.loop-part.end c.part-before.ensures c.next_body.ensures) c.in-Some.is c.argument_at.ensures (c.in_ok-argument_at.was ∙ ap Ok c.in-Inline.is) (rw (c.part.ensures.0, c.part.ensures.1, c.inline-place.ensures) at c.enter_type.ensures.written) (walked_ok c.enter_type.new.out c.in_ok-enter_type-in-Inline.was) (subst (λ (n : ℕ). WaitingRoom c.args.context.now.tables c.args.out.now.state.types (length c.args.msg.bytes.now) n) (sym c.loop-part.invariant.1) c.requires.0.room)) (ap (set c.loop-part.nest c.loop-part.height) c.of.ensures)
 
 pub arguments_at-loop-part-preserved-in-Inline : goal.arguments_at-loop-part-preserved-in-Inline
-arguments_at-loop-part-preserved-in-Inline t c = (loop-entered c.loop-part.invariant.0 (next-before c.args.msg.bytes.now c.loop-part.end c.part-before.ensures c.next_body.ensures) c.in-Some.is c.argument_at.ensures (c.in_ok-argument_at.was ∙ ap Ok c.in-Inline.is) (rw (c.part.ensures.0, c.part.ensures.1, c.inline-place.ensures) at c.enter_type.ensures.written) (walked_ok c.enter_type.new.out c.in_ok-enter_type-in-Inline.was) (push-room c.loop-part.invariant.0 (next-before c.args.msg.bytes.now c.loop-part.end c.part-before.ensures c.next_body.ensures) c.in-Some.is c.argument_at.ensures (c.in_ok-argument_at.was ∙ ap Ok c.in-Inline.is) (rw (c.part.ensures.0, c.part.ensures.1, c.inline-place.ensures) at c.enter_type.ensures.written) (walked_ok c.enter_type.new.out c.in_ok-enter_type-in-Inline.was) (subst (λ (n : ℕ). WaitingRoom c.args.context.now.tables c.args.out.now.state.types (length c.args.msg.bytes.now) n) (sym c.loop-part.invariant.1) c.requires.0.room)) (ap (set c.loop-part.nest c.loop-part.height) c.of.ensures) c.saturating_sub-deep.ensures, length-set c.loop-part.nest c.loop-part.height c.of.result ∙ c.loop-part.invariant.1, (c.enter_type.ensures.same_areas.0 ∙ c.loop-part.invariant.2.0, c.enter_type.ensures.same_areas.1 ∙ c.loop-part.invariant.2.1))
+arguments_at-loop-part-preserved-in-Inline t c = (loop-entered c.loop-part.invariant.0 (next-before c.args.msg.bytes.now c.loop-part.end c.part-before.ensures c.next_body.ensures) c.in-Some.is c.argument_at.ensures (c.in_ok-argument_at.was ∙ ap Ok c.in-Inline.is) (rw (c.part.ensures.0, c.part.ensures.1, c.inline-place.ensures) at c.enter_type.ensures.written) (walked_ok c.enter_type.new.out c.in_ok-enter_type-in-Inline.was) (push-room c.loop-part.invariant.0 (next-before c.args.msg.bytes.now c.loop-part.end c.part-before.ensures c.next_body.ensures) c.in-Some.is c.argument_at.ensures (c.in_ok-argument_at.was ∙ ap Ok c.in-Inline.is) (rw (c.part.ensures.0, c.part.ensures.1, c.inline-place.ensures) at c.enter_type.ensures.written) (walked_ok c.enter_type.new.out c.in_ok-enter_type-in-Inline.was) (subst (λ (n : ℕ). WaitingRoom c.args.context.now.tables c.args.out.now.state.types (length c.args.msg.bytes.now) n) (sym c.loop-part.invariant.1) c.requires.0.room)) (ap (set c.loop-part.nest c.loop-part.height) c.of.ensures) c.saturating_sub-deep.ensures, length-set c.loop-part.nest c.loop-part.height c.of.result ∙ c.loop-part.invariant.1, areas_then c.args.out.now c.loop-part.out c.enter_type.new.out c.loop-part.invariant.2 c.enter_type.ensures.same_areas)
 
 pub arguments_at-slice_bounds-resolve_at-count : goal.arguments_at-slice_bounds-resolve_at-count
 arguments_at-slice_bounds-resolve_at-count t c = loop-height c.loop-part.invariant.0 (subst (λ (n : ℕ). WaitingRoom c.args.context.now.tables c.args.out.now.state.types (length c.args.msg.bytes.now) n) (sym c.loop-part.invariant.1) c.requires.0.room)
@@ -83,7 +84,7 @@ pub arguments_at-loop-part-smaller-in-Continue-branch-6 : goal.arguments_at-loop
 arguments_at-loop-part-smaller-in-Continue-branch-6 t c = passed-falls c.loop-part.invariant.0 (next-before c.args.msg.bytes.now c.loop-part.end c.part-before.ensures c.next_body.ensures) c.in-Some.is _ (waits_kept c.loop-part.invariant.0 (subst (λ (n : ℕ). WaitingRoom c.args.context.now.tables c.args.out.now.state.types (length c.args.msg.bytes.now) n) (sym c.loop-part.invariant.1) c.requires.0.room) c.resolve_at.new.nest)
 
 pub arguments_at-loop-part-preserved-in-Continue-branch-6 : goal.arguments_at-loop-part-preserved-in-Continue-branch-6
-arguments_at-loop-part-preserved-in-Continue-branch-6 t c = (loop-resolved c.loop-part.invariant.0 (next-before c.args.msg.bytes.now c.loop-part.end c.part-before.ensures c.next_body.ensures) c.in-Some.is c.argument_at.ensures (c.in_ok-argument_at.was ∙ ap Ok c.in-ByIndex.is) (rw c.argument-shown.ensures at c.resolve_at.ensures.written) _ (waits_kept c.loop-part.invariant.0 (subst (λ (n : ℕ). WaitingRoom c.args.context.now.tables c.args.out.now.state.types (length c.args.msg.bytes.now) n) (sym c.loop-part.invariant.1) c.requires.0.room) c.resolve_at.new.nest) (walked_ok c.resolve_at.new.out c.in_ok-resolve_at-in-ByIndex.was), lent_length c.loop-part.invariant.0 c.resolve_at.new.nest c.resolve_at.auto.nest ∙ c.loop-part.invariant.1, (c.resolve_at.ensures.same_areas.0 ∙ c.loop-part.invariant.2.0, c.resolve_at.ensures.same_areas.1 ∙ c.loop-part.invariant.2.1))
+arguments_at-loop-part-preserved-in-Continue-branch-6 t c = (loop-resolved c.loop-part.invariant.0 (next-before c.args.msg.bytes.now c.loop-part.end c.part-before.ensures c.next_body.ensures) c.in-Some.is c.argument_at.ensures (c.in_ok-argument_at.was ∙ ap Ok c.in-ByIndex.is) (rw c.argument-shown.ensures at c.resolve_at.ensures.written) _ (waits_kept c.loop-part.invariant.0 (subst (λ (n : ℕ). WaitingRoom c.args.context.now.tables c.args.out.now.state.types (length c.args.msg.bytes.now) n) (sym c.loop-part.invariant.1) c.requires.0.room) c.resolve_at.new.nest) (walked_ok c.resolve_at.new.out c.in_ok-resolve_at-in-ByIndex.was), lent_length c.loop-part.invariant.0 c.resolve_at.new.nest c.resolve_at.auto.nest ∙ c.loop-part.invariant.1, areas_then c.args.out.now c.loop-part.out c.resolve_at.new.out c.loop-part.invariant.2 c.resolve_at.ensures.same_areas)
 
 pub arguments_at-returns-in_err-resolve_at-in-ByIndex-clause-written : goal.arguments_at-returns-in_err-resolve_at-in-ByIndex-clause-written
 arguments_at-returns-in_err-resolve_at-in-ByIndex-clause-written t c = rw (handed_on _ c.from_residual-in_err-resolve_at-in-ByIndex.ensures.1) (loop-resolved c.loop-part.invariant.0 (next-before c.args.msg.bytes.now c.loop-part.end c.part-before.ensures c.next_body.ensures) c.in-Some.is c.argument_at.ensures (c.in_ok-argument_at.was ∙ ap Ok c.in-ByIndex.is) (rw c.argument-shown.ensures at c.resolve_at.ensures.written) c.loop-part.nest refl (walked_err c.resolve_at.new.out c.in_err-resolve_at-in-ByIndex.was))

@@ -3,7 +3,7 @@ use native.Mathlib.Omega.{arith}
 use lib.ListN.{length}
 use Rattle.std.proofs.Common.{rules}
 use Rattle.wire.specs.declared.Fields.{Fields}
-use Rattle.wire.proofs.SkipLaws.{skip_none, skip-field, skip-then, step-short}
+use Rattle.wire.proofs.SkipLaws.{skip_none, skip-short, skip-then, step-short}
 use Rattle.wire.proofs.WalkLaws.{field-inside}
 use Rattle.wire.proofs.FieldsIterator.next.Goals as goal
 
@@ -20,7 +20,7 @@ loop-read-preserved g c =
       still = c.loop-read.invariant.still;
       skips =
           skip-then i.s.bytes.now i.numbers c.loop-read.invariant.skips
-          (skip-field i.s.bytes.now i.numbers c.loop-read.at c.in-Some.ensures λ j h e. c.is_among.ensures c.if-is_among.false j (omega arith) (sym e));
+          (skip-short i.s.bytes.now i.numbers c.loop-read.at c.in-Some.ensures λ j h e. c.is_among.ensures c.if-is_among.false j (omega arith) (sym e));
     }
 
 pub returns-then-is_among-clause-steps : goal.returns-then-is_among-clause-steps
