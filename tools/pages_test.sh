@@ -2,6 +2,7 @@
 # The pages that tools make or hold to the crates. check_times.py: a small log, one of a gate that didn't pass, one without crates. trusted.py:
 # README as it is, and copies of the repository in which a definition rests on one file more, and in which README has one file fewer.
 # The lines of ./sheet that README shows. trace_files.py: TRACE as it is, with a name that is nowhere, with the file of another crate that defines the name, and with a file renamed.
+# wrong_answers.py --list: the table as it is, with other words than TRACE's, with a public function's second line gone, and with a line that does not fit.
 set -eu
 cd "$(dirname "$0")/.."
 here=$(mktemp -d)
@@ -108,4 +109,19 @@ traced 'there should be .*fields/specs/Fields.antt, schema'
 cp docs/TRACE.md "$here/traced/docs"
 mv "$here/traced/crates/encoding/specs/Encoding.antt" "$here/traced/crates/encoding/specs/Units.antt"
 traced 'there should be .*encoding/specs/Units.antt'
+
+python3 -B tools/wrong_answers.py --list > "$here/out" || { cat "$here/out"; failed=1; }
+mkdir "$here/listed"
+cp -r --parents docs/TRACE.md crates/*/src tools/wrong_answers.py tools/wrong_answers.tsv tools/proofs "$here/listed"
+listed() { # what is done to the table, words that must be said
+    sed -i "$1" "$here/listed/tools/wrong_answers.tsv"
+    if python3 -B "$here/listed/tools/wrong_answers.py" --list > "$here/out" 2>&1 || ! grep -q "$2" "$here/out"; then
+        echo "wrong_answers --list: not found, '$2'"
+        failed=1
+    fi
+    cp tools/wrong_answers.tsv "$here/listed/tools"
+}
+listed 's/\thalf of the area only$/\thalf/' 'foundation put: half of the area only: docs/TRACE.md names it, and no line has it'
+listed '/\twide\t.*\thalf of it$/d' 'foundation wide: it is public, and has fewer than two lines'
+listed 's/\tn as usize\t/\tn as u8\t/' 'foundation wide: half of it: its old text stands 0 times in the function'
 if [ "$failed" = 0 ]; then echo 'pages: ok'; else exit 1; fi

@@ -2,9 +2,11 @@
 """Tries the wrong answers of tools/wrong_answers.tsv: the prover must refuse each at what its function's contract asks.
 
 usage: tools/wrong_answers.py [--list] [NAME..]     NAME is a crate, or a module or function of it: messages, messages::reader, messages::find
-                                                    no name: all; --list: only tests that the edits fit the files
+                                                    no name: all; --list: only tests that the edits fit the files and, without a NAME, that each public
+                                                    function has two and each wrong answer that docs/TRACE.md names of a function is there
 
-A line of the table is one edit: crate, file, function, old text, new text, what is wrong, with tabs between. The old text stands once in the function.
+A line of the table is one edit: crate, file, function, old text, new text, what is wrong, with tabs between. The old text stands once in the function;
+where it or the new one goes over several lines, ⏎ stands for a line's end.
 The edits of a crate are tried in a copy of the repository by `rt check`, several at once, but never in two functions of which one leads to the other,
 since a caller is proved only above callees that are proved. Told for each: the goals that are not met. A proof by hand (Proof.antt) has no goals; it follows
 the code step by step, so that its refusal tells less and is counted apart. The status is 1 if an edit is proved, doesn't reach the prover, or is refused
@@ -23,6 +25,7 @@ sys.path.insert(0, str(ROOT / 'tools' / 'proofs'))
 import follow  # noqa: E402 (it stands in another folder)
 
 TABLE = ROOT / 'tools' / 'wrong_answers.tsv'
+TRACE = ROOT / 'docs' / 'TRACE.md'
 AT_GOAL, BY_HAND, WRONG = 'refused at a goal', 'refused in a proof by hand', 'not refused so'
 MISFIT = 'its proof no longer fits'
 FUNCTION = re.compile(r'^( *)(?:pub(?:\(crate\))? )?(?:extern "C" )?fn (\w+)', re.M)
@@ -42,7 +45,8 @@ LIMITED = 'refused only by a limit of the prover, which gave no verdict'
 
 class Edit:
     def __init__(self, line):
-        self.crate, self.file, self.function, self.old, self.new, self.words = line.split('\t')
+        self.crate, self.file, self.function, old, new, self.words = line.split('\t')
+        self.old, self.new = (text.replace('⏎', '\n') for text in (old, new))
 
     def is_in(self, name):
         return f'{self.crate}::{self.function}::'.startswith(name + '::')
@@ -53,6 +57,7 @@ class Function:
 
     def __init__(self, path, file, start, end, text):
         self.path, self.file, self.start, self.end = path, file, start, end
+        self.is_public = re.match(r' *pub (?:extern "C" )?fn ', text[start:]) is not None
         attributes = re.search(r'(?:^ *#\[[^\n]*\]\n)*\Z', text[:start], re.M)
         self.first, self.last = text.count('\n', 0, attributes.start()) + 1, text.count('\n', 0, end) + 2
         self.calls = set(re.findall(r'\b(\w+)\(', FUNCTION.sub('', text[start:end], count=1)))
@@ -102,6 +107,10 @@ def functions_of(crate):
     return found
 
 
+def functions_of_all():
+    return {folder.parent.name: functions_of(folder.parent.name) for folder in sorted((ROOT / 'crates').glob('*/src'))}
+
+
 def reached(functions):
     """For each function those that it leads to, by names: a name that several functions have stands for all of them."""
     by_name = {}
@@ -143,6 +152,38 @@ def misfit(edit, functions):
     if count != 1:
         return f'its old text stands {count} times in the function'
     return None if edit.old != edit.new else 'it changes nothing'
+
+
+def named(text):
+    """The wrong answers that TRACE's tables of functions name: crate, the functions of a row, what is wrong."""
+    crate = ''
+    for line in text.partition('\n## Public functions\n')[2].splitlines():
+        head = re.match(r'### (\w+)$', line)
+        crate = head[1] if head else crate
+        cells = [cell.strip() for cell in line.split(' | ')]
+        if line.startswith('| `') and len(cells) > 3 and cells[3] != '-':
+            conversion = re.search(r'`from` of `(\w+)`, of an? `(\w+)`', cells[0])
+            paths = [f'{conversion[1]}From{conversion[2]}::from'] if conversion else re.findall(r'`([\w:]+)`', cells[0])
+            yield from ((crate, paths, words.strip()) for words in cells[3].split(';'))
+
+
+# functions that begin a walk, and what gives the next of it
+WALKS = {'fields_from': 'FieldsIterator::next', 'bodies_from': 'BodiesIterator::next'}
+
+
+def missing(edits, functions):
+    """The wrong answers that TRACE names and the table lacks of one of the functions of a row, and public functions that it has fewer than two of. What a walk gives
+    next is wrong in its `next`, and TRACE names it at the function that begins the walk."""
+    there = {(edit.crate, edit.function, edit.words) for edit in edits}
+    planted = {}
+    for edit in edits:
+        planted.setdefault((edit.crate, edit.function), set()).add((edit.old, edit.new))
+    for crate, paths, words in named(TRACE.read_text()):
+        if not any((crate, path, words) in there for path in (*paths, *(WALKS[path] for path in paths if path in WALKS))):
+            yield f'{crate} {", ".join(paths)}: {words}: docs/TRACE.md names it, and no line has it'
+    for crate in functions:
+        few = (path for path, function in functions[crate].items() if function.is_public and len(planted.get((crate, path), ())) < 2)
+        yield from (f'{crate} {path}: it is public, and has fewer than two lines' for path in few)
 
 
 def restore(crate, sources):
@@ -274,9 +315,12 @@ def main(words):
         if why:
             print(f'! {edit.crate} {edit.function}: {edit.words}: {why}')
             wrong += 1
+    lacks = list(missing(edits, functions_of_all())) if only and not names else []
+    for line in lacks:
+        print(f'! {line}')
     if wrong or only:
-        print(f'{len(edits)} wrong answers, {wrong} do not fit')
-        return wrong > 0
+        print(f'{len(edits)} wrong answers, {wrong} do not fit' + (f', {len(lacks)} are missing' if lacks else ''))
+        return wrong + len(lacks) > 0
     count = {AT_GOAL: 0, BY_HAND: 0, WRONG: 0}
     with tempfile.TemporaryDirectory() as folder:
         copy = pathlib.Path(folder)
